@@ -1,0 +1,9 @@
+pub mod Basics
+pub mod Pieces
+pub mod Optional
+pub mod Classes
+pub mod Utf8
+pub mod Decimal
+pub mod Limits
+pub mod Pen
+pub mod Answers
