@@ -1,0 +1,37 @@
+-- What reading gives, and the reading of white space and of literal names (RFC 8259 2, 3).
+use Prim.Native.Nat.{ℕ}
+use Prim.Native.Char.{code}
+use mathlib.Core.Bool.{Bool}
+use mathlib.Core.List.{List, [], _∷_}
+use lib.Dec.{eqb}
+use Rattle.octets.specs.Basics.{pick, _or_}
+
+-- a reader takes the octets from its place on: it gives what it read with the octets behind it;
+-- or that a 33rd array or object is opened (01, number 6); or that this is no JSON (number 11)
+pub data Out (A : Type 0) : Type 0 where
+  ok : A → List ℕ → Out A
+  deep bad : Out A
+
+abbrev pub fmap : {A B : Type 0} → (A → B) → Out A → Out B
+fmap f (ok a s) = ok (f a) s
+fmap f deep = deep
+fmap f bad = bad
+
+abbrev pub then : {A B : Type 0} → Out A → (A → List ℕ → Out B) → Out B
+then (ok a s) k = k a s
+then deep k = deep
+then bad k = bad
+
+-- ws
+unfoldable pub isSpace : ℕ → Bool
+isSpace b = eqb b (code " ") or eqb b (code "\n") or eqb b (code "\r") or eqb b (code "\t")
+
+unfoldable pub skip : List ℕ → List ℕ
+skip [] = []
+skip (b ∷ s) = pick (isSpace b) (skip s) (b ∷ s)
+
+-- the octets behind a literal name
+unfoldable pub word : List ℕ → List ℕ → Out (Unit {0})
+word [] s = ok tt s
+word (w ∷ ws) [] = bad
+word (w ∷ ws) (b ∷ s) = pick (eqb b w) (word ws s) bad

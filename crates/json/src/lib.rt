@@ -1,0 +1,7 @@
+// JSON: a reader onto a tape, and strings written.
+pub enum Parsed {
+    Tape(usize),
+    TooDeep,
+    NotJson,
+    NoRoom,
+}
