@@ -1,0 +1,7 @@
+pub mod Gregorian
+pub mod Forms
+pub mod Dates
+pub mod Durations
+pub mod Recurrence
+pub mod Moments
+pub mod Rules

@@ -1,0 +1,4 @@
+// Dates, moments, durations and recurrence rules.
+pub mod dates;
+pub mod moments;
+pub mod rules;

@@ -1,0 +1,13 @@
+// The stop list: the moments of a recurrence rule, in a lent list of records.
+use calendar::moments::Moment;
+use octets::Refusal;
+
+pub struct Stop {
+    pub moment: Moment,
+}
+
+// How many stops were listed, or why none were.
+pub enum Listed {
+    Stops(usize),
+    Refused(Refusal),
+}
