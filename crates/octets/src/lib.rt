@@ -1,5 +1,9 @@
-// Octets: the limits of a conversion, refusals and answers.
-ghost use mathlib.Core.Path.{_≡_};
+// Octets: the limits of a conversion, refusals and answers, and the pen that writes into lent buffers.
+mod writing;
+
+pub use writing::put;
+pub use writing::put_all;
+pub use writing::zero;
 
 // A refusal; the definition `number` gives its number.
 pub enum Refusal {
