@@ -1,0 +1,5 @@
+pub mod Cases
+pub mod Positions
+pub mod Limits
+pub mod Pen
+pub mod Answers
