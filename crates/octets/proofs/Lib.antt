@@ -3,3 +3,4 @@ pub mod Positions
 pub mod Limits
 pub mod Pen
 pub mod Answers
+pub mod Classes

@@ -27,8 +27,8 @@ pub then : {p q r : Pen} {xs ys : List ℕ} → Wrote p xs q → Wrote q ys r �
 then {p} {q} {r} {xs} {ys} a b = record { is = b .is ∙ rw (a .is) (sym (wrote-append p xs ys)) }
 
 -- the same text under another name
-pub as-text : {p q : Pen} {xs ys : List ℕ} → xs ≡ ys → Wrote p xs q → Wrote p ys q
-as-text e w = rw (← e) w
+pub as-text : {p q : Pen} {xs ys : List ℕ} → Wrote p xs q → xs ≡ ys → Wrote p ys q
+as-text w e = rw (← e) w
 
 -- an octet where there is room, and where there is none
 pub one : (o : List ℕ) (at x : ℕ) → at < length o → Wrote (pen o at) (x ∷ []) (pen (set o at x) (at + 1))
@@ -144,18 +144,18 @@ pub leads-behind : {p q : Pen} {xs rest : List ℕ} → Wrote p xs q → Leads p
 leads-behind {p} {q} {xs} {rest} w = record { whole = rw (w .is) (sym (wrote-append p xs rest)) }
 
 -- a turn writes xs, and ys is left
-pub leads-on : {p q r : Pen} {all rest xs ys : List ℕ} → rest ≡ xs ++ ys → Leads p all q rest → Wrote q xs r → Leads p all r ys
-leads-on {p} {q} {r} {all} {rest} {xs} {ys} e k w =
+pub leads-on : {p q r : Pen} {all rest xs ys : List ℕ} → Leads p all q rest → Wrote q xs r → rest ≡ xs ++ ys → Leads p all r ys
+leads-on {p} {q} {r} {all} {rest} {xs} {ys} k w e =
     record { whole = rw (w .is) (sym (wrote-append q xs ys) ∙ ap (wrote q) (sym e) ∙ k .whole) }
 
 -- a turn writes nothing
-pub leads-same : {p q : Pen} {all rest ys : List ℕ} → rest ≡ ys → Leads p all q rest → Leads p all q ys
-leads-same e k = rw (← e) k
+pub leads-same : {p q : Pen} {all rest ys : List ℕ} → Leads p all q rest → rest ≡ ys → Leads p all q ys
+leads-same k e = rw (← e) k
 
 -- nothing is left
-pub leads-end : {p q : Pen} {all rest : List ℕ} → rest ≡ [] → Leads p all q rest → Wrote p all q
-leads-end {p} {q} {all} {rest} e k = record { is = unfold wrote in (rw e at (k .whole)) }
+pub leads-end : {p q : Pen} {all rest : List ℕ} → Leads p all q rest → rest ≡ [] → Wrote p all q
+leads-end {p} {q} {all} {rest} k e = record { is = unfold wrote in (rw e at (k .whole)) }
 
 -- the last part is written
-pub leads-last : {p q r : Pen} {all rest xs : List ℕ} → rest ≡ xs → Leads p all q rest → Wrote q xs r → Wrote p all r
-leads-last {p} {q} {r} {all} {rest} {xs} e k w = record { is = w .is ∙ ap (wrote q) (sym e) ∙ k .whole }
+pub leads-last : {p q r : Pen} {all rest xs : List ℕ} → Leads p all q rest → Wrote q xs r → rest ≡ xs → Wrote p all r
+leads-last {p} {q} {r} {all} {rest} {xs} k w e = record { is = w .is ∙ ap (wrote q) (sym e) ∙ k .whole }

@@ -7,3 +7,4 @@ pub mod Decimal
 pub mod Limits
 pub mod Pen
 pub mod Answers
+pub mod Groups

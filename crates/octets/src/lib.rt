@@ -1,7 +1,28 @@
 // Octets: the limits of a conversion, refusals and answers, and the pen that writes into lent buffers.
+mod names;
 mod settling;
 mod writing;
 
+pub use names::all_digits;
+pub use names::all_plain;
+pub use names::all_text;
+pub use names::hex_digit;
+pub use names::is_digit;
+pub use names::is_lower;
+pub use names::is_lower_name;
+pub use names::is_lower_name_octet;
+pub use names::is_name;
+pub use names::is_name_octet;
+pub use names::is_plain_octet;
+pub use names::is_text_octet;
+pub use names::is_upper;
+pub use names::lower_octet;
+pub use names::peek;
+pub use names::put_lower;
+pub use names::put_upper;
+pub use names::same;
+pub use names::same_name;
+pub use names::upper_octet;
 pub use settling::finish;
 pub use settling::refuse;
 pub use writing::put;

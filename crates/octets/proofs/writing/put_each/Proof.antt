@@ -32,13 +32,13 @@ loop-less : tie.Need-loop-less Inv-loop μ-loop
 loop-less c = search needs
 
 loop-again : tie.Need-loop-again Inv-loop μ-loop
-loop-again c = (omega arith, omega arith, leads-on (here _ _ (c .before .before .before .before .before .loop-test .taken)) (c .before .before .before .before .before .before .loop .inv .2) (c .before .before .put .ensures))
+loop-again c = (omega arith, omega arith, leads-on (c .before .before .before .before .before .before .loop .inv .2) (c .before .before .put .ensures) (here _ _ (c .before .before .before .before .before .loop-test .taken)))
 
 same-length : tie.Need-same-length Inv-loop μ-loop
 same-length c = search needs
 
 returns : tie.Need-returns Inv-loop μ-loop
-returns c = leads-end (ended _ _ (c .loop-test .left)) (c .before .loop .inv .2)
+returns c = leads-end (c .before .loop .inv .2) (ended _ _ (c .loop-test .left))
 
 pub put-each-spec : {M : Type 1} → statement M
 put-each-spec =
