@@ -28,6 +28,9 @@ use Rattle.calendar.specs.declared.moments.Kind.{Kind}
 use Rattle.calendar.specs.declared.moments.Kind.the-variants.{Day, Local, Utc}
 use Rattle.calendar.specs.declared.moments.Moment.{Moment}
 use Rattle.stoplist.specs.declared.Stop.{Stop}
+use Rattle.stoplist.specs.Stops.{listOf}
+use Rattle.converter.specs.ToJcal.{toJcal}
+use Rattle.converter.specs.ToIcal.{toIcal}
 
 abbrev kindNumber : Kind → ℕ
 kindNumber Day = 0
@@ -94,35 +97,50 @@ def equation(path):
     return "%s %s %s ≡ %s" % (run, octets(rows), octets(data), want), len(data) + len(out)
 
 
-def check(job):
-    """Checks one batch in its own scratch repository; the names of the cases that fail."""
-    number, cases, opened = job
+def scratch():
+    """A repository with the definitions alone and an empty crate for the equations."""
     top = tempfile.mkdtemp(prefix="vectors-")
+    lines = [l for l in open(os.path.join(ROOT, "crates.txt"), encoding="utf-8") if definitions_of(l)]
+    for line in lines:
+        crate = line.split(":")[0].strip()
+        shutil.copytree(os.path.join(ROOT, "crates", crate, "specs"), os.path.join(top, "crates", crate, "specs"))
+        shutil.copytree(os.path.join(ROOT, "crates", crate, "src"), os.path.join(top, "crates", crate, "src"))
+    for code in glob.glob(os.path.join(top, "crates/*/src/*.rt")):
+        strip(code)
+    with open(os.path.join(top, "crates.txt"), "w", encoding="utf-8") as f:
+        f.writelines(lines + ["vectors: %s\n" % " ".join(l.split(":")[0].strip() for l in lines)])
+    os.makedirs(os.path.join(top, "crates/vectors/specs"))
+    os.makedirs(os.path.join(top, "crates/vectors/src"))
+    with open(os.path.join(top, "crates/vectors/src/lib.rt"), "w") as f:
+        f.write("// Vectors.\n")
+    with open(os.path.join(top, "crates/vectors/specs/Lib.antt"), "w") as f:
+        f.write("pub mod Cases\n")
+    return top
+
+
+def check(top, cases, opened):
+    """Checks one batch in the scratch repository; the names of the cases that fail."""
+    text = [HEAD]
+    for i, (name, claim) in enumerate(cases):
+        text.append("-- %s\ncase%d : %s\nunfolding %s\ncase%d = refl\n" % (name, i, claim, " ".join(opened), i))
+    with open(os.path.join(top, "crates/vectors/specs/Cases.antt"), "w", encoding="utf-8") as f:
+        f.write("\n".join(text))
+    run = subprocess.run(["rt", "dev", "vectors"], cwd=top, stdout=subprocess.PIPE, stderr=subprocess.STDOUT)
+    log = run.stdout.decode("utf-8", "replace")
+    bad = sorted({cases[int(n)][0] for n in re.findall(r"error: `case(\d+)`", log)})
+    return bad or (["a batch from %s on: %s" % (cases[0][0], log[-800:])] if run.returncode else [])
+
+
+def worker(jobs, opened):
+    """Takes batches until none is left."""
+    top, failed = scratch(), []
     try:
-        shutil.copytree(os.path.join(ROOT, "crates"), os.path.join(top, "crates"), ignore=shutil.ignore_patterns("proofs", "must-fail", "data"))
-        for code in glob.glob(os.path.join(top, "crates/*/src/*.rt")):
-            strip(code)
-        lines = [l for l in open(os.path.join(ROOT, "crates.txt"), encoding="utf-8") if definitions_of(l)]
-        with open(os.path.join(top, "crates.txt"), "w", encoding="utf-8") as f:
-            f.writelines(lines + ["vectors: octets calendar stoplist types json tape content values converter\n"])
-        for crate in os.listdir(os.path.join(top, "crates")):
-            if not any(l.split(":")[0].strip() == crate for l in lines):
-                shutil.rmtree(os.path.join(top, "crates", crate))
-        os.makedirs(os.path.join(top, "crates/vectors/specs"))
-        os.makedirs(os.path.join(top, "crates/vectors/src"))
-        open(os.path.join(top, "crates/vectors/src/lib.rt"), "w").write("// Vectors.\n")
-        open(os.path.join(top, "crates/vectors/specs/Lib.antt"), "w").write("pub mod Cases\n")
-        text = [HEAD]
-        for i, (name, claim) in enumerate(cases):
-            claim = re.sub(r"\b(toJcal|toIcal|listOf)\b", lambda g: {"toJcal": "Rattle.converter.specs.ToJcal.toJcal", "toIcal": "Rattle.converter.specs.ToIcal.toIcal", "listOf": "Rattle.stoplist.specs.Stops.listOf"}[g.group(1)], claim)
-            text.append("-- %s\ncase%d : %s\nunfolding %s\ncase%d = refl\n" % (name, i, claim, " ".join(opened), i))
-        open(os.path.join(top, "crates/vectors/specs/Cases.antt"), "w", encoding="utf-8").write("\n".join(text))
-        run = subprocess.run(["rt", "dev", "vectors"], cwd=top, stdout=subprocess.PIPE, stderr=subprocess.STDOUT)
-        log = run.stdout.decode("utf-8", "replace")
-        bad = sorted({cases[int(n)][0] for n in re.findall(r"error: `case(\d+)`", log)})
-        if run.returncode and not bad:
-            bad = ["batch %d: %s" % (number, log[-800:])]
-        return bad
+        while True:
+            try:
+                batch = jobs.pop()
+            except IndexError:
+                return failed
+            failed += check(top, batch, opened)
     finally:
         shutil.rmtree(top, ignore_errors=True)
 
@@ -147,7 +165,7 @@ def main():
     args.add_argument("--most", type=int, default=6000)
     args.add_argument("folders", nargs="+")
     args = args.parse_args()
-    opened, jobs, batch, size, left_out, total = names(), [], [], 0, 0, 0
+    jobs, batch, size, left_out, total = [], [], 0, 0, 0
     for folder in args.folders:
         for path in sorted(p for k in ("ics", "json", "txt") for p in glob.glob(os.path.join(folder, "*." + k))):
             if not os.path.exists(os.path.splitext(path)[0] + ".out"):
@@ -162,14 +180,12 @@ def main():
             size += found[1]
             total += 1
             if size > BATCH_OCTETS or len(batch) >= 60:
-                jobs.append((len(jobs), batch, opened))
+                jobs.append(batch)
                 batch, size = [], 0
-    if batch:
-        jobs.append((len(jobs), batch, opened))
-    failed = []
+    jobs += [batch] if batch else []
+    opened = names()
     with concurrent.futures.ThreadPoolExecutor(args.jobs) as pool:
-        for bad in pool.map(check, jobs):
-            failed += bad
+        failed = sum((w.result() for w in [pool.submit(worker, jobs, opened) for _ in range(args.jobs)]), [])
     for name in failed:
         print("DIFFERS", name)
     print("%d equations, %d differ, %d inputs over %d octets left out" % (total, len(failed), left_out, args.most))
