@@ -4,3 +4,6 @@ pub mod Limits
 pub mod Pen
 pub mod Answers
 pub mod Classes
+pub mod Pieces
+pub mod Utf8
+pub mod Transducer
