@@ -7,3 +7,4 @@ pub mod Classes
 pub mod Pieces
 pub mod Utf8
 pub mod Transducer
+pub mod Characters

@@ -28,6 +28,10 @@ unfolding ascii
 ascii-high c e = leb-false c 127 e
 
 -- the automaton over two texts, and past the point where a text is broken
+pub due-cons : (d : Due) (c : ℕ) (s : List ℕ) → dueAfter d (c ∷ s) ≡ dueAfter (due d c) s
+unfolding dueAfter
+due-cons d c s = refl
+
 pub due-append : (d : Due) (xs ys : List ℕ) → dueAfter d (xs ++ ys) ≡ dueAfter (dueAfter d xs) ys
 unfolding dueAfter
 due-append d [] ys = refl
@@ -113,7 +117,7 @@ pub utf8-split : (sep : ℕ) (s : List ℕ) → ascii sep ≡ true → all utf8 
 utf8-split sep s e = sym (utf8-joined sep (split sep s) e) ∙ ap utf8 (joined-split sep s)
 
 -- no octet of a UTF-8 text is above 244
-lead-above : (c : ℕ) → 244 < c → lead c ≡ broken
+pub lead-above : (c : ℕ) → 244 < c → lead c ≡ broken
 unfolding lead
 lead-above c h = rw (
   lt-leb c 127 (omega arith),
@@ -212,7 +216,7 @@ module _ (f : ℕ → ℕ) (plain : (c : ℕ) → plainOctet (f c) ≡ plainOcte
   plain-map [] = refl
   plain-map (c ∷ s) = rw (plain c, plain-map s)
 
-plain-above : (c : ℕ) → 31 < c → c < 127 → plainOctet c ≡ true
+pub plain-above : (c : ℕ) → 31 < c → c < 127 → plainOctet c ≡ true
 unfolding plainOctet isControl
 plain-above c h k = rw (lt-leb c 31 h, ne-eqb c 127 (λ e. omega arith))
 

@@ -1,8 +1,11 @@
 // Octets: the limits of a conversion, refusals and answers, and the pen that writes into lent buffers.
+mod encoding;
 mod names;
 mod settling;
 mod writing;
 
+pub use encoding::is_clean;
+pub use encoding::is_utf8;
 pub use names::all_digits;
 pub use names::all_plain;
 pub use names::all_text;

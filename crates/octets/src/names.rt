@@ -19,7 +19,7 @@ enum Class {
     Text,
 }
 
-fn within(lo: u8, hi: u8, c: u8) -> bool
+pub(crate) fn within(lo: u8, hi: u8, c: u8) -> bool
     ensures { λ r. ⌜ r ≡ between lo hi c ⌝ }
 {
     if lo <= c { c <= hi } else { false }
