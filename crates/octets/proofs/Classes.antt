@@ -10,7 +10,7 @@ use lib.Dec.{eqb, leb}
 use lib.ListN.{length, getD, drop}
 use Rattle.octets.specs.Basics.{pick, _and_, _or_, all, filled, same}
 use Rattle.octets.specs.Classes.{between, isDigit, isUpper, isLower, isLetter, nameOctet, isName, lowerNameOctet, isLowerName, upperOctet, lowerOctet, upper, lower, sameName}
-use Rattle.octets.proofs.Cases.{cases, same?, never, both, either, and-true, or-first, or-second, apart, all-weaker}
+use Rattle.octets.proofs.Cases.{cases, same?, never, both, either, and-true, and-assoc, and-true-right, or-first, or-second, apart, all-weaker}
 use Rattle.octets.proofs.Positions.{here, ended}
 
 -- lo ≤ c ≤ hi, told by the test
@@ -40,9 +40,17 @@ module _ (p : ℕ → Bool) (s : List ℕ) (i : ℕ) where
   unfolding all
   all-stop h e = rw (here s i h, e)
 
+  -- the test so far, and the element at i
+  pub all-more : (so-far : Bool) → i < length s → ((so-far and p (getD s i 0)) and all p (drop (i + 1) s)) ≡ (so-far and all p (drop i s))
+  unfolding all
+  all-more so-far h = and-assoc so-far (p (getD s i 0)) (all p (drop (i + 1) s)) ∙ rw (here s i h)
+
   pub all-end : length s ≤ i → all p (drop i s) ≡ true
   unfolding all
   all-end h = rw (ended s i h)
+
+  pub all-done : (so-far : Bool) → length s ≤ i → (so-far and all p (drop i s)) ≡ so-far
+  all-done so-far h = rw (all-end h) (and-true-right so-far)
 
 -- a slice of length 0 and any other
 pub filled-none : (s : List ℕ) → length s ≡ 0 → filled s ≡ false

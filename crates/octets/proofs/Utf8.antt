@@ -11,7 +11,7 @@ use Rattle.octets.specs.Basics.{pick, _and_, all}
 use Rattle.octets.specs.Pieces.{split, joined}
 use Rattle.octets.specs.Classes.{between, isUpper, isLower, isControl, plainOctet, upperOctet, lowerOctet, upper, lower}
 use Rattle.octets.specs.Utf8.{Due, start, one, two, three, afterE0, afterED, afterF0, afterF4, broken, lead, due, dueAfter, isStart, utf8, clean}
-use Rattle.octets.proofs.Cases.{cases, never, both, and-true, and-true-right, and-swap, all-append}
+use Rattle.octets.proofs.Cases.{cases, never, both, and-true, and-true-right, and-swap, all-append, all-weaker}
 use Rattle.octets.proofs.Pieces.{joined-split}
 use Rattle.octets.proofs.Classes.{between-true, within-between, below-between, above-between}
 
@@ -209,16 +209,33 @@ pub clean-cut : (xs : List ℕ) (c : ℕ) (ys : List ℕ) → ascii c ≡ true �
 unfolding clean all
 clean-cut xs c ys e p = rw (utf8-cut xs c ys e, all-append plainOctet xs (c ∷ ys), p) (and-swap (utf8 xs) (utf8 ys) (all plainOctet xs) (all plainOctet ys))
 
+pub plain-above : (c : ℕ) → 31 < c → c < 127 → plainOctet c ≡ true
+unfolding plainOctet isControl
+plain-above c h k = rw (lt-leb c 31 h, ne-eqb c 127 (λ e. omega arith))
+
+-- octets from 0 to 127 are UTF-8, and those from 32 to 126 are clean
+pub low-utf8 : (s : List ℕ) → all (between 0 127) s ≡ true → utf8 s ≡ true
+low-utf8 s h = ascii-utf8 s (all-weaker (between 0 127) ascii low s h)
+  where
+    low : (c : ℕ) → between 0 127 c ≡ true → ascii c ≡ true
+    low c e = unfold ascii in le-leb c 127 (between-true 0 127 c e .1)
+
+pub printable-clean : (s : List ℕ) → all (between 32 126) s ≡ true → clean s ≡ true
+unfolding clean
+printable-clean s h = and-true (low-utf8 s (all-weaker (between 32 126) (between 0 127) low s h)) (all-weaker (between 32 126) plainOctet plain s h)
+  where
+    low : (c : ℕ) → between 32 126 c ≡ true → between 0 127 c ≡ true
+    low c e = within-between 0 127 c (omega arith) (omega (arith, between-true 32 126 c e .1))
+
+    plain : (c : ℕ) → between 32 126 c ≡ true → plainOctet c ≡ true
+    plain c e = plain-above c (omega (arith, between-true 32 126 c e .0)) (omega (arith, between-true 32 126 c e .1))
+
 -- an octet that a map changes is ASCII, so control characters are all that may come in
 module _ (f : ℕ → ℕ) (plain : (c : ℕ) → plainOctet (f c) ≡ plainOctet c) where
   pub plain-map : (s : List ℕ) → all plainOctet (map f s) ≡ all plainOctet s
   unfolding all
   plain-map [] = refl
   plain-map (c ∷ s) = rw (plain c, plain-map s)
-
-pub plain-above : (c : ℕ) → 31 < c → c < 127 → plainOctet c ≡ true
-unfolding plainOctet isControl
-plain-above c h k = rw (lt-leb c 31 h, ne-eqb c 127 (λ e. omega arith))
 
 upper-plain : (c : ℕ) → plainOctet (upperOctet c) ≡ plainOctet c
 unfolding upperOctet
