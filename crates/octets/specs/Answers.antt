@@ -12,7 +12,7 @@ use Rattle.octets.specs.declared.Converted.{Converted}
 use Rattle.octets.specs.declared.Converted.the-variants.{Written, Refused}
 
 -- 01's number of each refusal
-unfoldable pub number : Refusal → ℕ
+abbrev pub number : Refusal → ℕ
 number TextTooLong = 1
 number RowsMalformed = 2
 number NotClean = 3
@@ -71,3 +71,7 @@ answer (accepted t) out = pick (leb (length t) (length out)) (settled 0 (length 
 unfoldable pub outcome : Converted → List ℕ → Settled
 outcome (Written n) out = settled 0 n out
 outcome (Refused r) out = settled (number r) 0 out
+
+-- what a pen leaves that stopped at `at`, having begun at 0: the buffer as it is, or 10 where something did not fit
+unfoldable pub finished : ℕ → List ℕ → Settled
+finished at out = pick (leb at (length out)) (settled 0 at out) (zeroed 10 out)

@@ -7,3 +7,5 @@ pub mod Decimal
 pub mod Limits
 pub mod Pen
 pub mod Answers
+pub mod Groups
+pub mod Characters

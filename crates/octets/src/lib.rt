@@ -1,5 +1,56 @@
-// Octets: the limits of a conversion, refusals and answers.
-ghost use mathlib.Core.Path.{_≡_};
+// Octets: the limits of a conversion, refusals and answers, and the pen that writes into lent buffers.
+mod encoding;
+mod names;
+mod settling;
+mod writing;
+
+pub use encoding::is_clean;
+pub use encoding::is_utf8;
+pub use names::all_digits;
+pub use names::all_plain;
+pub use names::all_text;
+pub use names::hex_digit;
+pub use names::is_digit;
+pub use names::is_lower;
+pub use names::is_lower_name;
+pub use names::is_lower_name_octet;
+pub use names::is_name;
+pub use names::is_name_octet;
+pub use names::is_plain_octet;
+pub use names::is_text_octet;
+pub use names::is_upper;
+pub use names::lower_octet;
+pub use names::peek;
+pub use names::put_lower;
+pub use names::put_upper;
+pub use names::same;
+pub use names::same_name;
+pub use names::upper_octet;
+pub use settling::finish;
+pub use settling::refuse;
+pub use writing::put;
+pub use writing::put_all;
+pub use writing::zero;
+
+// Octets of a converted text.
+pub const MOST_TEXT: usize = 65536;
+
+// Levels of components, VCALENDAR being the first.
+pub const MOST_LEVELS: usize = 8;
+
+// JSON arrays and objects open at once.
+pub const MOST_OPEN: usize = 32;
+
+// Rows of rows.hex.
+pub const MOST_ROWS: usize = 64;
+
+// Octets of a written line before CRLF.
+pub const MOST_COLUMNS: usize = 75;
+
+// An integer, a COUNT or an INTERVAL.
+pub const MOST_INTEGER: u64 = 2147483647;
+
+pub const LAST_YEAR: u16 = 9999;
 
 // A refusal; the definition `number` gives its number.
 pub enum Refusal {

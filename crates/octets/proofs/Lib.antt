@@ -1,0 +1,10 @@
+pub mod Cases
+pub mod Positions
+pub mod Limits
+pub mod Pen
+pub mod Answers
+pub mod Classes
+pub mod Pieces
+pub mod Utf8
+pub mod Transducer
+pub mod Characters
