@@ -4,6 +4,7 @@ pub mod Limits
 pub mod Pen
 pub mod Answers
 pub mod Classes
+pub mod Decimal
 pub mod Pieces
 pub mod Utf8
 pub mod Transducer

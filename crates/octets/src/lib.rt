@@ -1,6 +1,7 @@
 // Octets: the limits of a conversion, refusals and answers, and the pen that writes into lent buffers.
 mod encoding;
 mod names;
+mod numbers;
 mod settling;
 mod writing;
 
@@ -26,6 +27,14 @@ pub use names::put_upper;
 pub use names::same;
 pub use names::same_name;
 pub use names::upper_octet;
+pub use numbers::is_negative;
+pub use numbers::is_sign;
+pub use numbers::leading_zeros;
+pub use numbers::put_decimal;
+pub use numbers::put_figures;
+pub use numbers::put_integer_text;
+pub use numbers::sign_length;
+pub use numbers::value_of;
 pub use settling::finish;
 pub use settling::refuse;
 pub use writing::put;
