@@ -1,0 +1,16 @@
+-- `json::numbers::is_digit` meets its contract.
+use borrow.Author.Tests.{lt-leb, le-leb}
+use Rattle.octets.specs.Classes.{isDigit, between}
+use Rattle.json.proofs.numbers.is_digit.Statement.{statement}
+use Rattle.json.proofs.numbers.is_digit.Tie as tie
+
+returns : tie.Need-returns
+unfolding isDigit between
+returns c = rw (lt-leb 48 _ (c .if1 .taken))
+
+returns-2 : tie.Need-returns-2
+unfolding isDigit between
+returns-2 c = rw (le-leb 48 _ (c .if1 .left))
+
+pub is-digit-spec : {M : Type 1} → statement M
+is-digit-spec = tie.close (tie.spec returns returns-2)
