@@ -8,16 +8,6 @@ ghost use Rattle.json.specs.Reads.{ok};
 ghost use Rattle.json.specs.Numbers.{isExponent, scan, start, minus, zero, point, e as behindE, sign};
 ghost use Rattle.json.specs.Promise.{Run, FoundAt};
 use crate::Found;
-use crate::scanning::octet;
-
-fn is_digit(b: u8) -> bool
-    ensures { λ r. ⌜ r ≡ isDigit b ⌝ }
-{
-    if b < b'0' {
-        return false;
-    }
-    b <= b'9'
-}
 
 fn past_digits(text: &[u8], at: usize) -> usize
     requires { ⌜ at ≤ length (now text) ⌝ }
@@ -25,7 +15,7 @@ fn past_digits(text: &[u8], at: usize) -> usize
 {
     let mut i = at;
     while i < text.len() {
-        if !is_digit(text[i]) {
+        if !octets::is_digit(text[i]) {
             return i;
         }
         i += 1;
@@ -50,7 +40,7 @@ fn past_power(text: &[u8], at: usize) -> Found
     requires { ⌜ at ≤ length (now text) ⌝ }
     ensures { λ r. ⌜ FoundAt (now (text .entry)) at (scan behindE (drop at (now (text .entry)))) r ⌝ }
 {
-    match octet(text, at) {
+    match octets::peek(text, at) {
         b'+' => past_last_digits(text, at + 1),
         b'-' => past_last_digits(text, at + 1),
         _ => past_last_digits(text, at),
@@ -62,7 +52,7 @@ fn past_exponent(text: &[u8], at: usize) -> Found
     requires { ⌜ at ≤ length (now text) ⌝ }
     ensures { λ r. ⌜ FoundAt (now (text .entry)) at (pick (isExponent (getD (now (text .entry)) at 0)) (scan behindE (drop (at + 1) (now (text .entry)))) (ok tt (drop at (now (text .entry))))) r ⌝ }
 {
-    match octet(text, at) {
+    match octets::peek(text, at) {
         b'e' => past_power(text, at + 1),
         b'E' => past_power(text, at + 1),
         _ => Found::At(at),
@@ -86,7 +76,7 @@ fn past_whole(text: &[u8], at: usize) -> Found
     requires { ⌜ at ≤ length (now text) ⌝ }
     ensures { λ r. ⌜ FoundAt (now (text .entry)) at (scan zero (drop at (now (text .entry)))) r ⌝ }
 {
-    if octet(text, at) == b'.' {
+    if octets::peek(text, at) == b'.' {
         return past_fraction(text, at + 1);
     }
     past_exponent(text, at)
@@ -97,7 +87,7 @@ fn past_unsigned(text: &[u8], at: usize) -> Found
     requires { ⌜ at ≤ length (now text) ⌝ }
     ensures { λ r. ⌜ FoundAt (now (text .entry)) (at + 1) (scan minus (drop at (now (text .entry)))) r ⌝ }
 {
-    if octet(text, at) == b'0' {
+    if octets::peek(text, at) == b'0' {
         return past_whole(text, at + 1);
     }
     let i = past_digits(text, at);
@@ -111,7 +101,7 @@ pub(crate) fn past_number(text: &[u8], at: usize) -> Found
     requires { ⌜ at ≤ length (now text) ⌝ }
     ensures { λ r. ⌜ FoundAt (now (text .entry)) (at + 1) (scan start (drop at (now (text .entry)))) r ⌝ }
 {
-    if octet(text, at) == b'-' {
+    if octets::peek(text, at) == b'-' {
         return past_unsigned(text, at + 1);
     }
     past_unsigned(text, at)

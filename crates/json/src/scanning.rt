@@ -1,17 +1,10 @@
-// Looking at a text: the octet at a place, white space, a literal name.
+// White space and literal names (RFC 8259 2, 3): the place behind them.
 ghost use mathlib.Core.Path.{_≡_};
 ghost use Prim.Native.Nat.{_≤_};
-ghost use lib.ListN.{length, drop, getD};
+ghost use lib.ListN.{length, drop};
 ghost use Rattle.json.specs.Reads.{isSpace, word as wordOf};
 ghost use Rattle.json.specs.Promise.{Run, FoundAt};
 use crate::Found;
-
-// The octet at a place; 0 behind the end.
-pub(crate) fn octet(text: &[u8], at: usize) -> u8
-    ensures { λ r. ⌜ r ≡ getD (now (text .entry)) at 0 ⌝ }
-{
-    if at < text.len() { text[at] } else { 0 }
-}
 
 fn is_space(b: u8) -> bool
     ensures { λ r. ⌜ r ≡ isSpace b ⌝ }
