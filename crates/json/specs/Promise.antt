@@ -1,10 +1,12 @@
 -- What the crate's own readers promise each other; `parse` promises what Parse says.
 use Prim.Native.Nat.{ℕ, _-_, _≤_, _<_}
 use mathlib.Core.Path.{_≡_}
-use mathlib.Core.Bool.{Bool, true, false}
+use Prim.Native.Char.{code}
+use mathlib.Core.Bool.{Bool, true, false, not}
+use lib.Dec.{eqb, ltb}
 use mathlib.Core.List.{List, [], _∷_}
 use lib.ListN.{length, take, drop, getD}
-use Rattle.octets.specs.Basics.{pick, all}
+use Rattle.octets.specs.Basics.{_or_, all}
 use Rattle.octets.specs.Pen.{Pen, pen, Wrote}
 use Rattle.json.specs.Reads.{Out, ok, deep, bad}
 use Rattle.json.specs.declared.Step.{Step}
@@ -29,3 +31,13 @@ pub data Agrees {A : Type 0} (f : A → List ℕ) (text : List ℕ) (low : ℕ) 
   read : {e to : ℕ} (a : A) → o ≡ ok a (drop e text) → low ≤ e → e ≤ length text → Wrote p (f a) (pen t to) → Agrees f text low p t o (Read e to)
   too-deep : o ≡ deep → Agrees f text low p t o TooDeep
   not-json : o ≡ bad → Agrees f text low p t o NotJson
+
+-- the number that four hexadecimal digits gave; where there are none, one more than they can say
+unfoldable pub codeOf : Out ℕ → ℕ
+codeOf (ok n s) = n
+codeOf deep = 65536
+codeOf bad = 65536
+
+-- an octet that stands for itself in a string
+unfoldable pub plainOctet : ℕ → Bool
+plainOctet b = not (ltb b 32 or eqb b (code "\"") or eqb b (code "\\"))

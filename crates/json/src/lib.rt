@@ -1,7 +1,7 @@
 // JSON: a reader onto a tape, and strings written.
 mod numbers;
 mod scanning;
-// mod strings;
+mod strings;
 // mod values;
 // mod quoting;
 
