@@ -5,3 +5,8 @@ pub mod Outs
 pub mod StringLaws
 pub mod Agreements
 pub mod Texts
+pub mod Tapes
+pub mod Sizes
+pub mod Elements
+pub mod ValueLaws
+pub mod Parsing

@@ -40,3 +40,17 @@ module _ (text name : List ℕ) (i k : ℕ) (h : k < length name) where
 pub word-whole : (name s : List ℕ) (k : ℕ) → length name ≤ k → word (drop k name) s ≡ ok tt s
 unfolding word
 word-whole name s k h = rw (ended name k h)
+
+-- a name of one octet
+module _ (text : List ℕ) (i b : ℕ) where
+  pub octet-same : i < length text → getD text i 0 ≡ b → word (b ∷ []) (drop i text) ≡ ok tt (drop (i + 1) text)
+  unfolding word
+  octet-same h e = rw (here text i h, eq-eqb _ b e)
+
+  pub octet-differs : i < length text → ((getD text i 0 ≡ b) → ⊥) → word (b ∷ []) (drop i text) ≡ bad
+  unfolding word
+  octet-differs h n = rw (here text i h, ne-eqb _ b n)
+
+  pub octet-short : length text ≤ i → word (b ∷ []) (drop i text) ≡ bad
+  unfolding word
+  octet-short h = rw (ended text i h)

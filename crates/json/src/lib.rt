@@ -2,11 +2,11 @@
 mod numbers;
 mod scanning;
 mod strings;
-// mod values;
+mod values;
 // mod quoting;
 
 // pub use quoting::put_string;
-// pub use values::parse;
+pub use values::parse;
 
 // What `parse` answers: the length of the tape, or why there is none.
 pub enum Parsed {
