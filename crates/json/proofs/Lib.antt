@@ -10,3 +10,4 @@ pub mod Sizes
 pub mod Elements
 pub mod ValueLaws
 pub mod Parsing
+pub mod Quotes

@@ -41,3 +41,7 @@ codeOf bad = 65536
 -- an octet that stands for itself in a string
 unfoldable pub plainOctet : ℕ → Bool
 plainOctet b = not (ltb b 32 or eqb b (code "\"") or eqb b (code "\\"))
+
+-- an octet that is written as it is
+unfoldable pub bareOctet : ℕ → Bool
+bareOctet b = not (eqb b (code "\"") or eqb b (code "\\") or eqb b (code "\n") or eqb b (code "\t"))

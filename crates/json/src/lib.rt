@@ -1,11 +1,11 @@
 // JSON: a reader onto a tape, and strings written.
 mod numbers;
+mod quoting;
 mod scanning;
 mod strings;
 mod values;
-// mod quoting;
 
-// pub use quoting::put_string;
+pub use quoting::put_string;
 pub use values::parse;
 
 // What `parse` answers: the length of the tape, or why there is none.
