@@ -1,1 +1,4 @@
 pub mod Sound
+pub mod Decode
+pub mod Promise
+pub mod Scan
