@@ -96,9 +96,12 @@ groups m (b ∷ s) = onto m b s (groups (inText m b) s)
 unfoldable pub view : List ℕ → ℕ → Groups
 view t i = groups false (drop i t)
 
--- the octet at a place
+-- the octet at a place, and the text that begins there
 unfoldable pub tagAt : List ℕ → ℕ → ℕ
 tagAt t i = getD t i tagEnd
+
+unfoldable pub textAt : List ℕ → ℕ → List ℕ
+textAt t i = text (drop i t)
 
 -- the value at a place; null, where a group ends
 unfoldable pub valueAt : List ℕ → ℕ → Json

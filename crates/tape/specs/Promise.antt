@@ -4,15 +4,23 @@ use mathlib.Core.Path.{_≡_}
 use mathlib.Core.List.{List}
 use lib.ListN.{length, take, drop}
 use Rattle.json.specs.Tree.{Json, Items, noItems, item}
-use Rattle.json.specs.Tape.{tagEnd}
+use Rattle.json.specs.Tape.{tagArray, tagObject, tagEnd}
 use Rattle.tape.specs.Decode.{octetsOf, pop, skip, view, tagAt, valueAt}
 use Rattle.tape.specs.declared.Text.{Text}
 
 -- e is one octet behind i, or the end of the tape
 pub record After (t : List ℕ) (i e : ℕ) : Type 0 where
   pub is : view t e ≡ view t (i + 1)
+  pub low : i ≤ length t → i ≤ e
   pub more : i < length t → e ≡ i + 1
   pub high : e ≤ length t
+
+-- a value that is no array and no object stands at i
+pub record Leaf (t : List ℕ) (i : ℕ) : Type 0 where
+  pub inside : i < length t
+  pub no-end : (tagAt t i ≡ tagEnd) → ⊥
+  pub no-array : (tagAt t i ≡ tagArray) → ⊥
+  pub no-object : (tagAt t i ≡ tagObject) → ⊥
 
 -- e is behind the value at i; where a group ends at i, it stays
 pub record Next (t : List ℕ) (i e : ℕ) : Type 0 where
