@@ -1,3 +1,4 @@
 pub mod Tags
 pub mod Values
 pub mod Walks
+pub mod Scans

@@ -30,7 +30,10 @@ one-of {b} k l h = cases (eqb b k) (λ e. inl (eqb-true b k e)) (λ e. inr (omeg
 pub none-of : {b : ℕ} (k : ℕ) → (b < k) ⊎ (k + 2 ≤ b) → ((b ≡ k) ⊎ (b ≡ k + 1)) → ⊥
 none-of k o = ⊎-elim (λ l. ⊎-elim (λ e. omega arith) (λ e. omega arith)) (λ l. ⊎-elim (λ e. omega arith) (λ e. omega arith)) o
 
--- past the end there is no octet more
+-- one octet on
+pub after-on : (t : List ℕ) (i : ℕ) → i < length t → After t i (i + 1)
+after-on t i h = record { is = refl; low = λ _. omega arith; more = λ _. refl; high = omega arith }
+
 pub after-past : (t : List ℕ) (i : ℕ) → length t ≤ i → After t i (length t)
 after-past t i h = record { is = rw (past-view t (length t) (omega arith), past-view t (i + 1) (omega arith)); low = λ l. l; more = λ l. absurd (omega arith); high = omega arith }
 

@@ -1,6 +1,8 @@
 // Navigation over the tape of a JSON value.
+mod sounding;
 mod walking;
 
+pub use sounding::is_sound;
 pub use walking::after;
 pub use walking::behind;
 pub use walking::count;

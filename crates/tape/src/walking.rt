@@ -27,7 +27,6 @@ pub fn after(t: &[u8], at: usize) -> usize
 
 // Where the text at `at` ends.
 fn text_end(t: &[u8], at: usize) -> usize
-    requires { ⌜ at ≤ length (now t) ⌝ }
     ensures { λ r. ⌜ r ≡ at + length (textAt (now (t .entry)) at) ⌝ }
 {
     let mut e = at;
@@ -41,8 +40,7 @@ fn text_end(t: &[u8], at: usize) -> usize
 }
 
 // Behind the text at `at` and its end.
-fn past_text(t: &[u8], at: usize) -> usize
-    requires { ⌜ at ≤ length (now t) ⌝ }
+pub fn past_text(t: &[u8], at: usize) -> usize
     ensures { λ r. ⌜ After (now (t .entry)) (at + length (textAt (now (t .entry)) at)) r ⌝ }
 {
     let e = text_end(t, at);
