@@ -211,6 +211,11 @@ module _ (t : List ℕ) (i : ℕ) where
   view-filled : ((tagAt t i ≡ tagEnd) → ⊥) → Filled (view t i)
   view-filled n = rw (on-view t i (on-tape t i n)) (onto-filled (tagAt t i) _ _ (ne-eqb _ tagEnd n))
 
+  -- the value at i is the first of them
+  pub items-first : ((tagAt t i ≡ tagEnd) → ⊥) → itemsAt t i ≡ item (valueAt t i) (others (itemsAt t i))
+  unfolding itemsAt valueAt
+  items-first n = view-filled n
+
   pub items-end : tagAt t i ≡ tagEnd → itemsAt t i ≡ noItems
   unfolding itemsAt
   items-end e = end-top t i e
@@ -219,21 +224,24 @@ module _ (t : List ℕ) (i : ℕ) where
   unfolding membersAt paired
   members-end e = rw (items-end e)
 
-module _ {t : List ℕ} {i e : ℕ} (x : Next t i e) where
-  others-next : others (top (view t i)) ≡ top (view t e)
-  others-next = sym (ap top (x .is) ∙ top-skip (view t i))
+-- behind the value at i stand the others
+others-next : {t : List ℕ} {i e : ℕ} → Next t i e → others (itemsAt t i) ≡ itemsAt t e
+unfolding itemsAt
+others-next {t} {i} x = sym (ap top (x .is) ∙ top-skip (view t i))
 
-  -- behind the value at i stand the others
-  pub items-next : ((tagAt t i ≡ tagEnd) → ⊥) → itemsAt t i ≡ item (valueAt t i) (itemsAt t e)
-  unfolding itemsAt valueAt
-  items-next n = view-filled t i n ∙ rw others-next
+pub items-next : {t : List ℕ} {i e : ℕ} → Next t i e → ((tagAt t i ≡ tagEnd) → ⊥) → itemsAt t i ≡ item (valueAt t i) (itemsAt t e)
+items-next {t} {i} x n = items-first t i n ∙ rw (others-next x)
 
+-- a key stands at i and its value at n; where the value is passed, the other members stand from e on
 valued-is : (js : Items) (k : List ℕ) → valued js k ≡ member k (first js) (paired (others js))
 unfolding paired
 valued-is noItems k = refl
 valued-is (item j js) k = refl
 
--- a key stands at i, its value at n, and the other members from e on
-pub members-next : {t : List ℕ} {i n e : ℕ} → ((tagAt t i ≡ tagEnd) → ⊥) → Next t i n → Next t n e → membersAt t i ≡ member (octetsOf (valueAt t i)) (valueAt t n) (membersAt t e)
+pub members-first : {t : List ℕ} {i n : ℕ} → ((tagAt t i ≡ tagEnd) → ⊥) → Next t i n → membersAt t i ≡ member (octetsOf (valueAt t i)) (valueAt t n) (paired (others (itemsAt t n)))
 unfolding membersAt paired
-members-next {t} {i} {n} {e} k x y = rw (items-next x k, valued-is (itemsAt t n) (octetsOf (valueAt t i))) (unfold itemsAt valueAt in rw (others-next y))
+members-first {t} {i} {n} k x = rw (items-next x k, valued-is (itemsAt t n) (octetsOf (valueAt t i))) (unfold itemsAt valueAt in refl)
+
+pub members-next : {t : List ℕ} {i n e : ℕ} → ((tagAt t i ≡ tagEnd) → ⊥) → Next t i n → Next t n e → membersAt t i ≡ member (octetsOf (valueAt t i)) (valueAt t n) (membersAt t e)
+unfolding membersAt
+members-next {t} {i} {n} {e} k x y = members-first k x ∙ rw (others-next y)

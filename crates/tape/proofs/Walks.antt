@@ -9,12 +9,12 @@ use borrow.Author.Tests.{eqb-true, eqb-false}
 use lib.Dec.{eqb}
 use lib.ListN.{length, drop}
 use Rattle.octets.proofs.Cases.{cases}
-use Rattle.json.specs.Tree.{Json, Items, noItems, item}
+use Rattle.json.specs.Tree.{Json, arr, obj, Items, noItems, item}
 use Rattle.json.specs.Tape.{tagNumber, tagString, tagArray, tagObject, tagEnd}
-use Rattle.tape.specs.Decode.{Groups, last, group, others, octetsOf, top, pop, push, skip, leaf, view, tagAt, textAt, valueAt, itemsAt}
+use Rattle.tape.specs.Decode.{Groups, last, group, others, octetsOf, top, pop, push, skip, leaf, view, tagAt, textAt, valueAt, itemsAt, membersAt}
 use Rattle.tape.specs.Promise.{After, Leaf, Next, Left, TextAt, counted}
 use Rattle.tape.proofs.Tags.{on-tape, past-tag, past-view, Shows, at-array, at-object, at-number, at-string, at-other, end-pop, end-top, text-part, text-within}
-use Rattle.tape.proofs.Values.{skip-push, pop-push, pop-skip, number-is, string-is, no-text, items-end, items-next}
+use Rattle.tape.proofs.Values.{skip-push, pop-push, pop-skip, array-is, object-is, number-is, string-is, no-text, items-end, items-next}
 
 -- the tag of a group, of a text
 abbrev pub Opens : List ℕ → ℕ → Type 0
@@ -67,6 +67,24 @@ module _ (t : List ℕ) (i : ℕ) where
 
   pub next-other : Leaf t i → ((Begins t i) → ⊥) → Next t i (i + 1)
   next-other l n = next-shown (at-other t i (l .no-end) (l .no-array) (l .no-object) (λ e. n (inl e)) (λ e. n (inr e))) refl (omega arith) (omega (arith, l .inside))
+
+-- into a group: what stands there, and where it ends
+module _ {t : List ℕ} {i a : ℕ} (x : After t i a) where
+  items-after : itemsAt t a ≡ itemsAt t (i + 1)
+  unfolding itemsAt
+  items-after = ap top (x .is)
+
+  pub array-inside : tagAt t i ≡ tagArray → valueAt t i ≡ arr (itemsAt t a)
+  array-inside q = array-is t i q ∙ rw items-after
+
+  pub object-inside : tagAt t i ≡ tagObject → valueAt t i ≡ obj (membersAt t a)
+  unfolding membersAt
+  object-inside q = object-is t i q ∙ rw items-after
+
+  pub next-inside : {e : ℕ} → Opens t i → Left t a e → Next t i e
+  next-inside {e} o l =
+      let h : i < length t = ⊎-elim (λ q. on-tape t i (λ f. omega arith)) (λ q. on-tape t i (λ f. omega arith)) o in
+      next-group t i e o (rw (x .more h) at l)
 
 -- n groups are left
 unfoldable pub pops : ℕ → Groups → Groups
