@@ -4,3 +4,4 @@ pub mod Walks
 pub mod Scans
 pub mod Fine
 pub mod Back
+pub mod Tables

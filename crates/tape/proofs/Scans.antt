@@ -73,7 +73,7 @@ module _ (t : List ℕ) (i : ℕ) (z : tagAt t i ≡ tagEnd) where
   unfolding distinctKeys
   distinct-end = rw (members-end t i z)
 
-abbrev part : List ℕ → Text → List ℕ
+abbrev pub part : List ℕ → Text → List ℕ
 part t r = take (r .to - r .from) (drop (r .from) t)
 
 -- a member stands at i, with the key r, and the next one at e
@@ -83,7 +83,7 @@ pub record Keyed (t : List ℕ) (i : ℕ) (r : Text) (e : ℕ) : Type 0 where
   pub next : Next t (r .next) e
 
 module _ {t : List ℕ} {i e : ℕ} {r : Text} (m : Keyed t i r e) where
-  members-on : membersAt t i ≡ member (part t r) (valueAt t (r .next)) (membersAt t e)
+  pub members-on : membersAt t i ≡ member (part t r) (valueAt t (r .next)) (membersAt t e)
   members-on = rw (m .key .part) (members-next (m .some) (m .key .behind) (m .next))
 
   pub key-here : (k : List ℕ) → same k (part t r) ≡ true → hasKey k (membersAt t i) ≡ true

@@ -2,3 +2,4 @@ pub mod Sound
 pub mod Decode
 pub mod Promise
 pub mod Scan
+pub mod Slots

@@ -1,4 +1,5 @@
 // Navigation over the tape of a JSON value.
+mod keys;
 mod sounding;
 mod walking;
 

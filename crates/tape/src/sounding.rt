@@ -3,16 +3,11 @@ use super::END;
 use super::NUMBER;
 use super::OBJECT;
 use super::STRING;
-use super::walking::behind;
+use super::keys::keys_distinct;
 use super::walking::past_text;
-use super::walking::tag;
-use super::walking::text_at;
-use octets::same;
 ghost use mathlib.Core.Path.{_≡_};
 ghost use Prim.Native.Nat.{_+_, _≤_, _<_};
 ghost use lib.ListN.{length};
-ghost use Rattle.tape.specs.Sound.{hasKey, distinctKeys};
-ghost use Rattle.tape.specs.Decode.{membersAt};
 ghost use Rattle.tape.specs.Scan.{soundTape, PastString, Scans};
 
 // A turn of the scan: the place that it goes on from, or that something is not sound.
@@ -42,48 +37,6 @@ fn past_string(t: &[u8], at: usize) -> Scanned
         }
     }
     Scanned::To(t.len())
-}
-
-// Whether the key is one of those from `at` to the end of the object.
-fn has_key(t: &[u8], at: usize, key: &[u8]) -> bool
-    ensures { λ r. ⌜ r ≡ hasKey (now (key .entry)) (membersAt (now (t .entry)) at) ⌝ }
-{
-    let mut i = at;
-    loop {
-        if tag(t, i) == END {
-            return false;
-        }
-        let k = text_at(t, i);
-        let v = k.next;
-        let e = behind(t, v);
-        let from = k.from;
-        let to = k.to;
-        if same(key, &t[from..to]) {
-            return true;
-        }
-        i = e;
-    }
-}
-
-// Whether the keys from `at` to the end of the object are all different.
-fn keys_distinct(t: &[u8], at: usize) -> bool
-    ensures { λ r. ⌜ r ≡ distinctKeys (membersAt (now (t .entry)) at) ⌝ }
-{
-    let mut i = at;
-    loop {
-        if tag(t, i) == END {
-            return true;
-        }
-        let k = text_at(t, i);
-        let v = k.next;
-        let e = behind(t, v);
-        let from = k.from;
-        let to = k.to;
-        if has_key(t, e, &t[from..to]) {
-            return false;
-        }
-        i = e;
-    }
 }
 
 // One turn of the scan: past a text, and otherwise one octet on.

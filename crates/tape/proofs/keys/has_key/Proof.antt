@@ -1,4 +1,4 @@
--- `tape::sounding::has_key` meets its contract. The loop's invariant: the key is among the members from here on if it is among all.
+-- `tape::keys::has_key` meets its contract. The loop's invariant: the key is among the members from here on if it is among all.
 use Prim.Native.Nat.{_-_}
 use mathlib.Core.Path.{_≡_, refl, sym, _∙_}
 use native.Mathlib.Omega.{arith}
@@ -7,8 +7,8 @@ use lib.ListN.{length}
 use Rattle.tape.specs.Sound.{hasKey}
 use Rattle.tape.specs.Decode.{tagAt, membersAt}
 use Rattle.tape.proofs.Scans.{Keyed, key-end, key-here, key-next, member-on}
-use Rattle.tape.proofs.sounding.has_key.Statement.{statement}
-use Rattle.tape.proofs.sounding.has_key.Tie as tie
+use Rattle.tape.proofs.keys.has_key.Statement.{statement}
+use Rattle.tape.proofs.keys.has_key.Tie as tie
 
 abbrev Inv-loop : tie.InvT-loop
 Inv-loop t at key i₀ i = hasKey key (membersAt t i) ≡ hasKey key (membersAt t at)
