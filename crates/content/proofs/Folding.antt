@@ -38,8 +38,8 @@ then {p} {q} {r} {xs} {ys} a b = record {
 }
 
 -- the same text under another name
-pub as-folded : {p q : FoldPen} {xs ys : List ℕ} → xs ≡ ys → Folded p xs q → Folded p ys q
-as-folded e w = rw (← e) w
+pub as-folded : {p q : FoldPen} {xs ys : List ℕ} → Folded p xs q → xs ≡ ys → Folded p ys q
+as-folded w e = rw (← e) w
 
 -- a character has at most four octets
 pub width-most : (c : ℕ) → width c ≤ 4
@@ -104,7 +104,7 @@ one-plain e m w = record { wrote = rw e w; column = rw e m }
 -- a run in safe columns
 pub run-plain : {p q : Pen} {col : ℕ} {xs : List ℕ} → col + length xs + 3 ≤ mostColumns → Wrote p xs q
     → Folded (record { pen = p; column = col }) xs (record { pen = q; column = col + length xs })
-run-plain {p} {q} {col} {xs} h w = let k = plain col xs h in record { wrote = as-text (sym (k .text)) w; column = sym (k .column) }
+run-plain {p} {q} {col} {xs} h w = let k = plain col xs h in record { wrote = as-text w (sym (k .text)); column = sym (k .column) }
 
 -- for loops: to write `rest` from q on is to write `all` from p on
 pub record Leads (p : FoldPen) (all : List ℕ) (q : FoldPen) (rest : List ℕ) : Type 0 where
@@ -114,18 +114,35 @@ pub record Leads (p : FoldPen) (all : List ℕ) (q : FoldPen) (rest : List ℕ) 
 pub leads-start : {p : FoldPen} {all : List ℕ} → Leads p all p all
 leads-start = record { text = refl; column = refl }
 
--- a turn writes xs, and ys is left
-pub leads-on : {p q r : FoldPen} {all rest xs ys : List ℕ} → rest ≡ xs ++ ys → Leads p all q rest → Folded q xs r → Leads p all r ys
-leads-on {p} {q} {r} {all} {rest} {xs} {ys} e k w = record {
-  text = rw (w .wrote .is, w .column, ← (wrote-append (q .pen) (foldFrom (q .column) xs) (foldFrom (columnAfter (q .column) xs) ys)), ← (fold-append (q .column) xs ys), ← e) (k .text);
-  column = rw (w .column, ← (column-append (q .column) xs ys), ← e) (k .column);
+-- the loop begins behind what is written already
+pub leads-behind : {p q : FoldPen} {xs rest : List ℕ} → Folded p xs q → Leads p (xs ++ rest) q rest
+leads-behind {p} {q} {xs} {rest} w = record {
+  text = rw (w .wrote .is, w .column, fold-append (p .column) xs rest) (sym (wrote-append (p .pen) (foldFrom (p .column) xs) (foldFrom (columnAfter (p .column) xs) rest)));
+  column = rw (w .column) (sym (column-append (p .column) xs rest));
 }
 
+-- a turn writes xs, and ys is left
+pub leads-on : {p q r : FoldPen} {all rest xs ys : List ℕ} → Leads p all q rest → Folded q xs r → rest ≡ xs ++ ys → Leads p all r ys
+leads-on {p} {q} {r} {all} {rest} {xs} {ys} k w e =
+    let b = leads-behind {rest = ys} w in
+    record { text = b .text ∙ ap (λ l. wrote (q .pen) (foldFrom (q .column) l)) (sym e) ∙ k .text; column = b .column ∙ ap (columnAfter (q .column)) (sym e) ∙ k .column }
+
+-- a turn writes nothing
+pub leads-same : {p q : FoldPen} {all rest ys : List ℕ} → Leads p all q rest → rest ≡ ys → Leads p all q ys
+leads-same k e = rw (← e) k
+
 -- nothing is left
-pub leads-end : {p q : FoldPen} {all rest : List ℕ} → rest ≡ [] → Leads p all q rest → Folded p all q
-leads-end {p} {q} {all} {rest} e k = record {
+pub leads-end : {p q : FoldPen} {all rest : List ℕ} → Leads p all q rest → rest ≡ [] → Folded p all q
+leads-end {p} {q} {all} {rest} k e = record {
   wrote = record { is = unfold foldFrom wrote in (rw e at (k .text)) };
   column = unfold columnAfter in (rw e at (k .column));
+}
+
+-- the last part is written
+pub leads-last : {p q r : FoldPen} {all rest xs : List ℕ} → Leads p all q rest → Folded q xs r → rest ≡ xs → Folded p all r
+leads-last {p} {q} {r} {all} {rest} {xs} k w e = record {
+  wrote = record { is = w .wrote .is ∙ ap (λ l. wrote (q .pen) (foldFrom (q .column) l)) (sym e) ∙ k .text };
+  column = w .column ∙ ap (columnAfter (q .column)) (sym e) ∙ k .column;
 }
 
 -- lines

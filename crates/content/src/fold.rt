@@ -4,6 +4,7 @@ ghost use mathlib.Core.List.{[], _∷_};
 ghost use Prim.Native.Nat.{_+_, _-_, _≤_, _<_};
 ghost use lib.ListN.{length};
 ghost use Rattle.octets.specs.Basics.{octets};
+ghost use Rattle.octets.specs.Classes.{upper};
 ghost use Rattle.octets.specs.Limits.{mostColumns};
 ghost use Rattle.octets.specs.Pen.{pen, Wrote};
 ghost use Rattle.content.specs.Fold.{width, breaks, nextColumn};
@@ -11,6 +12,7 @@ ghost use Rattle.content.specs.Folding.{folding, Folded};
 use octets::MOST_COLUMNS;
 use octets::put;
 use octets::put_all;
+use octets::upper_octet;
 
 // Where the next octet goes: its place in the buffer and its column in the line. A line begins at column 0.
 pub struct Folder {
@@ -110,6 +112,19 @@ pub fn fold_all(out: &mut [u8], p: Folder, s: &[u8]) -> Folder
             q = fold_octet(out, q, s[i]);
             i += 1;
         }
+    }
+    q
+}
+
+// Writes a slice in uppercase.
+pub fn fold_upper(out: &mut [u8], p: Folder, s: &[u8]) -> Folder
+    ensures { λ r. ⌜ Folded (folding (now (out .entry)) p) (upper (now (s .entry))) (folding (now (out .exit)) r) ⌝ }
+{
+    let mut q = p;
+    let mut i = 0;
+    while i < s.len() {
+        q = fold_octet(out, q, upper_octet(s[i]));
+        i += 1;
     }
     q
 }

@@ -1,14 +1,10 @@
-use mathlib.Core.Path.{sym}
-use Rattle.content.proofs.Folding.{width-most, breaks-never, breaks-by}
 -- `content::fold::breaks` meets its contract.
-use Prim.Native.Nat.{_+_, _-_}
-use mathlib.Core.Path.{_≡_, ap, _∙_}
+use mathlib.Core.Path.{sym, _∙_}
 use native.Mathlib.Omega.{arith}
 use borrow.Author.Needs.{needs}
-use borrow.Author.Tests.{eq-eqb}
 use Rattle.octets.proofs.Limits.{most-columns}
-use Rattle.content.specs.Fold.{width, breaks}
-use Rattle.content.proofs.Folding.{width-most}
+use Rattle.content.specs.Fold.{width}
+use Rattle.content.proofs.Folding.{width-most, breaks-never, breaks-by}
 use Rattle.content.proofs.fold.breaks.Statement.{statement}
 use Rattle.content.proofs.fold.breaks.Tie as tie
 

@@ -1,13 +1,13 @@
 -- `content::fold::fold_all` meets its contract.
-use Rattle.content.proofs.Folding.{Leads, leads-start, leads-on, leads-end}
-use Rattle.content.specs.Folding.{folding}
+use Prim.Native.Nat.{_≤_, _-_}
+use mathlib.Core.Path.{_≡_, refl}
+use native.Mathlib.Omega.{arith}
+use borrow.Author.Needs.{needs}
+use lib.ListN.{length, drop}
 use Rattle.octets.proofs.Positions.{here, ended, part-rest, part-length}
 use Rattle.octets.proofs.Limits.{most-columns}
-use lib.ListN.{length, drop}
-use native.Mathlib.Omega.{arith}
-use mathlib.Core.Path.{_≡_, refl}
-use Prim.Native.Nat.{_≤_, _-_}
-use borrow.Author.Needs.{needs}
+use Rattle.content.specs.Folding.{folding}
+use Rattle.content.proofs.Folding.{Leads, leads-start, leads-on, leads-end}
 use Rattle.content.proofs.fold.fold_all.Statement.{statement}
 use Rattle.content.proofs.fold.fold_all.Tie as tie
 
@@ -39,7 +39,7 @@ loop-less : tie.Need-loop-less Inv-loop μ-loop
 loop-less c = search needs
 
 loop-again : tie.Need-loop-again Inv-loop μ-loop
-loop-again c = (omega arith, omega arith, leads-on (part-rest _ (c .before .before .before .before .before .before .before .before .loop .i) (c .before .before .before .before .before .run-end .result) (omega arith)) (c .before .before .before .before .before .before .before .before .loop .inv .2) (c .before .before .fold-run .ensures))
+loop-again c = (omega arith, omega arith, leads-on (c .before .before .before .before .before .before .before .before .loop .inv .2) (c .before .before .fold-run .ensures) (part-rest _ (c .before .before .before .before .before .before .before .before .loop .i) (c .before .before .before .before .before .run-end .result) (omega arith)))
 
 shared-slice-read-fold-octet : tie.Need-shared-slice-read-fold-octet Inv-loop μ-loop
 shared-slice-read-fold-octet c = search needs
@@ -54,13 +54,13 @@ loop-less-2 : tie.Need-loop-less-2 Inv-loop μ-loop
 loop-less-2 c = search needs
 
 loop-again-2 : tie.Need-loop-again-2 Inv-loop μ-loop
-loop-again-2 c = (omega arith, omega arith, leads-on (here _ _ (c .before .before .before .before .before .before .loop-test .taken)) (c .before .before .before .before .before .before .before .loop .inv .2) (c .before .before .fold-octet .ensures))
+loop-again-2 c = (omega arith, omega arith, leads-on (c .before .before .before .before .before .before .before .loop .inv .2) (c .before .before .fold-octet .ensures) (here _ _ (c .before .before .before .before .before .before .loop-test .taken)))
 
 same-length : tie.Need-same-length Inv-loop μ-loop
 same-length c = search needs
 
 returns : tie.Need-returns Inv-loop μ-loop
-returns c = leads-end (ended _ _ (c .loop-test .left)) (c .before .loop .inv .2)
+returns c = leads-end (c .before .loop .inv .2) (ended _ _ (c .loop-test .left))
 
 pub fold-all-spec : {M : Type 1} → statement M
 fold-all-spec =

@@ -1,9 +1,9 @@
 -- `content::fold::fold_octet` meets its contract.
-use Rattle.content.proofs.Folding.{one-broken, one-plain}
-use Rattle.octets.proofs.Limits.{most-columns}
-use native.Mathlib.Omega.{arith}
 use mathlib.Core.Path.{sym, _∙_}
+use native.Mathlib.Omega.{arith}
 use borrow.Author.Needs.{needs}
+use Rattle.octets.proofs.Limits.{most-columns}
+use Rattle.content.proofs.Folding.{one-broken, one-plain}
 use Rattle.content.proofs.fold.fold_octet.Statement.{statement}
 use Rattle.content.proofs.fold.fold_octet.Tie as tie
 

@@ -1,8 +1,8 @@
 -- `content::fold::fold_run` meets its contract.
-use Rattle.content.proofs.Folding.{run-plain}
-use Rattle.octets.proofs.Limits.{most-columns}
 use native.Mathlib.Omega.{arith}
 use borrow.Author.Needs.{needs}
+use Rattle.octets.proofs.Limits.{most-columns}
+use Rattle.content.proofs.Folding.{run-plain}
 use Rattle.content.proofs.fold.fold_run.Statement.{statement}
 use Rattle.content.proofs.fold.fold_run.Tie as tie
 
