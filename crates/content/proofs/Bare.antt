@@ -1,11 +1,10 @@
 -- Texts cut at separators that stand in no quotes: what is put together with a separator is taken apart again.
 use Prim.Native.Nat.{ℕ}
 use Prim.Native.Char.{code}
-use mathlib.Core.Path.{_≡_, refl, sym, ap, _∙_}
-use mathlib.Core.Bool.{Bool, true, false, not}
+use mathlib.Core.Path.{_≡_, refl}
+use mathlib.Core.Bool.{Bool, true, false}
 use mathlib.Core.List.{List, [], _∷_, _++_}
 use lib.Dec.{eqb}
-use Rattle.octets.specs.Basics.{pick, _and_}
 use Rattle.octets.specs.Pieces.{onto, cut, joined}
 use Rattle.octets.proofs.Cases.{itself, All}
 use Rattle.octets.proofs.Pieces.{Free}

@@ -1,15 +1,14 @@
 -- RFC 6868: what is encoded is decoded again; and what a value is once it is encoded.
-use Prim.Native.Nat.{ℕ, suc, _+_, _-_, _≤_, _<_}
+use Prim.Native.Nat.{ℕ, _+_, _-_, _≤_, _<_}
 use Prim.Native.Char.{code}
 use mathlib.Core.Path.{_≡_, refl, sym, ap, _∙_}
 use mathlib.Core.Bool.{Bool, true, false}
 use mathlib.Core.List.{List, [], _∷_, _++_, append-assoc}
 use native.Mathlib.Nat.{sub-self}
-use native.Mathlib.Omega.{arith}
 use borrow.Author.Tests.{ne-eqb}
 use lib.Dec.{eqb}
 use lib.ListN.{length, getD, take, drop}
-use Rattle.octets.specs.Basics.{octets, pick, _and_, _or_, all, any}
+use Rattle.octets.specs.Basics.{octets, all, any}
 use Rattle.octets.specs.Classes.{isControl, plainOctet, textOctet}
 use Rattle.octets.specs.Utf8.{utf8}
 use Rattle.octets.proofs.Cases.{cases, same?, either, never, apart-not}

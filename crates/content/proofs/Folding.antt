@@ -1,14 +1,14 @@
 -- The laws of the folding pen: two writes are one, where no line is broken, and what a loop has left to write.
-use Prim.Native.Nat.{ℕ, suc, _+_, _-_, min, _≤_, _<_}
+use Prim.Native.Nat.{ℕ, suc, _+_, _-_, min, _≤_}
 use mathlib.Core.Path.{_≡_, refl, sym, ap, _∙_}
-use mathlib.Core.Bool.{Bool, true, false}
+use mathlib.Core.Bool.{true, false}
 use mathlib.Core.List.{List, [], _∷_, _++_, append-assoc}
-use native.Mathlib.Nat.{add-zero, min-eq-left, min-eq-right}
+use native.Mathlib.Nat.{add-zero, min-eq-left}
 use native.Mathlib.Omega.{arith}
 use borrow.Author.Tests.{lt-ltb, le-ltb, ltb-true, ltb-false}
 use lib.Dec.{ltb}
 use lib.ListN.{length}
-use Rattle.octets.specs.Basics.{octets, pick, _and_}
+use Rattle.octets.specs.Basics.{octets}
 use Rattle.octets.specs.Limits.{mostColumns}
 use Rattle.octets.specs.Pen.{Pen, pen, wrote, Wrote}
 use Rattle.octets.proofs.Cases.{cases, and-false-right}

@@ -5,3 +5,6 @@ pub mod Bare
 pub mod Written
 pub mod WrittenForm
 pub mod WrittenClean
+pub mod Unfolded
+pub mod Physical
+pub mod ParamText

@@ -1,12 +1,12 @@
 -- Names in uppercase: they are names still, and those in lowercase come back.
-use Prim.Native.Nat.{ℕ, _+_, _-_, _≤_, _<_}
+use Prim.Native.Nat.{ℕ, _-_}
 use Prim.Native.Char.{code}
-use mathlib.Core.Path.{_≡_, refl, sym, ap, _∙_}
-use mathlib.Core.Bool.{Bool, true, false}
-use mathlib.Core.List.{List, [], _∷_, map}
+use mathlib.Core.Path.{_≡_, refl, ap, _∙_}
+use mathlib.Core.Bool.{true, false}
+use mathlib.Core.List.{List, [], _∷_}
 use native.Mathlib.Omega.{arith}
-use Rattle.octets.specs.Basics.{pick, _and_, _or_, all, filled}
-use Rattle.octets.specs.Classes.{between, isDigit, isUpper, isLower, isLetter, nameOctet, isName, lowerNameOctet, isLowerName, upperOctet, lowerOctet, upper, lower}
+use Rattle.octets.specs.Basics.{_or_, all, filled}
+use Rattle.octets.specs.Classes.{isDigit, isUpper, isLower, isLetter, nameOctet, isName, lowerNameOctet, isLowerName, upperOctet, lowerOctet, upper, lower}
 use borrow.Author.Tests.{eqb-true}
 use lib.Dec.{eqb}
 use Rattle.octets.proofs.Cases.{cases, never, both, either, and-true, all-weaker}

@@ -1,17 +1,17 @@
 -- A content line that is written is read again: its name in uppercase, its parameters and its value.
 use Prim.Native.Nat.{ℕ}
 use Prim.Native.Char.{code}
-use mathlib.Core.Path.{_≡_, refl, sym, ap, _∙_}
+use mathlib.Core.Path.{_≡_, refl, ap, _∙_}
 use mathlib.Core.Bool.{Bool, true, false, false≢true}
 use mathlib.Core.List.{List, [], _∷_, _++_, map, append-nil, append-assoc}
 use lib.Dec.{eqb}
-use Rattle.octets.specs.Basics.{octets, pick, _and_, _or_, all, any, filled}
+use Rattle.octets.specs.Basics.{all, any, filled}
 use Rattle.octets.specs.Pieces.{joined}
-use Rattle.octets.specs.Classes.{between, isDigit, isUpper, isLower, isLetter, nameOctet, isName, lowerNameOctet, isLowerName, upper, lower}
-use Rattle.octets.proofs.Cases.{cases, never, neither, both, apart, apart-not, All, all-All}
+use Rattle.octets.specs.Classes.{between, isDigit, isUpper, isLower, isLetter, nameOctet, isName, isLowerName, upper}
+use Rattle.octets.proofs.Cases.{cases, neither, both, apart, apart-not, All, all-All}
 use Rattle.octets.proofs.Pieces.{Free}
 use Rattle.content.specs.Carets.{decoded, encoded}
-use Rattle.content.specs.Line.{Param, Line, front, unquote, paramValue, before, behind, pieces, paramOf, headed, lineOf}
+use Rattle.content.specs.Line.{Param, front, unquote, paramValue, pieces, paramOf, headed, lineOf}
 use Rattle.content.specs.Write.{asksQuotes, quotedIf, paramValueText, paramText, paramsText, lineText}
 use Rattle.content.proofs.Names.{lower-name, upper-name, lower-upper}
 use Rattle.content.proofs.Encoded.{decoded-encoded, no-quotes, asks-alike}

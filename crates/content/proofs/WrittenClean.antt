@@ -1,17 +1,17 @@
 -- A content line that is written is clean (number 3): UTF-8 without control characters but tab.
-use Prim.Native.Nat.{ℕ, _≤_, _<_}
+use Prim.Native.Nat.{ℕ, _<_}
 use Prim.Native.Char.{code}
-use mathlib.Core.Path.{_≡_, refl, sym, ap, _∙_}
-use mathlib.Core.Bool.{Bool, true, false, not}
+use mathlib.Core.Path.{_≡_, refl, _∙_}
+use mathlib.Core.Bool.{Bool, true, false}
 use mathlib.Core.List.{List, [], _∷_, _++_, map}
 use native.Mathlib.Omega.{arith}
 use borrow.Author.Tests.{le-leb, lt-leb, ne-eqb, eqb-true}
-use lib.Dec.{eqb, leb}
-use Rattle.octets.specs.Basics.{octets, pick, _and_, _or_, all, any, filled}
+use lib.Dec.{eqb}
+use Rattle.octets.specs.Basics.{_or_, all, any, filled}
 use Rattle.octets.specs.Pieces.{joined}
-use Rattle.octets.specs.Classes.{between, isDigit, isUpper, isLower, isLetter, nameOctet, isName, isControl, plainOctet, textOctet, upper}
+use Rattle.octets.specs.Classes.{isDigit, isUpper, isLower, isLetter, nameOctet, isName, isControl, plainOctet, textOctet, upper}
 use Rattle.octets.specs.Utf8.{dueAfter, isStart, utf8, clean}
-use Rattle.octets.proofs.Cases.{cases, both, either, and-true, All, all-weaker}
+use Rattle.octets.proofs.Cases.{both, either, and-true, All, all-weaker}
 use Rattle.octets.proofs.Classes.{between-true}
 use Rattle.octets.proofs.Utf8.{ascii, ascii-utf8, clean-both, clean-cut, clean-upper}
 use Rattle.content.specs.Carets.{encoded}
