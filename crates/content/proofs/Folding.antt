@@ -152,6 +152,9 @@ unfolding textOf
 text-append [] ms = refl
 text-append (l ∷ ls) ms = rw (text-append ls ms, append-assoc)
 
+pub lines-then : {p q r : Pen} (ls ms : List (List ℕ)) → Wrote p (textOf ls) q → Wrote q (textOf ms) r → Wrote p (textOf (ls ++ ms)) r
+lines-then ls ms v w = as-text (wrote-then v w) (sym (text-append ls ms))
+
 -- a line from column 0 on, and its ending
 pub line-ended : {p : Pen} {q : FoldPen} {r : Pen} {l : List ℕ} → Folded (record { pen = p; column = 0 }) l q → Wrote (q .pen) (octets "\r\n") r → Wrote p (textOf (l ∷ [])) r
 unfolding textOf
