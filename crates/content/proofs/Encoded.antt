@@ -3,8 +3,9 @@ use Prim.Native.Nat.{ℕ, _+_, _-_, _≤_, _<_}
 use Prim.Native.Char.{code}
 use mathlib.Core.Path.{_≡_, refl, sym, ap, _∙_}
 use mathlib.Core.Bool.{Bool, true, false}
-use mathlib.Core.List.{List, [], _∷_, _++_, append-assoc}
+use mathlib.Core.List.{List, [], _∷_, _++_, append-assoc, append-nil}
 use native.Mathlib.Nat.{sub-self}
+use native.Mathlib.Omega.{arith}
 use borrow.Author.Tests.{ne-eqb}
 use lib.Dec.{eqb}
 use lib.ListN.{length, getD, take, drop}
@@ -13,7 +14,7 @@ use Rattle.octets.specs.Classes.{isControl, plainOctet, textOctet}
 use Rattle.octets.specs.Utf8.{utf8}
 use Rattle.octets.proofs.Cases.{cases, same?, either, never, apart-not}
 use Rattle.octets.proofs.Pieces.{Free}
-use Rattle.octets.proofs.Positions.{here, ended, part-more}
+use Rattle.octets.proofs.Positions.{here, ended, part-more, from}
 use Rattle.octets.proofs.Utf8.{ascii}
 use Rattle.octets.proofs.Transducer.{Runs, Keeps, run-all, run-utf8}
 use Rattle.content.specs.Carets.{decodedOctet, caretAfter, decodedFrom, decoded, encodedOctet, encoded}
@@ -56,6 +57,10 @@ module _ (v : List ℕ) where
 
   pub plain-more : (i r : ℕ) → i ≤ r → r < length v → encodedOctet (getD v r 0) ≡ getD v r 0 ∷ [] → Plain i r → Plain i (r + 1)
   plain-more i r h k e p = p ∙ rw (encoded-here r k, e, part-more v i r h k) (sym (append-assoc (take (r - i) (drop i v)) (getD v r 0 ∷ []) (encoded (drop (r + 1) v))))
+
+  -- nothing is encoded at all
+  pub plain-whole : Plain 0 (length v) → encoded v ≡ v
+  plain-whole p = p ∙ rw (encoded-ended (length v) (omega arith), from v 0) (append-nil v)
 
 -- no double quote is left, and quotes are asked for as before
 pub no-quotes : (v : List ℕ) → Free (code "\"") (encoded v)

@@ -97,7 +97,7 @@ pub fn begin_param(out: &mut [u8], p: Folder, name: &[u8]) -> Folder
     fold_octet(out, b, b'=')
 }
 
-// Writes the first value of a parameter.
+// Writes the first value of a parameter; one that needs neither quotes nor carets is written whole.
 pub fn write_param_value(out: &mut [u8], p: Folder, v: &[u8]) -> Folder
     ensures { λ r. ⌜ Folded (folding (now (out .entry)) p) (paramValueText (now (v .entry))) (folding (now (out .exit)) r) ⌝ }
 {
@@ -105,6 +105,9 @@ pub fn write_param_value(out: &mut [u8], p: Folder, v: &[u8]) -> Folder
         let a = fold_octet(out, p, b'"');
         let b = fold_encoded(out, a, v);
         return fold_octet(out, b, b'"');
+    }
+    if plain_end(v, 0) == v.len() {
+        return fold_all(out, p, v);
     }
     fold_encoded(out, p, v)
 }
