@@ -6,3 +6,5 @@ pub mod Slots
 pub mod Numbers
 pub mod Fixed
 pub mod Hours
+pub mod Phases
+pub mod Periods
