@@ -8,3 +8,4 @@ pub mod Fixed
 pub mod Hours
 pub mod Phases
 pub mod Periods
+pub mod Readback

@@ -4,7 +4,7 @@ use Prim.Native.Char.{code}
 use mathlib.Core.Path.{_≡_, refl, sym, ap, _∙_}
 use mathlib.Core.Bool.{Bool, true, false, not}
 use mathlib.Core.Logic.{_⊎_, inl, inr, ⊎-elim}
-use mathlib.Core.List.{List, []}
+use mathlib.Core.List.{List, [], _∷_}
 use native.Mathlib.Omega.{arith}
 use borrow.Author.Tests.{eqb-true, ne-eqb, not-true}
 use lib.Dec.{eqb}
@@ -12,7 +12,7 @@ use lib.ListN.{length, getD, drop}
 use Rattle.octets.specs.Basics.{octets, pick, _or_}
 use Rattle.octets.specs.Classes.{between, isDigit, upperOctet, upper}
 use Rattle.octets.specs.Decimal.{isSign}
-use Rattle.octets.proofs.Cases.{cases, same?, either, neither, apart, or-false}
+use Rattle.octets.proofs.Cases.{cases, same?, never, either, apart, apart-not}
 use Rattle.octets.proofs.Positions.{here, ended}
 use Rattle.calendar.specs.Durations.{Span, start, signed, afterP, dayDigits, days, afterT, timeDigits, hours, minuteDigits, minutes, secondDigits, finished, wrong, span, spanAfter, mayEnd}
 use Rattle.calendar.specs.Phases.{phases, phaseAt, classOf}
@@ -186,3 +186,34 @@ module _ (s : List ℕ) where
   pub arrives : (p i : ℕ) → length s ≤ i → Passing s p i → phaseAt p ≡ spanAfter start (upper s)
   unfolding upper spanAfter
   arrives p i h f = rw (ended s i h) at (f .all)
+
+-- an octet that no test takes ends in no duration
+pub wrong-stays : (s : List ℕ) → spanAfter wrong s ≡ wrong
+unfolding spanAfter span
+wrong-stays [] = refl
+wrong-stays (c ∷ s) = wrong-stays s
+
+all-false : (q : Span) → spanBy q false false false false false false false false false ≡ wrong
+unfolding spanBy
+all-false start = refl
+all-false signed = refl
+all-false afterP = refl
+all-false dayDigits = refl
+all-false days = refl
+all-false afterT = refl
+all-false timeDigits = refl
+all-false hours = refl
+all-false minuteDigits = refl
+all-false minutes = refl
+all-false secondDigits = refl
+all-false finished = refl
+all-false wrong = refl
+
+pub no-octet : (q : Span) (c : ℕ) (p : ℕ → Bool) → p c ≡ false → (isDigit c ≡ true → p c ≡ true) → ((k : ℕ) → between (code "+") (code "W") k ≡ true → p k ≡ true) → span q c ≡ wrong
+unfolding tested isSign
+no-octet q c p n d l =
+    let g : isDigit c ≡ false = cases (isDigit c) (λ e. never (d e) n) (λ e. e) in
+    let m : (k : ℕ) → between (code "+") (code "W") k ≡ true → eqb c k ≡ false = λ k h. apart-not p c k n (l k h) in
+    by-tests q c
+    ∙ rw (g, m (code "+") (unfold between in refl), m (code "-") (unfold between in refl), m (code "P") (unfold between in refl), m (code "T") (unfold between in refl), m (code "D") (unfold between in refl), m (code "W") (unfold between in refl), m (code "H") (unfold between in refl), m (code "M") (unfold between in refl), m (code "S") (unfold between in refl))
+    (all-false q)
