@@ -1,4 +1,6 @@
 // Dates, moments, durations and recurrence rules.
 pub mod dates;
+pub mod durations;
 pub mod moments;
 pub mod rules;
+pub mod texts;

@@ -1,0 +1,11 @@
+pub mod Ranges
+pub mod Days
+pub mod Back
+pub mod Inverse
+pub mod Slots
+pub mod Numbers
+pub mod Fixed
+pub mod Hours
+pub mod Phases
+pub mod Periods
+pub mod Readback
