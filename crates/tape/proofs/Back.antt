@@ -16,7 +16,7 @@ use Rattle.tape.specs.Decode.{Groups, last, group, top, push, paired, va
 use Rattle.tape.specs.Scan.{soundHere, soundAlong, soundTape}
 use Rattle.tape.proofs.Fine.{Clean, clean-end, clean, Fine, f-null, f-false, f-true, f-num, f-str, f-arr, f-obj, FineItems, f-none, f-item, FineMembers, f-empty, f-member}
 use Rattle.tape.proofs.Tags.{Shows}
-use Rattle.tape.proofs.Values.{shown}
+use Rattle.tape.proofs.Values.{shown, string-octets}
 
 -- a text and what stands behind it
 text-back : {t : List ℕ} → Clean t → (r : List ℕ) → text (serText t ++ r) ≡ t
@@ -37,7 +37,7 @@ flat (member k j ms) = item (str k) (item j (flat ms))
 flat-paired : (ms : Members) → paired (flat ms) ≡ ms
 unfolding paired
 flat-paired noMembers = refl
-flat-paired (member k j ms) = rw (flat-paired ms)
+flat-paired (member k j ms) = rw (flat-paired ms, string-octets k)
 
 mutual
   unfolding ser groups inText

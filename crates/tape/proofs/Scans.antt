@@ -10,10 +10,10 @@ use lib.ListN.{length, take, drop, getD, drop-of-length-le}
 use lib.Seq.{drop-drop}
 use Rattle.octets.specs.Basics.{pick, _and_, _or_, same}
 use Rattle.octets.proofs.Cases.{cases, and-false-right}
-use Rattle.json.specs.Tree.{Json, Members, noMembers, member}
+use Rattle.json.specs.Tree.{Json, Members, noMembers, member, octetsOf}
 use Rattle.json.specs.Tape.{tagNumber, tagString, tagObject, tagEnd}
 use Rattle.tape.specs.Sound.{hasLone, hasKey, distinctKeys}
-use Rattle.tape.specs.Decode.{octetsOf, inText, view, tagAt, textAt, valueAt, itemsAt, membersAt, text}
+use Rattle.tape.specs.Decode.{inText, view, tagAt, textAt, valueAt, itemsAt, membersAt, text}
 use Rattle.tape.specs.Promise.{After, Next, TextAt}
 use Rattle.tape.specs.Scan.{soundHere, soundAlong, soundFrom, soundTape, PastString, Scans}
 use Rattle.tape.specs.declared.Text.{Text}

@@ -12,10 +12,10 @@ use Rattle.octets.specs.Basics.{pick, _and_, _or_, same}
 use Rattle.octets.proofs.Cases.{cases, same?, never, both, or-first, or-second, either, neither}
 use Rattle.octets.proofs.Classes.{same-itself, same-is}
 use Rattle.octets.proofs.Positions.{here, ended}
-use Rattle.json.specs.Tree.{Json, Members, noMembers, member}
+use Rattle.json.specs.Tree.{Json, Members, noMembers, member, octetsOf}
 use Rattle.json.specs.Tape.{tagEnd}
 use Rattle.tape.specs.Sound.{hasKey, distinctKeys}
-use Rattle.tape.specs.Decode.{octetsOf, valueAt, tagAt, membersAt}
+use Rattle.tape.specs.Decode.{valueAt, tagAt, membersAt}
 use Rattle.tape.specs.Slots.{slotFrom, slotOf, stands, inTable, Blank, FreeAt, Probes}
 use Rattle.tape.specs.declared.Text.{Text}
 use Rattle.tape.specs.declared.keys.Probed.the-variants.{There, Free, Full}
