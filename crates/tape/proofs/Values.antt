@@ -8,7 +8,8 @@ use mathlib.Core.Option.{Option, none, some}
 use native.Mathlib.Omega.{arith}
 use borrow.Author.Tests.{ne-eqb}
 use lib.Dec.{eqb}
-use lib.ListN.{length, drop}
+use lib.ListN.{length, drop, getD}
+use lib.Seq.{drop-nil}
 use Rattle.octets.specs.Basics.{pick}
 use Rattle.octets.specs.Optional.{given}
 use Rattle.octets.proofs.Cases.{cases, same?}
@@ -272,6 +273,35 @@ items-next {t} {i} x n = items-first t i n ∙ rw (others-next x)
 pub list-next : {t : List ℕ} {i e : ℕ} → Next t i e → ((tagAt t i ≡ tagEnd) → ⊥) → listAt t i ≡ valueAt t i ∷ listAt t e
 unfolding listAt listOf
 list-next x n = ap listOf (items-next x n)
+
+-- the values by their number, and those behind some of them, also where there are fewer
+head-of : (js : Items) → getD (listOf js) 0 null ≡ first js
+unfolding listOf
+head-of noItems = refl
+head-of (item j js) = refl
+
+tail-of : (n : ℕ) (js : Items) → getD (listOf js) (suc n) null ≡ getD (listOf (others js)) n null
+unfolding listOf
+tail-of n noItems = refl
+tail-of n (item j js) = refl
+
+behind-of : (n : ℕ) (js : Items) → drop (suc n) (listOf js) ≡ drop n (listOf (others js))
+unfolding listOf
+behind-of n noItems = sym (drop-nil n)
+behind-of n (item j js) = refl
+
+pub list-head : (t : List ℕ) (i : ℕ) → getD (listAt t i) 0 null ≡ valueAt t i
+unfolding listAt itemsAt valueAt
+list-head t i = head-of _
+
+module _ {t : List ℕ} {i e : ℕ} (x : Next t i e) (n : ℕ) where
+  pub list-tail : getD (listAt t i) (suc n) null ≡ getD (listAt t e) n null
+  unfolding listAt
+  list-tail = tail-of n (itemsAt t i) ∙ rw (others-next x)
+
+  pub list-behind : drop (suc n) (listAt t i) ≡ drop n (listAt t e)
+  unfolding listAt
+  list-behind = behind-of n (itemsAt t i) ∙ rw (others-next x)
 
 -- a key stands at i and its value at n; where the value is passed, the other members stand from e on
 valued-is : (js : Items) (k : List ℕ) → valued js k ≡ member k (first js) (paired (others js))

@@ -8,10 +8,10 @@ use native.Mathlib.Numerals.{add-one}
 use native.Mathlib.Omega.{arith}
 use borrow.Author.Tests.{eqb-true, eqb-false}
 use lib.Dec.{eqb}
-use lib.ListN.{length, drop}
+use lib.ListN.{length, drop, getD}
 use Rattle.octets.specs.Optional.{given}
 use Rattle.octets.proofs.Cases.{cases}
-use Rattle.json.specs.Tree.{Json, arr, obj, Items, noItems, item, array?, object?, octetsOf, elements, members}
+use Rattle.json.specs.Tree.{Json, null, arr, obj, Items, noItems, item, array?, object?, octetsOf, elements, element, members}
 use Rattle.json.specs.Tape.{tagNumber, tagString, tagArray, tagObject, tagEnd}
 use Rattle.tape.specs.Decode.{Groups, last, group, others, top, pop, push, skip, leaf, view, tagAt, textAt, valueAt, itemsAt, listAt, membersAt}
 use Rattle.tape.specs.Promise.{After, Leaf, Next, Left, TextAt}
@@ -94,6 +94,10 @@ module _ {t : List ℕ} {i a : ℕ} (x : After t i a) where
   pub elements-inside : tagAt t i ≡ tagArray → elements (valueAt t i) ≡ listAt t a
   unfolding elements given listAt
   elements-inside q = rw (array-some q)
+
+  pub element-inside : tagAt t i ≡ tagArray → (n : ℕ) → element n (valueAt t i) ≡ getD (listAt t a) n null
+  unfolding element
+  element-inside q n = rw (elements-inside q)
 
   pub members-inside : tagAt t i ≡ tagObject → members (valueAt t i) ≡ membersAt t a
   unfolding members given
