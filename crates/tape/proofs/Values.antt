@@ -1,21 +1,20 @@
 -- The value at a place, by its tag, and the values and members from a place on.
-use Prim.Native.Nat.{ℕ, zero, suc, _+_, _-_, _≤_, _<_}
+use Prim.Native.Nat.{ℕ, suc, _+_}
 use mathlib.Core.Path.{_≡_, refl, sym, ap, _∙_}
-use mathlib.Core.Bool.{Bool, true, false}
+use mathlib.Core.Bool.{true, false}
 use mathlib.Core.Logic.{_⊎_, inl, inr, ⊎-elim}
 use mathlib.Core.List.{List, [], _∷_}
-use mathlib.Core.Option.{Option, none, some}
+use mathlib.Core.Option.{none, some}
 use native.Mathlib.Omega.{arith}
 use borrow.Author.Tests.{ne-eqb}
 use lib.Dec.{eqb}
-use lib.ListN.{length, drop, getD}
+use lib.ListN.{drop, getD}
 use lib.Seq.{drop-nil}
-use Rattle.octets.specs.Basics.{pick}
 use Rattle.octets.specs.Optional.{given}
-use Rattle.octets.proofs.Cases.{cases, same?}
-use Rattle.json.specs.Tree.{Json, null, falsity, truth, num, str, arr, obj, Items, noItems, item, Members, noMembers, member, string?, number?, boolean?, array?, object?, listOf, octetsOf, elements, members}
+use Rattle.octets.proofs.Cases.{same?}
+use Rattle.json.specs.Tree.{Json, null, falsity, truth, num, str, arr, obj, Items, noItems, item, noMembers, member, string?, number?, boolean?, array?, object?, listOf, octetsOf, elements, members}
 use Rattle.json.specs.Tape.{tagNull, tagFalse, tagTrue, tagNumber, tagString, tagArray, tagObject, tagEnd}
-use Rattle.tape.specs.Decode.{Groups, last, group, first, others, paired, valued, top, pop, push, skip, leaf, inText, onto, groups, view, tagAt, textAt, valueAt, itemsAt, listAt, membersAt}
+use Rattle.tape.specs.Decode.{Groups, last, group, first, others, paired, valued, top, pop, push, skip, leaf, onto, view, tagAt, textAt, valueAt, itemsAt, listAt, membersAt}
 use Rattle.tape.specs.Promise.{Next}
 use Rattle.tape.proofs.Tags.{on-or-past, on-tape, past-view, on-view, Shows, at-array, at-object, at-number, at-string, at-other, end-top}
 

@@ -8,12 +8,12 @@ use native.Mathlib.Numerals.{add-one}
 use native.Mathlib.Omega.{arith}
 use borrow.Author.Tests.{eqb-true, eqb-false}
 use lib.Dec.{eqb}
-use lib.ListN.{length, drop, getD}
+use lib.ListN.{length, getD}
 use Rattle.octets.specs.Optional.{given}
 use Rattle.octets.proofs.Cases.{cases}
-use Rattle.json.specs.Tree.{Json, null, arr, obj, Items, noItems, item, array?, object?, octetsOf, elements, element, members}
+use Rattle.json.specs.Tree.{Json, null, arr, obj, Items, noItems, array?, object?, octetsOf, elements, element, members}
 use Rattle.json.specs.Tape.{tagNumber, tagString, tagArray, tagObject, tagEnd}
-use Rattle.tape.specs.Decode.{Groups, last, group, others, top, pop, push, skip, leaf, view, tagAt, textAt, valueAt, itemsAt, listAt, membersAt}
+use Rattle.tape.specs.Decode.{Groups, last, group, others, top, pop, skip, view, tagAt, textAt, valueAt, itemsAt, listAt, membersAt}
 use Rattle.tape.specs.Promise.{After, Leaf, Next, Left, TextAt}
 use Rattle.tape.proofs.Tags.{on-tape, past-tag, past-view, Shows, at-array, at-object, at-number, at-string, at-other, end-pop, end-top, text-part, text-within}
 use Rattle.tape.proofs.Values.{skip-push, pop-push, pop-skip, array-is, object-is, number-text, string-text, no-text, list-end, list-next}
