@@ -1,0 +1,7 @@
+pub mod Lines
+pub mod Form
+pub mod Carets
+pub mod Line
+pub mod Parameters
+pub mod Write
+pub mod Fold

@@ -1,0 +1,1 @@
+// iCalendar text: lines, content lines, parameters, folding.

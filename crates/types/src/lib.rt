@@ -1,0 +1,1 @@
+// The table of types: the default rows and those of rows.hex.
