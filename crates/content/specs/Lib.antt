@@ -1,4 +1,5 @@
 pub mod Lines
+pub mod Buffer
 pub mod Form
 pub mod Carets
 pub mod Line

@@ -1,1 +1,5 @@
 // iCalendar text: lines, content lines, parameters, folding.
+mod lines;
+
+pub use lines::line_end;
+pub use lines::unfold;
