@@ -1,2 +1,4 @@
+pub mod Scanning
 pub mod Buffer
 pub mod Unfolding
+pub mod CleanLines

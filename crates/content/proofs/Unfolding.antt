@@ -5,17 +5,22 @@ use mathlib.Core.Path.{_≡_, refl, sym, ap, _∙_}
 use mathlib.Core.Bool.{Bool, true, false}
 use mathlib.Core.List.{List, [], _∷_, _++_, append-nil, append-assoc}
 use native.Mathlib.Omega.{arith}
-use borrow.Author.Tests.{ltb-true, ltb-false}
+use borrow.Author.Tests.{eqb-true, ltb-true, ltb-false}
 use lib.Dec.{eqb, ltb}
 use lib.ListN.{length, getD, take, drop, length-drop}
 use lib.Seq.{drop-drop}
 use Rattle.octets.specs.Basics.{pick, _and_, _or_, filled}
 use Rattle.octets.specs.Pieces.{onto}
-use Rattle.octets.proofs.Cases.{cases, and-false-right, or-false-right, or-true-right}
+use Rattle.octets.specs.Pen.{pen, Wrote}
+use Rattle.octets.proofs.Cases.{cases, All, and-false-right, or-false-right, or-true-right}
+use Rattle.octets.proofs.Pen.{kept, landed}
+use Rattle.octets.proofs.Pieces.{Free}
 use Rattle.octets.proofs.Positions.{here, ended, part-more, part-length, first-of}
 use Rattle.content.specs.Lines.{endingOf, isBlank, Mark, octet, ending, fold, markOf, marked, linesFrom, linesOf, laidOut}
-use Rattle.content.specs.Buffer.{firstLine}
-use Rattle.content.proofs.Buffer.{NoLf, first-no, first-split, first-whole, line-is, line-low}
+use Rattle.content.specs.Scan.{until}
+use Rattle.content.specs.Buffer.{isLf, linesIn}
+use Rattle.content.proofs.Scanning.{until-free, scan-low, scan-is, scan-stop, scan-split, scan-whole}
+use Rattle.content.proofs.Buffer.{lines-again}
 
 -- octets in front of the first line
 ontoAll : List ℕ → List (List ℕ) → List (List ℕ)
@@ -72,7 +77,7 @@ run-one c t e = cases (eqb c (code "\r"))
     (λ f. rw f (run-octet c (code "\n" ∷ t) (plain-mark c (code "\n" ∷ t) e (rw f)) ∙ ap (onto c) (run-none t)))
 
 -- a run of octets up to an LF
-run-lf : (f t : List ℕ) → NoLf f → linesFrom 0 (f ++ code "\n" ∷ t) ≡ ontoAll (withoutCr f) (behindLf t)
+run-lf : (f t : List ℕ) → Free (code "\n") f → linesFrom 0 (f ++ code "\n" ∷ t) ≡ ontoAll (withoutCr f) (behindLf t)
 unfolding withoutCr ontoAll
 run-lf [] t n = run-none t
 run-lf (c ∷ []) t n = run-one c t (n .0)
@@ -81,11 +86,11 @@ run-lf (c ∷ d ∷ f) t n =
     ∙ ap (onto c) (run-lf (d ∷ f) t (n .1))
 
 -- a run of octets up to the end of the text
-not-lf : (s : List ℕ) → NoLf s → eqb (getD s 0 0) (code "\n") ≡ false
+not-lf : (s : List ℕ) → Free (code "\n") s → eqb (getD s 0 0) (code "\n") ≡ false
 not-lf [] n = refl
 not-lf (c ∷ s) n = n .0
 
-run-end : (s : List ℕ) → NoLf s → linesFrom 0 s ≡ ontoAll s []
+run-end : (s : List ℕ) → Free (code "\n") s → linesFrom 0 s ≡ ontoAll s []
 unfolding linesFrom ontoAll
 run-end [] n = refl
 run-end (c ∷ s) n =
@@ -177,27 +182,25 @@ part-filled s i k h l = cases (ltb i k)
     some (c ∷ t) g = refl
 
 -- One turn: the run from i to e goes into its line. What stands behind the LF, or at the end of the text?
-module _ (s : List ℕ) (b : Bool) (i e : ℕ) (q : e ≡ i + length (firstLine (drop i s))) where
+module _ (s : List ℕ) (b : Bool) (i e : ℕ) (q : e ≡ i + length (until isLf (drop i s))) where
   pub turn-last : i < length s → length s ≤ e → laidFrom b (linesFrom 0 (drop i s)) ≡ take (e - i) (drop i s) ++ code "\n" ∷ []
   unfolding laidFrom filled
   turn-last h l =
-      let w : firstLine (drop i s) ≡ drop i s = first-whole (drop i s) (rw (length-drop i s) (omega arith)) in
+      let w : until isLf (drop i s) ≡ drop i s = scan-whole isLf s i e q l in
       let f : filled (drop i s) ≡ true = rw (here s i h) in
-      rw (line-is s i e q, w) (ap (laidFrom b) (run-end (drop i s) (rw w at (first-no (drop i s)))) ∙ laid-all b (drop i s) [] ∙ rw (f, or-true-right b))
+      rw (scan-is isLf s i e q, w) (ap (laidFrom b) (run-end (drop i s) (rw w at (until-free isLf (drop i s)))) ∙ laid-all b (drop i s) [] ∙ rw (f, or-true-right b))
 
   behind-run : e < length s → linesFrom 0 (drop i s) ≡ ontoAll (take (trimTo s i e - i) (drop i s)) (behindLf (drop (e + 1) s))
   behind-run l =
-      let n : i + suc (length (firstLine (drop i s))) ≡ e + 1 = omega arith in
-      let g : length (firstLine (drop i s)) < length (drop i s) = rw (length-drop i s) (omega arith) in
-      ap (linesFrom 0) (first-split (drop i s) g)
-      ∙ run-lf (firstLine (drop i s)) _ (first-no (drop i s))
-      ∙ rw (drop-drop, n, ← line-is s i e q, trim-is s i e (line-low s i e q) (omega arith))
+      let c : getD s e 0 ≡ code "\n" = eqb-true (getD s e 0) (code "\n") (scan-stop isLf s i e q l) in
+      ap (linesFrom 0) (scan-split isLf s i e q l)
+      ∙ rw (c, run-lf (until isLf (drop i s)) (drop (e + 1) s) (until-free isLf (drop i s)), ← scan-is isLf s i e q, trim-is s i e (scan-low isLf s i e q) (omega arith))
 
   -- the run's octets in front of what an LF makes
   run-on : e < length s → laidFrom b (linesFrom 0 (drop i s))
       ≡ take (trimTo s i e - i) (drop i s) ++ laidFrom (b or ltb i (trimTo s i e)) (behindLf (drop (e + 1) s))
   run-on l =
-      let g = line-low s i e q in
+      let g = scan-low isLf s i e q in
       let n : trimTo s i e ≤ length s = omega (arith, trim-high s i e g (omega arith)) in
       let w : e ≤ length s = omega arith in
       ap (laidFrom b) (behind-run l) ∙ laid-all b _ _ ∙ rw (part-filled s i (trimTo s i e) (trim-low s i e g w) n)
@@ -223,3 +226,71 @@ turn-none s false i h = rw (ended s i h)
 pub laid-start : (s : List ℕ) → laidFrom false (linesFrom 0 (drop 0 s)) ≡ laidOut (linesOf s)
 unfolding linesOf
 laid-start s = laid-fresh (linesFrom 0 s)
+
+-- no LF in a line of a text
+free-onto : (c : ℕ) (ls : List (List ℕ)) → eqb c (code "\n") ≡ false → All (Free (code "\n")) ls → All (Free (code "\n")) (onto c ls)
+unfolding onto
+free-onto c [] e h = ((e, tt), tt)
+free-onto c (l ∷ ls) e h = ((e, h .0), h .1)
+
+lf-mark : (c : ℕ) (s : List ℕ) → eqb c (code "\n") ≡ true → markOf (c ∷ s) ≡ pick (isBlank (getD s 0 0)) (fold 1) (ending 0)
+unfolding markOf endingOf
+lf-mark c s e = rw e
+
+free-marked : (m : Mark) (c : ℕ) (s : List ℕ) → (m ≡ octet → eqb c (code "\n") ≡ false) → ((k : ℕ) → All (Free (code "\n")) (linesFrom k s))
+    → All (Free (code "\n")) (marked m c (λ k. linesFrom k s))
+unfolding marked
+free-marked octet c s f h = free-onto c (linesFrom 0 s) (f refl) (h 0)
+free-marked (ending k) c s f h = (tt, h k)
+free-marked (fold k) c s f h = h k
+
+no-octet : (b : Bool) → pick b (fold 1) (ending 0) ≡ octet → ⊥
+no-octet true e = let z : _≡_ {A = ℕ} 0 1 = cc in omega arith
+no-octet false e = let z : _≡_ {A = ℕ} 0 1 = cc in omega arith
+
+octet-free : (c : ℕ) (s : List ℕ) → markOf (c ∷ s) ≡ octet → eqb c (code "\n") ≡ false
+octet-free c s q = cases (eqb c (code "\n")) (λ e. absurd (no-octet (isBlank (getD s 0 0)) (sym (lf-mark c s e) ∙ q))) (λ e. e)
+
+free-from : (k : ℕ) (s : List ℕ) → All (Free (code "\n")) (linesFrom k s)
+unfolding linesFrom
+free-from k [] = tt
+free-from (suc k) (c ∷ s) = free-from k s
+free-from zero (c ∷ s) = free-marked (markOf (c ∷ s)) c s (octet-free c s) (λ k. free-from k s)
+
+pub lines-free : (s : List ℕ) → All (Free (code "\n")) (linesOf s)
+unfolding linesOf
+lines-free s = free-from 0 s
+
+-- the lines laid out are at most an octet longer than the text
+short-by : (m : Mark) (b : Bool) (c : ℕ) (s : List ℕ) → ((a : Bool) (k : ℕ) → length (laidFrom a (linesFrom k s)) ≤ length s + 1)
+    → length (laidFrom b (marked m c (λ k. linesFrom k s))) ≤ suc (length s) + 1
+unfolding marked
+short-by octet b c s h = rw (laid-one b c (linesFrom 0 s)) (omega (arith, h true 0))
+short-by (ending k) b c s h = rw (laid-lf b (linesFrom k s)) (omega (arith, h false k))
+short-by (fold k) b c s h = omega (arith, h b k)
+
+short : (b : Bool) (k : ℕ) (s : List ℕ) → length (laidFrom b (linesFrom k s)) ≤ length s + 1
+unfolding linesFrom laidFrom
+short true k [] = omega arith
+short false k [] = omega arith
+short b (suc k) (c ∷ s) = omega (arith, short b k s)
+short b zero (c ∷ s) = short-by (markOf (c ∷ s)) b c s (λ a k. short a k s)
+
+pub laid-short : (s : List ℕ) → length (laidOut (linesOf s)) ≤ length s + 1
+unfolding linesOf
+laid-short s = rw (← laid-fresh (linesFrom 0 s)) (short false 0 s)
+
+-- what `unfold` leaves in a buffer that is longer than the text
+pub record Unfolded (s b : List ℕ) (r : ℕ) : Type 0 where
+  pub within : r ≤ length b
+  pub laid : take r b ≡ laidOut (linesOf s)
+  pub lines : linesIn (take r b) ≡ linesOf s
+
+pub unfolded : (s o b : List ℕ) (r : ℕ) → length s < length o → Wrote (pen o 0) (laidOut (linesOf s)) (pen b r) → Unfolded s b r
+unfolded s o b r h w =
+    let l = landed o (laidOut (linesOf s)) b r (omega (arith, laid-short s)) w in
+    record {
+      within = omega (arith, l .count, kept w, laid-short s);
+      laid = l .front;
+      lines = ap linesIn (l .front) ∙ lines-again (linesOf s) (lines-free s);
+    }

@@ -1,8 +1,9 @@
 pub mod Lines
-pub mod Buffer
 pub mod Form
 pub mod Carets
 pub mod Line
+pub mod Scan
+pub mod Buffer
 pub mod Parameters
 pub mod Write
 pub mod Fold

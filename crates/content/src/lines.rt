@@ -6,22 +6,17 @@ ghost use lib.ListN.{length, getD, drop};
 ghost use Rattle.octets.specs.Basics.{pick, _and_, _or_};
 ghost use Rattle.octets.specs.Pen.{pen, Wrote};
 ghost use Rattle.content.specs.Lines.{linesOf, laidOut, isBlank};
-ghost use Rattle.content.specs.Buffer.{firstLine};
+ghost use Rattle.content.specs.Scan.{until};
+ghost use Rattle.content.specs.Buffer.{isLf};
+use crate::scan::find;
 use octets::put;
 use octets::put_all;
 
 // The place of the LF that ends the line at `at`, or the end of the buffer.
 pub fn line_end(buf: &[u8], at: usize) -> usize
-    ensures { λ r. ⌜ r ≡ at + length (firstLine (drop at (now (buf .entry)))) ⌝ }
+    ensures { λ r. ⌜ r ≡ at + length (until isLf (drop at (now (buf .entry)))) ⌝ }
 {
-    let mut i = at;
-    while i < buf.len() {
-        if buf[i] == b'\n' {
-            return i;
-        }
-        i += 1;
-    }
-    i
+    find(buf, at, b'\n')
 }
 
 // Where the octets of a line end that run from `i` to the LF at `e`: a CR before the LF belongs to the ending.

@@ -1,6 +1,7 @@
 -- `content::lines::unfold` meets its contract.
 use Rattle.content.proofs.Unfolding.{laidFrom, laid-start, trim-within, turn-last, turn-fold, turn-end, turn-none}
-use Rattle.content.proofs.Buffer.{line-low, line-high}
+use Rattle.content.proofs.Scanning.{scan-low, scan-high}
+use Rattle.content.specs.Buffer.{isLf}
 use Rattle.content.specs.Lines.{linesFrom, linesOf, laidOut}
 use Rattle.octets.proofs.Pen.{Leads, leads-start, leads-on, leads-last, leads-end, then}
 use Rattle.octets.specs.Pen.{pen}
@@ -28,10 +29,10 @@ sub-put-all : tie.Need-sub-put-all Inv-loop μ-loop
 sub-put-all c = search needs
 
 part-put-all-start : tie.Need-part-put-all-start Inv-loop μ-loop
-part-put-all-start c = line-low (c .before .before .before .before .before .before .before .args .text .now) (c .before .before .before .before .loop .i) _ (c .before .before .line-end .ensures)
+part-put-all-start c = scan-low isLf (c .before .before .before .before .before .before .before .args .text .now) (c .before .before .before .before .loop .i) _ (c .before .before .line-end .ensures)
 
 part-put-all-end : tie.Need-part-put-all-end Inv-loop μ-loop
-part-put-all-end c = line-high (c .before .before .before .before .before .before .before .args .text .now) (c .before .before .before .before .loop .i) _ (c .before .before .line-end .ensures) (omega arith)
+part-put-all-end c = scan-high isLf (c .before .before .before .before .before .before .before .args .text .now) (c .before .before .before .before .loop .i) _ (c .before .before .line-end .ensures) (omega arith)
 
 put-all-requires : tie.Need-put-all-requires Inv-loop μ-loop
 put-all-requires c κs = search needs
@@ -43,19 +44,19 @@ same-length : tie.Need-same-length Inv-loop μ-loop
 same-length c = search needs
 
 returns : tie.Need-returns Inv-loop μ-loop
-returns c = leads-last (turn-last (c .before .before .before .before .before .before .before .before .before .before .before .before .before .before .before .args .text .now) (c .before .before .before .before .before .before .before .before .before .before .before .before .loop .begun) (c .before .before .before .before .before .before .before .before .before .before .before .before .loop .i) (c .before .before .before .before .before .before .before .before .before .before .line-end .result) (c .before .before .before .before .before .before .before .before .before .before .line-end .ensures) (c .before .before .before .before .before .before .before .before .before .before .before .loop-test .taken) (c .before .before .before .before .before .before .before .before .before .if1 .taken)) (c .before .before .before .before .before .before .before .before .before .before .before .before .loop .inv .1) (then (c .before .before .before .before .before .before .put-all .ensures) (c .before .before .put .ensures))
+returns c = leads-last (c .before .before .before .before .before .before .before .before .before .before .before .before .loop .inv .1) (then (c .before .before .before .before .before .before .put-all .ensures) (c .before .before .put .ensures)) (turn-last (c .before .before .before .before .before .before .before .before .before .before .before .before .before .before .before .args .text .now) (c .before .before .before .before .before .before .before .before .before .before .before .before .loop .begun) (c .before .before .before .before .before .before .before .before .before .before .before .before .loop .i) (c .before .before .before .before .before .before .before .before .before .before .line-end .result) (c .before .before .before .before .before .before .before .before .before .before .line-end .ensures) (c .before .before .before .before .before .before .before .before .before .before .before .loop-test .taken) (c .before .before .before .before .before .before .before .before .before .if1 .taken))
 
 trimmed-requires : tie.Need-trimmed-requires Inv-loop μ-loop
 trimmed-requires c κs = search needs
 
 sub-put-all-2 : tie.Need-sub-put-all-2 Inv-loop μ-loop
-sub-put-all-2 c = trim-within (c .before .before .before .before .before .before .before .before .args .text .now) (c .before .before .before .before .before .loop .i) (c .before .before .before .line-end .result) (line-low (c .before .before .before .before .before .before .before .before .args .text .now) (c .before .before .before .before .before .loop .i) _ (c .before .before .before .line-end .ensures)) (omega arith) _ (c .before .trimmed .ensures) .0
+sub-put-all-2 c = trim-within (c .before .before .before .before .before .before .before .before .args .text .now) (c .before .before .before .before .before .loop .i) (c .before .before .before .line-end .result) (scan-low isLf (c .before .before .before .before .before .before .before .before .args .text .now) (c .before .before .before .before .before .loop .i) _ (c .before .before .before .line-end .ensures)) (omega arith) _ (c .before .trimmed .ensures) .0
 
 part-put-all-start-2 : tie.Need-part-put-all-start-2 Inv-loop μ-loop
-part-put-all-start-2 c = trim-within (c .before .before .before .before .before .before .before .before .args .text .now) (c .before .before .before .before .before .loop .i) (c .before .before .before .line-end .result) (line-low (c .before .before .before .before .before .before .before .before .args .text .now) (c .before .before .before .before .before .loop .i) _ (c .before .before .before .line-end .ensures)) (omega arith) _ (c .before .trimmed .ensures) .0
+part-put-all-start-2 c = trim-within (c .before .before .before .before .before .before .before .before .args .text .now) (c .before .before .before .before .before .loop .i) (c .before .before .before .line-end .result) (scan-low isLf (c .before .before .before .before .before .before .before .before .args .text .now) (c .before .before .before .before .before .loop .i) _ (c .before .before .before .line-end .ensures)) (omega arith) _ (c .before .trimmed .ensures) .0
 
 part-put-all-end-2 : tie.Need-part-put-all-end-2 Inv-loop μ-loop
-part-put-all-end-2 c = omega (arith, trim-within (c .before .before .before .before .before .before .before .before .args .text .now) (c .before .before .before .before .before .loop .i) (c .before .before .before .line-end .result) (line-low (c .before .before .before .before .before .before .before .before .args .text .now) (c .before .before .before .before .before .loop .i) _ (c .before .before .before .line-end .ensures)) (omega arith) _ (c .before .trimmed .ensures) .1)
+part-put-all-end-2 c = omega (arith, trim-within (c .before .before .before .before .before .before .before .before .args .text .now) (c .before .before .before .before .before .loop .i) (c .before .before .before .line-end .result) (scan-low isLf (c .before .before .before .before .before .before .before .before .args .text .now) (c .before .before .before .before .before .loop .i) _ (c .before .before .before .line-end .ensures)) (omega arith) _ (c .before .trimmed .ensures) .1)
 
 put-all-requires-2 : tie.Need-put-all-requires-2 Inv-loop μ-loop
 put-all-requires-2 c κs = search needs
@@ -76,7 +77,7 @@ loop-less : tie.Need-loop-less Inv-loop μ-loop
 loop-less c = search needs
 
 loop-again : tie.Need-loop-again Inv-loop μ-loop
-loop-again c = (omega arith, rw (← c .begun-after .ensures) at (leads-on (turn-fold (c .before .before .before .before .before .before .before .before .before .before .before .before .before .before .before .args .text .now) (c .before .before .before .before .before .before .before .before .before .before .before .before .loop .begun) (c .before .before .before .before .before .before .before .before .before .before .before .before .loop .i) (c .before .before .before .before .before .before .before .before .before .before .line-end .result) (c .before .before .before .before .before .before .before .before .before .before .line-end .ensures) (c .before .before .before .before .before .before .before .before .trimmed .result) (c .before .before .before .before .before .before .before .before .trimmed .ensures) (c .before .before .before .before .before .before .before .before .before .if1 .left) (sym (c .before .before .blank-at .ensures) ∙ c .before .if2 .taken)) (c .before .before .before .before .before .before .before .before .before .before .before .before .loop .inv .1) (c .before .before .before .before .before .put-all2 .ensures)))
+loop-again c = (omega arith, rw (← c .begun-after .ensures) at (leads-on (c .before .before .before .before .before .before .before .before .before .before .before .before .loop .inv .1) (c .before .before .before .before .before .put-all2 .ensures) (turn-fold (c .before .before .before .before .before .before .before .before .before .before .before .before .before .before .before .args .text .now) (c .before .before .before .before .before .before .before .before .before .before .before .before .loop .begun) (c .before .before .before .before .before .before .before .before .before .before .before .before .loop .i) (c .before .before .before .before .before .before .before .before .before .before .line-end .result) (c .before .before .before .before .before .before .before .before .before .before .line-end .ensures) (c .before .before .before .before .before .before .before .before .trimmed .result) (c .before .before .before .before .before .before .before .before .trimmed .ensures) (c .before .before .before .before .before .before .before .before .before .if1 .left) (sym (c .before .before .blank-at .ensures) ∙ c .before .if2 .taken))))
 
 put-requires-2 : tie.Need-put-requires-2 Inv-loop μ-loop
 put-requires-2 c κs = search needs
@@ -88,7 +89,7 @@ loop-less-2 : tie.Need-loop-less-2 Inv-loop μ-loop
 loop-less-2 c = search needs
 
 loop-again-2 : tie.Need-loop-again-2 Inv-loop μ-loop
-loop-again-2 c = (omega arith, leads-on (turn-end (c .before .before .before .before .before .before .before .before .before .before .before .before .before .before .before .before .before .before .args .text .now) (c .before .before .before .before .before .before .before .before .before .before .before .before .before .before .before .loop .begun) (c .before .before .before .before .before .before .before .before .before .before .before .before .before .before .before .loop .i) (c .before .before .before .before .before .before .before .before .before .before .before .before .before .line-end .result) (c .before .before .before .before .before .before .before .before .before .before .before .before .before .line-end .ensures) (c .before .before .before .before .before .before .before .before .before .before .before .trimmed .result) (c .before .before .before .before .before .before .before .before .before .before .before .trimmed .ensures) (c .before .before .before .before .before .before .before .before .before .before .before .before .if1 .left) (sym (c .before .before .before .before .before .blank-at .ensures) ∙ c .before .before .before .before .if2 .left)) (c .before .before .before .before .before .before .before .before .before .before .before .before .before .before .before .loop .inv .1) (then (c .before .before .before .before .before .before .before .before .put-all2 .ensures) (c .before .before .put2 .ensures)))
+loop-again-2 c = (omega arith, leads-on (c .before .before .before .before .before .before .before .before .before .before .before .before .before .before .before .loop .inv .1) (then (c .before .before .before .before .before .before .before .before .put-all2 .ensures) (c .before .before .put2 .ensures)) (turn-end (c .before .before .before .before .before .before .before .before .before .before .before .before .before .before .before .before .before .before .args .text .now) (c .before .before .before .before .before .before .before .before .before .before .before .before .before .before .before .loop .begun) (c .before .before .before .before .before .before .before .before .before .before .before .before .before .before .before .loop .i) (c .before .before .before .before .before .before .before .before .before .before .before .before .before .line-end .result) (c .before .before .before .before .before .before .before .before .before .before .before .before .before .line-end .ensures) (c .before .before .before .before .before .before .before .before .before .before .before .trimmed .result) (c .before .before .before .before .before .before .before .before .before .before .before .trimmed .ensures) (c .before .before .before .before .before .before .before .before .before .before .before .before .if1 .left) (sym (c .before .before .before .before .before .blank-at .ensures) ∙ c .before .before .before .before .if2 .left)))
 
 put-requires-3 : tie.Need-put-requires-3 Inv-loop μ-loop
 put-requires-3 c κs = search needs
@@ -97,13 +98,13 @@ same-length-2 : tie.Need-same-length-2 Inv-loop μ-loop
 same-length-2 c = search needs
 
 returns-2 : tie.Need-returns-2 Inv-loop μ-loop
-returns-2 c = leads-last (turn-none (c .before .before .before .before .before .before .before .before .before .args .text .now) (c .before .before .before .before .before .before .loop .begun) (c .before .before .before .before .before .before .loop .i) (c .before .before .before .before .before .loop-test .left) ∙ rw (c .before .before .before .before .if3 .taken)) (c .before .before .before .before .before .before .loop .inv .1) (c .before .before .put3 .ensures)
+returns-2 c = leads-last (c .before .before .before .before .before .before .loop .inv .1) (c .before .before .put3 .ensures) (turn-none (c .before .before .before .before .before .before .before .before .before .args .text .now) (c .before .before .before .before .before .before .loop .begun) (c .before .before .before .before .before .before .loop .i) (c .before .before .before .before .before .loop-test .left) ∙ rw (c .before .before .before .before .if3 .taken))
 
 same-length-3 : tie.Need-same-length-3 Inv-loop μ-loop
 same-length-3 c = search needs
 
 returns-3 : tie.Need-returns-3 Inv-loop μ-loop
-returns-3 c = leads-end (turn-none (c .before .before .before .before .before .args .text .now) (c .before .before .loop .begun) (c .before .before .loop .i) (c .before .loop-test .left) ∙ rw (c .if3 .left)) (c .before .before .loop .inv .1)
+returns-3 c = leads-end (c .before .before .loop .inv .1) (turn-none (c .before .before .before .before .before .args .text .now) (c .before .before .loop .begun) (c .before .before .loop .i) (c .before .loop-test .left) ∙ rw (c .if3 .left))
 
 pub unfold-spec : {M : Type 1} → statement M
 unfold-spec =
