@@ -7,7 +7,7 @@ use mathlib.Core.List.{List, [], _∷_, _++_}
 use native.Mathlib.Omega.{arith}
 use lib.ListN.{length, take, drop, length-drop}
 use lib.Seq.{drop-drop}
-use Rattle.octets.specs.Basics.{pick}
+use Rattle.octets.specs.Basics.{pick, all}
 use Rattle.octets.specs.Pieces.{onto, cut}
 use Rattle.octets.proofs.Cases.{All}
 use Rattle.octets.proofs.Pieces.{Free}
@@ -56,3 +56,18 @@ pub lines-again : (ls : List (List ℕ)) → All (Free (code "\n")) ls → lines
 unfolding laidOut linesIn
 lines-again [] h = refl
 lines-again (l ∷ ls) h = cut-laid l (laidOut ls) (h .0) ∙ ap (λ (r : List (List ℕ)). l ∷ r) (lines-again ls (h .1))
+
+-- a test of every line: the line at i ends at e
+module _ (f : List ℕ → Bool) (s : List ℕ) (i : ℕ) where
+  pub all-none : length s ≤ i → all f (linesIn (drop i s)) ≡ true
+  unfolding all
+  all-none h = rw (lines-none s i h)
+
+  module _ (e : ℕ) (q : e ≡ i + length (until isLf (drop i s))) (h : i < length s) where
+    pub all-on : f (take (e - i) (drop i s)) ≡ true → all f (linesIn (drop i s)) ≡ all f (linesIn (drop (e + 1) s))
+    unfolding all
+    all-on t = rw (line-here s i e q h, t)
+
+    pub all-off : f (take (e - i) (drop i s)) ≡ false → all f (linesIn (drop i s)) ≡ false
+    unfolding all
+    all-off t = rw (line-here s i e q h, t)

@@ -2,3 +2,4 @@ pub mod Scanning
 pub mod Buffer
 pub mod Unfolding
 pub mod CleanLines
+pub mod Forming

@@ -3,6 +3,7 @@ pub mod Form
 pub mod Carets
 pub mod Line
 pub mod Scan
+pub mod Walk
 pub mod Buffer
 pub mod Parameters
 pub mod Write
