@@ -3,12 +3,15 @@ ghost use mathlib.Core.Path.{_≡_};
 ghost use Prim.Native.Nat.{_+_, _-_, _≤_, _<_};
 ghost use lib.Dec.{eqb, ltb};
 ghost use lib.ListN.{length, getD, drop};
-ghost use Rattle.octets.specs.Basics.{pick, _and_, _or_};
+ghost use Rattle.octets.specs.Basics.{pick, _and_, _or_, all};
+ghost use Rattle.octets.specs.Utf8.{clean};
 ghost use Rattle.octets.specs.Pen.{pen, Wrote};
 ghost use Rattle.content.specs.Lines.{linesOf, laidOut, isBlank};
 ghost use Rattle.content.specs.Scan.{until};
-ghost use Rattle.content.specs.Buffer.{isLf};
+ghost use Rattle.content.specs.Buffer.{isLf, linesIn};
 use crate::scan::find;
+use octets::all_text;
+use octets::is_utf8;
 use octets::put;
 use octets::put_all;
 
@@ -86,4 +89,14 @@ pub fn unfold(text: &[u8], out: &mut [u8]) -> usize
         return put(out, at, b'\n');
     }
     at
+}
+
+// Test 3 of every line in a buffer: UTF-8 without control characters but tab.
+pub fn all_clean(buf: &[u8]) -> bool
+    ensures { λ r. ⌜ r ≡ all clean (linesIn (now (buf .entry))) ⌝ }
+{
+    if !is_utf8(buf) {
+        return false;
+    }
+    all_text(buf)
 }
