@@ -3,3 +3,4 @@ pub mod Buffer
 pub mod Unfolding
 pub mod CleanLines
 pub mod Forming
+pub mod Separators

@@ -105,3 +105,46 @@ module _ (stop : ℕ → Bool) where
 
     pub scan-whole : length s ≤ e → until stop (drop i s) ≡ drop i s
     scan-whole h = until-whole (drop i s) (rw (length-drop i s) (omega arith))
+
+-- outside quotes
+module _ (stop : ℕ → Bool) where
+  pub bare-le : (q : Bool) (s : List ℕ) → length (untilBare stop q s) ≤ length s
+  unfolding untilBare
+  bare-le q [] = omega arith
+  bare-le q (c ∷ s) = le-by (not q and stop c) c (untilBare stop (quoteAfter q c) s) s (bare-le (quoteAfter q c) s)
+
+  pub bare-take : (q : Bool) (s : List ℕ) → untilBare stop q s ≡ take (length (untilBare stop q s)) s
+  unfolding untilBare
+  bare-take q [] = refl
+  bare-take q (c ∷ s) = take-by (not q and stop c) c (untilBare stop (quoteAfter q c) s) s (bare-take (quoteAfter q c) s)
+
+  -- a loop at i
+  module _ (s : List ℕ) (i : ℕ) (q : Bool) where
+    pub bare-none : length s ≤ i → length (untilBare stop q (drop i s)) ≡ 0
+    unfolding untilBare
+    bare-none h = rw (ended s i h)
+
+    pub bare-here : i < length s → (not q and stop (getD s i 0)) ≡ true → length (untilBare stop q (drop i s)) ≡ 0
+    unfolding untilBare
+    bare-here h e = rw (here s i h, e)
+
+    pub bare-on : i < length s → (not q and stop (getD s i 0)) ≡ false
+        → length (untilBare stop q (drop i s)) ≡ suc (length (untilBare stop (quoteAfter q (getD s i 0)) (drop (i + 1) s)))
+    unfolding untilBare
+    bare-on h e = rw (here s i h, e)
+
+  -- the scan from i ends at e
+  module _ (s : List ℕ) (i e : ℕ) (q : e ≡ i + length (untilBare stop false (drop i s))) where
+    pub bare-low : i ≤ e
+    bare-low = omega arith
+
+    pub bare-high : i ≤ length s → e ≤ length s
+    bare-high h = omega (arith, bare-le false (drop i s), length-drop i s)
+
+    pub bare-is : take (e - i) (drop i s) ≡ untilBare stop false (drop i s)
+    bare-is =
+        let w : e - i ≡ length (untilBare stop false (drop i s)) = omega arith in
+        rw w (sym (bare-take false (drop i s)))
+
+    pub bare-rest : drop (length (untilBare stop false (drop i s))) (drop i s) ≡ drop e s
+    bare-rest = drop-drop (length (untilBare stop false (drop i s))) i s ∙ rw (← q)

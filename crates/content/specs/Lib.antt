@@ -4,6 +4,7 @@ pub mod Carets
 pub mod Line
 pub mod Scan
 pub mod Walk
+pub mod Parts
 pub mod Buffer
 pub mod Parameters
 pub mod Write

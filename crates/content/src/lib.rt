@@ -1,6 +1,7 @@
 // iCalendar text: lines, content lines, parameters, folding.
 mod form;
 mod lines;
+mod parts;
 mod scan;
 
 pub use form::all_formed;
@@ -8,3 +9,5 @@ pub use form::is_formed;
 pub use lines::all_clean;
 pub use lines::line_end;
 pub use lines::unfold;
+pub use parts::Parts;
+pub use parts::parts_of;
