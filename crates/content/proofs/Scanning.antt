@@ -7,7 +7,7 @@ use native.Mathlib.Omega.{arith}
 use lib.ListN.{length, getD, take, drop, length-drop}
 use lib.Seq.{take-all, drop-drop, getD-drop}
 use Rattle.octets.specs.Basics.{pick, _and_}
-use Rattle.octets.proofs.Cases.{All}
+use Rattle.octets.proofs.Cases.{All, never}
 use Rattle.octets.proofs.Positions.{here, ended}
 use Rattle.content.specs.Line.{quoteAfter}
 use Rattle.content.specs.Scan.{until, untilBare}
@@ -118,6 +118,18 @@ module _ (stop : ℕ → Bool) where
   bare-take q [] = refl
   bare-take q (c ∷ s) = take-by (not q and stop c) c (untilBare stop (quoteAfter q c) s) s (bare-take (quoteAfter q c) s)
 
+  -- the scan ends at an octet of the kind
+  ends-by : (b : Bool) (q : Bool) (c : ℕ) (l s : List ℕ) → (not q and stop c) ≡ b → (length l < length s → stop (getD s (length l) 0) ≡ true)
+      → length (pick b [] (c ∷ l)) < suc (length s) → stop (getD (c ∷ s) (length (pick b [] (c ∷ l))) 0) ≡ true
+  ends-by true true c l s e f h = never e refl
+  ends-by true false c l s e f h = e
+  ends-by false q c l s e f h = f (omega arith)
+
+  bare-ends : (q : Bool) (s : List ℕ) → length (untilBare stop q s) < length s → stop (getD s (length (untilBare stop q s)) 0) ≡ true
+  unfolding untilBare
+  bare-ends q [] h = absurd (omega arith)
+  bare-ends q (c ∷ s) h = ends-by (not q and stop c) q c (untilBare stop (quoteAfter q c) s) s refl (bare-ends (quoteAfter q c) s) h
+
   -- a loop at i
   module _ (s : List ℕ) (i : ℕ) (q : Bool) where
     pub bare-none : length s ≤ i → length (untilBare stop q (drop i s)) ≡ 0
@@ -148,3 +160,9 @@ module _ (stop : ℕ → Bool) where
 
     pub bare-rest : drop (length (untilBare stop false (drop i s))) (drop i s) ≡ drop e s
     bare-rest = drop-drop (length (untilBare stop false (drop i s))) i s ∙ rw (← q)
+
+    pub bare-stop : e < length s → stop (getD s e 0) ≡ true
+    bare-stop h =
+        let n : length (untilBare stop false (drop i s)) < length (drop i s) = rw (length-drop i s) (omega arith) in
+        let o : getD (drop i s) (length (untilBare stop false (drop i s))) 0 ≡ getD s e 0 = getD-drop i s (length (untilBare stop false (drop i s))) 0 ∙ rw (← q) in
+        rw o at (bare-ends false (drop i s) n)

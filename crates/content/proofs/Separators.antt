@@ -7,16 +7,16 @@ use mathlib.Core.List.{List, [], _∷_, _++_, map}
 use native.Mathlib.Omega.{arith}
 use borrow.Author.Tests.{eqb-true}
 use lib.Dec.{eqb}
-use lib.ListN.{length, getD, take, drop, length-drop}
+use lib.ListN.{length, getD, take, drop, length-drop, length-append}
 use lib.Seq.{drop-drop}
 use Rattle.octets.specs.Basics.{pick, _and_, _or_}
 use Rattle.octets.specs.Pieces.{onto, cut}
 use Rattle.octets.proofs.Cases.{cases, never, both, either, neither}
-use Rattle.octets.proofs.Positions.{ended, upto}
-use Rattle.content.specs.Line.{Line, quoteAfter, bare, before, behind, pieces, headed, lineOf}
+use Rattle.octets.proofs.Positions.{here, ended, upto, part-length}
+use Rattle.content.specs.Line.{Line, Param, quoteAfter, bare, before, behind, pieces, headed, paramOf, lineOf}
 use Rattle.content.specs.Scan.{untilBare}
-use Rattle.content.specs.Parts.{others, paramsIn, lineAt, Cut}
-use Rattle.content.proofs.Scanning.{bare-high, bare-is, bare-rest}
+use Rattle.content.specs.Parts.{others, paramsIn, lineAt, Cut, paramAt, CutParam}
+use Rattle.content.proofs.Scanning.{bare-here, bare-high, bare-is, bare-rest, bare-stop}
 
 -- either of two separators
 abbrev pub oneOf : ℕ → ℕ → ℕ → Bool
@@ -117,6 +117,19 @@ module _ (sep : ℕ) (s : List ℕ) (i e : ℕ) (q : e ≡ i + length (untilBare
       behind-drop sep false (drop i s)
       ∙ rw (← before-is sep false (drop i s), drop-drop (suc (length (untilBare (oneOf sep sep) false (drop i s)))) i s, n)
 
+-- the first piece, and the others
+pieces-by : (sep : ℕ) (q : Bool) (c : ℕ) (s : List ℕ) (b : Bool) → bare sep q c ≡ b
+    → pieces sep (quoteAfter q c) s ≡ before sep (quoteAfter q c) s ∷ others (pieces sep false (drop (length (before sep (quoteAfter q c) s)) s))
+    → cut b c (pieces sep (quoteAfter q c) s) ≡ pick b [] (c ∷ before sep (quoteAfter q c) s) ∷ others (pieces sep false (drop (length (pick b [] (c ∷ before sep (quoteAfter q c) s))) (c ∷ s)))
+unfolding cut onto pieces others bare
+pieces-by sep q c s true e h = rw (not-quoted q (eqb c sep) e, rw (not-quoted q (eqb c sep) e) at e)
+pieces-by sep q c s false e h = rw h
+
+pieces-first : (sep : ℕ) (q : Bool) (s : List ℕ) → pieces sep q s ≡ before sep q s ∷ others (pieces sep false (drop (length (before sep q s)) s))
+unfolding pieces before others
+pieces-first sep q [] = refl
+pieces-first sep q (c ∷ s) = pieces-by sep q c s (bare sep q c) refl (pieces-first sep (quoteAfter q c) s)
+
 -- the parts of a line
 module _ (l : List ℕ) (n c : ℕ) (p : n ≡ 0 + length (untilBare (oneOf (code ";") (code ":")) false (drop 0 l)))
     (q : c ≡ n + length (untilBare (oneOf (code ":") (code ":")) false (drop n l))) where
@@ -145,3 +158,70 @@ module _ (l : List ℕ) (n c : ℕ) (p : n ≡ 0 + length (untilBare (oneOf (cod
     value-within = bare-high (oneOf (code ":") (code ":")) l n c q (bare-high (oneOf (code ";") (code ":")) l 0 n p (omega arith));
     line = line-is c (ended l c h ∙ sym (ended l (c + 1) (omega arith)));
   }
+
+-- the parts of a parameter
+module _ (s : List ℕ) (i n e : ℕ) (p : n ≡ i + length (untilBare (oneOf (code "=") (code ";")) false (drop i s)))
+    (q : e ≡ n + length (untilBare (oneOf (code ";") (code ";")) false (drop n s))) where
+  rest-is : drop (length (untilBare (oneOf (code "=") (code ";")) false (drop i s))) (drop i s) ≡ drop n s
+  rest-is = bare-rest (oneOf (code "=") (code ";")) s i n p
+
+  piece-is : before (code ";") false (drop i s) ≡ take (n - i) (drop i s) ++ take (e - n) (drop n s)
+  piece-is = skips (code "=") (code ";") false (drop i s) .whole
+      ∙ rw (rest-is, ← bare-is (oneOf (code "=") (code ";")) s i n p, sep-before (code ";") s n e q)
+
+  behind-name : behind (code "=") false (before (code ";") false (drop i s)) ≡ behind (code "=") false (take (e - n) (drop n s))
+  behind-name = skips (code "=") (code ";") false (drop i s) .back ∙ rw (rest-is, sep-before (code ";") s n e q)
+
+  param-is : (v : ℕ) → behind (code "=") false (take (e - n) (drop n s)) ≡ take (e - v) (drop v s)
+      → paramOf (before (code ";") false (drop i s)) ≡ paramAt s i (record { name = n; values = v; end = e })
+  unfolding paramOf paramAt
+  param-is v h = rw (skips (code "=") (code ";") false (drop i s) .front, ← bare-is (oneOf (code "=") (code ";")) s i n p, behind-name, h)
+
+  module _ (l : i ≤ length s) where
+    n-high : n ≤ length s
+    n-high = bare-high (oneOf (code "=") (code ";")) s i n p l
+
+    e-high : e ≤ length s
+    e-high = bare-high (oneOf (code ";") (code ";")) s n e q n-high
+
+    piece-rest : drop (length (before (code ";") false (drop i s))) (drop i s) ≡ drop e s
+    piece-rest =
+        let a = part-length s i n (omega arith) n-high in
+        let b = part-length s n e (omega arith) e-high in
+        let m : i + length (before (code ";") false (drop i s)) ≡ e = rw (piece-is, length-append, a, b) (omega arith) in
+        drop-drop (length (before (code ";") false (drop i s))) i s ∙ rw m
+
+    next-is : e < length s → getD s e 0 ≡ code ";"
+    next-is h = eqb-true (getD s e 0) (code ";") (rw (twice-one (eqb (getD s e 0) (code ";"))) at (bare-stop (oneOf (code ";") (code ";")) s n e q h))
+
+    params-is : map paramOf (pieces (code ";") false (drop i s)) ≡ paramOf (before (code ";") false (drop i s)) ∷ paramsIn (drop e s)
+    unfolding paramsIn
+    params-is = rw (pieces-first (code ";") false (drop i s), piece-rest)
+
+    cut-by : (v : ℕ) → n ≤ v → v ≤ e → behind (code "=") false (take (e - n) (drop n s)) ≡ take (e - v) (drop v s) → CutParam s i (record { name = n; values = v; end = e })
+    cut-by v g h k = record {
+      name-low = omega arith;
+      name-within = g;
+      values-within = h;
+      end-within = e-high;
+      next = next-is;
+      params = params-is ∙ rw (param-is v k);
+    }
+
+    -- no equals sign
+    pub param-bare : e ≤ n → CutParam s i (record { name = n; values = n; end = e })
+    unfolding behind
+    param-bare h =
+        let z : e - n ≡ 0 = omega arith in
+        cut-by n (omega arith) (omega arith) (rw z)
+
+    equals : n < e → getD s n 0 ≡ code "="
+    equals h = either (eqb (getD s n 0) (code "=")) (eqb (getD s n 0) (code ";")) (bare-stop (oneOf (code "=") (code ";")) s i n p (omega (arith, e-high)))
+        (λ g. eqb-true (getD s n 0) (code "=") g)
+        (λ g. absurd (omega (arith, bare-here (oneOf (code ";") (code ";")) s n false (omega (arith, e-high)) (rw g))))
+
+    pub param-equals : n < e → CutParam s i (record { name = n; values = n + 1; end = e })
+    unfolding behind bare
+    param-equals h =
+        let m : e - n ≡ suc (e - (n + 1)) = omega arith in
+        cut-by (n + 1) (omega arith) (omega arith) (rw (m, here s n (omega (arith, e-high)), equals h))

@@ -1,12 +1,14 @@
 -- A content line by the places of its parts, and its parameters as they stand between its name and its colon.
-use Prim.Native.Nat.{ℕ, _-_, _≤_}
+use Prim.Native.Nat.{ℕ, _-_, _≤_, _<_}
 use Prim.Native.Char.{code}
 use mathlib.Core.Path.{_≡_}
 use mathlib.Core.Bool.{false}
 use mathlib.Core.List.{List, [], _∷_, map}
-use lib.ListN.{length, take, drop}
-use Rattle.content.specs.Line.{Param, Line, pieces, paramOf, lineOf}
+use lib.ListN.{length, getD, take, drop}
+use Rattle.octets.specs.Classes.{lower}
+use Rattle.content.specs.Line.{Param, Line, pieces, paramValue, paramOf, lineOf}
 use Rattle.content.specs.declared.parts.Parts.{Parts}
+use Rattle.content.specs.declared.parts.ParamParts.{ParamParts}
 
 -- all pieces but the first
 unfoldable pub others : List (List ℕ) → List (List ℕ)
@@ -27,3 +29,19 @@ pub record Cut (l : List ℕ) (p : Parts) : Type 0 where
   pub colon-within : p .colon ≤ p .value
   pub value-within : p .value ≤ length l
   pub line : lineAt l p ≡ lineOf l
+
+-- the parameter that the places cut out of s, where it begins at i
+unfoldable pub paramAt : List ℕ → ℕ → ParamParts → Param
+paramAt s i p = record {
+  name = lower (take (p .name - i) (drop i s));
+  values = map paramValue (pieces (code ",") false (take (p .end - p .values) (drop (p .values) s)));
+}
+
+-- the places of the parts of the parameter at i; behind it stands a semicolon, or nothing
+pub record CutParam (s : List ℕ) (i : ℕ) (p : ParamParts) : Type 0 where
+  pub name-low : i ≤ p .name
+  pub name-within : p .name ≤ p .values
+  pub values-within : p .values ≤ p .end
+  pub end-within : p .end ≤ length s
+  pub next : p .end < length s → getD s (p .end) 0 ≡ code ";"
+  pub params : map paramOf (pieces (code ";") false (drop i s)) ≡ paramAt s i p ∷ paramsIn (drop (p .end) s)
