@@ -4,3 +4,4 @@ pub mod Unfolding
 pub mod CleanLines
 pub mod Forming
 pub mod Separators
+pub mod Walking

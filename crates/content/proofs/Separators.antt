@@ -23,7 +23,7 @@ abbrev pub oneOf : ℕ → ℕ → ℕ → Bool
 oneOf a b c = eqb c a or eqb c b
 
 -- the same separator twice
-twice-one : (b : Bool) → (b or b) ≡ b
+pub twice-one : (b : Bool) → (b or b) ≡ b
 twice-one true = refl
 twice-one false = refl
 
@@ -125,7 +125,7 @@ unfolding cut onto pieces others bare
 pieces-by sep q c s true e h = rw (not-quoted q (eqb c sep) e, rw (not-quoted q (eqb c sep) e) at e)
 pieces-by sep q c s false e h = rw h
 
-pieces-first : (sep : ℕ) (q : Bool) (s : List ℕ) → pieces sep q s ≡ before sep q s ∷ others (pieces sep false (drop (length (before sep q s)) s))
+pub pieces-first : (sep : ℕ) (q : Bool) (s : List ℕ) → pieces sep q s ≡ before sep q s ∷ others (pieces sep false (drop (length (before sep q s)) s))
 unfolding pieces before others
 pieces-first sep q [] = refl
 pieces-first sep q (c ∷ s) = pieces-by sep q c s (bare sep q c) refl (pieces-first sep (quoteAfter q c) s)

@@ -15,6 +15,9 @@ unfoldable pub others : List (List ℕ) → List (List ℕ)
 others [] = []
 others (p ∷ ps) = ps
 
+abbrev pub nameOf : Param → List ℕ
+nameOf p = p .name
+
 -- ;PARAM;PARAM
 unfoldable pub paramsIn : List ℕ → List Param
 paramsIn s = map paramOf (others (pieces (code ";") false s))

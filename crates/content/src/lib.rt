@@ -1,6 +1,7 @@
 // iCalendar text: lines, content lines, parameters, folding.
 mod form;
 mod lines;
+mod params;
 mod parts;
 mod scan;
 
@@ -9,5 +10,6 @@ pub use form::is_formed;
 pub use lines::all_clean;
 pub use lines::line_end;
 pub use lines::unfold;
+pub use params::name_twice;
 pub use parts::Parts;
 pub use parts::parts_of;
