@@ -193,7 +193,7 @@ module _ (s : List ℕ) (i : ℕ) (l : i ≤ length s) where
         }
 
 -- a parameter's name, equals sign and first value
-beyond : (i n : ℕ) → i ≤ n → (n ≡ i → ⊥) → i < n
+pub beyond : (i n : ℕ) → i ≤ n → (n ≡ i → ⊥) → i < n
 beyond i n h g = cases (ltb i n) (λ e. ltb-true i n e) (λ e. absurd (g (omega (arith, ltb-false i n e))))
 
 pub nonzero : (n : ℕ) → (n ≡ 0 → ⊥) → 0 < n

@@ -5,3 +5,4 @@ pub mod CleanLines
 pub mod Forming
 pub mod Separators
 pub mod Walking
+pub mod Tokens

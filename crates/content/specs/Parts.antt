@@ -6,9 +6,10 @@ use mathlib.Core.Bool.{false}
 use mathlib.Core.List.{List, [], _∷_, map}
 use lib.ListN.{length, getD, take, drop}
 use Rattle.octets.specs.Classes.{lower}
-use Rattle.content.specs.Line.{Param, Line, pieces, paramValue, paramOf, lineOf}
+use Rattle.content.specs.Line.{Param, Line, pieces, unquote, paramValue, paramOf, lineOf}
 use Rattle.content.specs.declared.parts.Parts.{Parts}
 use Rattle.content.specs.declared.parts.ParamParts.{ParamParts}
+use Rattle.content.specs.declared.parts.Span.{Span}
 
 -- all pieces but the first
 unfoldable pub others : List (List ℕ) → List (List ℕ)
@@ -48,3 +49,10 @@ pub record CutParam (s : List ℕ) (i : ℕ) (p : ParamParts) : Type 0 where
   pub end-within : p .end ≤ length s
   pub next : p .end < length s → getD s (p .end) 0 ≡ code ";"
   pub params : map paramOf (pieces (code ";") false (drop i s)) ≡ paramAt s i p ∷ paramsIn (drop (p .end) s)
+
+-- the value from v to e without the quotes around it
+pub record Inner (s : List ℕ) (v e : ℕ) (p : Span) : Type 0 where
+  pub low : v ≤ p .from
+  pub order : p .from ≤ p .end
+  pub high : p .end ≤ e
+  pub is : take (p .end - p .from) (drop (p .from) s) ≡ unquote (take (e - v) (drop v s))

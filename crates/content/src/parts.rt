@@ -1,7 +1,7 @@
 // A content line and its parameters by the places of their parts.
 ghost use Prim.Native.Nat.{_≤_};
 ghost use lib.ListN.{length};
-ghost use Rattle.content.specs.Parts.{Cut, CutParam};
+ghost use Rattle.content.specs.Parts.{Cut, CutParam, Inner};
 use crate::scan::next_bare;
 
 // The end of the name, the end of the parameters and the start of the value.
@@ -15,6 +15,12 @@ pub struct Parts {
 pub struct ParamParts {
     pub name: usize,
     pub values: usize,
+    pub end: usize,
+}
+
+// Octets from a place up to another.
+pub struct Span {
+    pub from: usize,
     pub end: usize,
 }
 
@@ -56,5 +62,35 @@ pub fn param_at(s: &[u8], at: usize) -> ParamParts
         name: name,
         values: name,
         end: end,
+    }
+}
+
+// The parameter value from `from` to `end`, without the quotes around it.
+pub fn inner(s: &[u8], from: usize, end: usize) -> Span
+    requires { ⌜ (from ≤ end) × (end ≤ length (now s)) ⌝ }
+    ensures { λ r. ⌜ Inner (now (s .entry)) from end r ⌝ }
+{
+    if from == end {
+        return Span {
+            from: from,
+            end: end,
+        };
+    }
+    if s[from] != b'"' {
+        return Span {
+            from: from,
+            end: end,
+        };
+    }
+    let next = from + 1;
+    if next == end {
+        return Span {
+            from: end,
+            end: end,
+        };
+    }
+    Span {
+        from: next,
+        end: end - 1,
     }
 }
