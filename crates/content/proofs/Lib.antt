@@ -6,3 +6,4 @@ pub mod Forming
 pub mod Separators
 pub mod Walking
 pub mod Tokens
+pub mod Telling

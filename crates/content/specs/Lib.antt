@@ -7,5 +7,6 @@ pub mod Walk
 pub mod Parts
 pub mod Buffer
 pub mod Parameters
+pub mod Kinds
 pub mod Write
 pub mod Fold
