@@ -9,3 +9,4 @@ pub mod Hours
 pub mod Phases
 pub mod Periods
 pub mod Readback
+pub mod Worked
