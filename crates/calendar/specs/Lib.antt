@@ -1,4 +1,5 @@
 pub mod Gregorian
+pub mod Answers
 pub mod Forms
 pub mod Dates
 pub mod Durations

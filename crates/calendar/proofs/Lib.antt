@@ -1,0 +1,4 @@
+pub mod Ranges
+pub mod Days
+pub mod Back
+pub mod Inverse
