@@ -2,3 +2,5 @@ pub mod Ranges
 pub mod Days
 pub mod Back
 pub mod Inverse
+pub mod Slots
+pub mod Numbers

@@ -2,6 +2,7 @@ pub mod Gregorian
 pub mod Answers
 pub mod Forms
 pub mod Dates
+pub mod Texts
 pub mod Durations
 pub mod Recurrence
 pub mod Moments

@@ -2,3 +2,4 @@
 pub mod dates;
 pub mod moments;
 pub mod rules;
+pub mod texts;
