@@ -4,3 +4,4 @@ pub mod Back
 pub mod Inverse
 pub mod Slots
 pub mod Numbers
+pub mod Fixed

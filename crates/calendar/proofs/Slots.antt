@@ -179,3 +179,27 @@ module _ (form t : List ℕ) where
     pub form-ends : length form ≤ k → take n out ≡ basic (slots false form) (upper t)
     unfolding basic
     form-ends g = sym (append-nil (take n out)) ∙ (rw (slot-ended false form k g) at (r .all))
+
+-- A whole text: a place that only the extended form has is an octet of it.
+whole-takes : (c x : ℕ) → takes (slotAt false c) x ≡ takes (placeAt c) x
+unfolding slotAt isAdded placeAt takes
+whole-takes c x =
+    same? c (code "-") (λ e. rw e) λ d. same? c (code ":") (λ e. rw e) (λ e. rw (d, e))
+
+kept-when : (b f : Bool) (x : ℕ) (xs : List ℕ) → kept b x (when f xs) ≡ when (b and f) (x ∷ xs)
+unfolding kept when map?
+kept-when true true x xs = refl
+kept-when true false x xs = refl
+kept-when false f x xs = refl
+
+slot-whole : (c : ℕ) → slotAt true c ≡ placeAt c
+unfolding slotAt isAdded
+slot-whole c = refl
+
+pub whole-text : (form s : List ℕ) → extended (slots true form) s ≡ when (fits (slots false form) s) s
+unfolding slots extended fits when
+whole-text [] [] = refl
+whole-text [] (x ∷ s) = refl
+whole-text (c ∷ form) [] = rw (slot-whole c) (extended-short c (slots true form))
+whole-text (c ∷ form) (x ∷ s) =
+    rw (slot-whole c, extended-place c, whole-text form s, whole-takes c x) (kept-when (takes (placeAt c) x) (fits (slots false form) s) x s)

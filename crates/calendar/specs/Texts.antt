@@ -44,11 +44,11 @@ textSaid t = pick (eqb (t .len) 0) none (some (octetsIn t))
 -- t says the text r, or that there is none; t carries the octets xs
 pub record Says (t : Text) (r : Option (List ℕ)) : Type 0 where
   pub text : textSaid t ≡ r
-  pub room : t .len ≤ 20
+  pub room : t .len ≤ length (t .octets)
 
 pub record Carries (t : Text) (xs : List ℕ) : Type 0 where
   pub octets : octetsIn t ≡ xs
-  pub room : t .len ≤ 20
+  pub room : t .len ≤ length (t .octets)
 
 -- The places of a form: 9 is a digit, plus a sign, and any other octet is itself; but hyphen and colon are places that only the extended form
 -- has, unless a text is whole, that is in the extended form.

@@ -3,6 +3,7 @@ ghost use mathlib.Core.Path.{_≡_};
 ghost use mathlib.Core.Bool.{true, false};
 ghost use Prim.Native.Nat.{_+_, _*_, _≤_};
 ghost use lib.ListN.{length, take, drop};
+ghost use Rattle.octets.specs.Basics.{pick};
 ghost use Rattle.octets.specs.Optional.{isSome};
 ghost use Rattle.octets.specs.Classes.{upper};
 ghost use Rattle.octets.specs.Decimal.{valueFrom};
@@ -159,4 +160,202 @@ fn year(t: &[u8]) -> u32
     ensures { λ r. ⌜ r ≡ numberAt 0 4 (now (t .entry)) ⌝ }
 {
     digit_on(t, 3, digit_on(t, 2, pair(t, 0)))
+}
+
+// yyyy-mm-dd at the front is a day.
+fn day_in(t: &[u8]) -> bool
+    ensures { λ r. ⌜ r ≡ dayIn (now (t .entry)) ⌝ }
+{
+    is_day(year(t), pair(t, 5), pair(t, 8))
+}
+
+// hh:mm:ss at a place is a time.
+fn clock_in(t: &[u8], at: usize) -> bool
+    requires { ⌜ at ≤ 11 ⌝ }
+    ensures { λ r. ⌜ r ≡ clockIn at (now (t .entry)) ⌝ }
+{
+    if 23 < pair(t, at) {
+        return false;
+    }
+    if 59 < pair(t, at + 3) {
+        return false;
+    }
+    pair(t, at + 6) <= 60
+}
+
+// The numbers of a UTC offset: no minus stands before zeros.
+fn offset_in(t: &[u8]) -> bool
+    ensures { λ r. ⌜ r ≡ offsetIn (now (t .entry)) ⌝ }
+{
+    if !clock_in(t, 1) {
+        return false;
+    }
+    if peek(t, 0) != b'-' {
+        return true;
+    }
+    if pair(t, 1) != 0 {
+        return true;
+    }
+    if pair(t, 4) != 0 {
+        return true;
+    }
+    pair(t, 7) != 0
+}
+
+// The numbers of a text in the extended form are real.
+fn numbers_in(form: Form, t: &[u8]) -> bool
+    ensures { λ r. ⌜ r ≡ numbersIn form (now (t .entry)) ⌝ }
+{
+    match form {
+        Form::Date => day_in(t),
+        Form::Time => clock_in(t, 0),
+        Form::DateTime => {
+            if !day_in(t) {
+                return false;
+            }
+            clock_in(t, 11)
+        }
+        Form::Offset => offset_in(t),
+    }
+}
+
+// The length from which on a text has the longer form.
+fn least(whole: bool, extended: usize, basic: usize) -> usize
+    ensures { λ r. ⌜ r ≡ pick whole extended basic ⌝ }
+{
+    if whole { extended } else { basic }
+}
+
+// The extended text of one that has the form.
+fn shape(form: Form, whole: bool, s: &[u8]) -> Text
+    ensures { λ r. ⌜ Says r (shaped whole form (upper (now (s .entry)))) ⌝ }
+{
+    match form {
+        Form::Date => read(b"9999-99-99", whole, s),
+        Form::Time => {
+            if least(whole, 9, 7) <= s.len() {
+                return read(b"99:99:99Z", whole, s);
+            }
+            read(b"99:99:99", whole, s)
+        }
+        Form::DateTime => {
+            if least(whole, 20, 16) <= s.len() {
+                return read(b"9999-99-99T99:99:99Z", whole, s);
+            }
+            read(b"9999-99-99T99:99:99", whole, s)
+        }
+        Form::Offset => {
+            if least(whole, 7, 6) <= s.len() {
+                return read(b"+99:99:99", whole, s);
+            }
+            read(b"+99:99", whole, s)
+        }
+    }
+}
+
+// The extended text of one that has the form, and whose numbers are real.
+fn take(form: Form, whole: bool, s: &[u8]) -> Text
+    ensures { λ r. ⌜ Says r (taken whole form (upper (now (s .entry)))) ⌝ }
+{
+    let t = shape(form, whole, s);
+    let o = t.octets;
+    let n = t.len;
+    if n == 0 {
+        return t;
+    }
+    if numbers_in(form, &o[0..n]) {
+        return t;
+    }
+    Text { octets: o, len: 0 }
+}
+
+// The extended text of a text in the basic form.
+pub fn extended(form: Form, s: &[u8]) -> Text
+    ensures { λ r. ⌜ Says r (formOf form (upper (now (s .entry)))) ⌝ }
+{
+    take(form, false, s)
+}
+
+// The text is one in the basic form.
+pub fn is_basic(form: Form, s: &[u8]) -> bool
+    ensures { λ r. ⌜ r ≡ isSome (formOf form (upper (now (s .entry)))) ⌝ }
+{
+    let t = take(form, false, s);
+    t.len != 0
+}
+
+// The text is one in the extended form.
+pub fn is_extended(form: Form, t: &[u8]) -> bool
+    ensures { λ r. ⌜ r ≡ formIs form (upper (now (t .entry))) ⌝ }
+{
+    let u = take(form, true, t);
+    u.len != 0
+}
+
+// The basic text of one in the extended form.
+pub fn basic(form: Form, t: &[u8]) -> Text
+    ensures { λ r. ⌜ Carries r (formText form (upper (now (t .entry)))) ⌝ }
+{
+    match form {
+        Form::Date => strip(b"9999-99-99", t),
+        Form::Time => {
+            if 9 <= t.len() {
+                return strip(b"99:99:99Z", t);
+            }
+            strip(b"99:99:99", t)
+        }
+        Form::DateTime => {
+            if 20 <= t.len() {
+                return strip(b"9999-99-99T99:99:99Z", t);
+            }
+            strip(b"9999-99-99T99:99:99", t)
+        }
+        Form::Offset => {
+            if 7 <= t.len() {
+                return strip(b"+99:99:99", t);
+            }
+            strip(b"+99:99", t)
+        }
+    }
+}
+
+// The extended text of a date or a date-time.
+pub fn extended_moment(s: &[u8]) -> Text
+    ensures { λ r. ⌜ Says r (momentOf (upper (now (s .entry)))) ⌝ }
+{
+    let d = extended(Form::Date, s);
+    if d.len != 0 {
+        return d;
+    }
+    extended(Form::DateTime, s)
+}
+
+// The text is a date or a date-time in the basic form.
+pub fn is_moment(s: &[u8]) -> bool
+    ensures { λ r. ⌜ r ≡ isSome (momentOf (upper (now (s .entry)))) ⌝ }
+{
+    let t = extended_moment(s);
+    t.len != 0
+}
+
+// The text is a date or a date-time in the extended form.
+pub fn is_extended_moment(t: &[u8]) -> bool
+    ensures { λ r. ⌜ r ≡ momentIs (upper (now (t .entry))) ⌝ }
+{
+    if is_extended(Form::Date, t) {
+        return true;
+    }
+    is_extended(Form::DateTime, t)
+}
+
+// Writes a text.
+pub fn put_text(out: &mut [u8], at: usize, t: Text) -> usize
+    ensures { λ r. ⌜ Wrote (pen (now (out .entry)) at) (octetsIn t) (pen (now (out .exit)) r) ⌝ }
+{
+    let o = t.octets;
+    let n = t.len;
+    if n < 20 {
+        return put_all(out, at, &o[0..n]);
+    }
+    put_all(out, at, &o[0..20])
 }

@@ -23,7 +23,7 @@ loop-holds c = writes _ _ _ refl
 
 -- src/texts.rt:103:13
 returns : tie.Need-returns Inv-loop μ-loop
-returns c = record { octets = text-ends _ _ _ _ _ (c .before .before .loop .inv) (c .if1 .taken); room = omega arith }
+returns c = record { octets = text-ends _ _ _ _ _ (c .before .before .loop .inv) (c .if1 .taken); room = omega (arith, c .before .before .loop .inv .wide, c .before .before .loop .inv .kept, c .before .before .loop .inv .upto, c .before .before .before .before .before .pre) }
 
 -- src/texts.rt:105:28
 shared-slice-read-is-added : tie.Need-shared-slice-read-is-added Inv-loop μ-loop
@@ -75,7 +75,7 @@ loop-again-2 c = keeps-one _ _ _ _ _ (c .before .before .before .before .before 
 
 -- src/texts.rt:94:1
 returns-2 : tie.Need-returns-2 Inv-loop μ-loop
-returns-2 c = record { octets = form-ends _ _ _ _ _ (c .before .loop .inv) (c .loop-test .left); room = omega arith }
+returns-2 c = record { octets = form-ends _ _ _ _ _ (c .before .loop .inv) (c .loop-test .left); room = omega (arith, c .before .loop .inv .wide, c .before .loop .inv .kept, c .before .loop .inv .upto, c .before .before .before .before .pre) }
 
 pub strip-spec : {M : Type 1} → statement M
 strip-spec =
