@@ -136,3 +136,17 @@ first-date = sym (formula-date 0 _ _ _ (found 0 _ _ _ _ _ (lit≤ tt) refl refl 
 
 pub last-date : dateOn 9999 12 31 ≡ dateAt (dayCount - 1)
 last-date = rw day-count (sym (formula-date 3652424 _ _ _ (found 3652424 _ _ _ _ _ (lit≤ tt) refl refl refl refl refl)))
+
+-- a day's number is one of the days that can be named
+pub number-small : (d : Date) → isDay (d .year) (d .month) (d .day) ≡ true → dayNumber d < dayCount
+unfolding dayNumber dayCount yearsFrom
+number-small d h =
+    let f = day-tells (d .year) (d .month) (d .day) h in
+    let e : d .year + suc (lastYear - d .year) ≡ suc lastYear = up (d .year) lastYear (f .year) in
+    let t = years-before (d .year) (suc (lastYear - d .year)) ∙ ap beforeYear e in
+    below _ _ _ _ _ t (within (d .year) (d .month) (d .day) f)
+  where
+    up : (y l : ℕ) → y ≤ l → y + suc (l - y) ≡ suc l
+    up y l h = omega arith
+    below : (b r w m t : ℕ) → b + (w + m) ≡ t → r < w → b + r < t
+    below b r w m t p q = omega arith

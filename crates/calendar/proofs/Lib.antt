@@ -5,3 +5,4 @@ pub mod Inverse
 pub mod Slots
 pub mod Numbers
 pub mod Fixed
+pub mod Hours

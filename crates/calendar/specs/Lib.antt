@@ -1,5 +1,4 @@
 pub mod Gregorian
-pub mod Answers
 pub mod Forms
 pub mod Dates
 pub mod Texts
@@ -7,3 +6,4 @@ pub mod Durations
 pub mod Recurrence
 pub mod Moments
 pub mod Rules
+pub mod Answers

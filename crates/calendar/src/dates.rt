@@ -8,7 +8,7 @@ ghost use Rattle.calendar.specs.Answers.{dayNumberSaid, dateSaid};
 use octets::LAST_YEAR;
 
 // The days that can be named.
-const DAY_COUNT: u32 = 3652425;
+pub const DAY_COUNT: u32 = 3652425;
 
 pub struct Date {
     pub year: u32,

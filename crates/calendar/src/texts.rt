@@ -148,15 +148,17 @@ fn digit_on(t: &[u8], at: usize, a: u32) -> u32
 }
 
 // The number in two digits from a place on.
-fn pair(t: &[u8], at: usize) -> u32
-    requires { ⌜ at ≤ 20 ⌝ }
+pub fn pair(t: &[u8], at: usize) -> u32
     ensures { λ r. ⌜ (r ≡ numberAt at 2 (now (t .entry))) × (r ≤ 2277) ⌝ }
 {
+    if t.len() <= at {
+        return 0;
+    }
     digit_on(t, at + 1, digit_on(t, at, 0))
 }
 
 // The number in the first four digits.
-fn year(t: &[u8]) -> u32
+pub fn year(t: &[u8]) -> u32
     ensures { λ r. ⌜ r ≡ numberAt 0 4 (now (t .entry)) ⌝ }
 {
     digit_on(t, 3, digit_on(t, 2, pair(t, 0)))
@@ -169,18 +171,25 @@ fn day_in(t: &[u8]) -> bool
     is_day(year(t), pair(t, 5), pair(t, 8))
 }
 
+// There is such a time of day.
+pub fn is_clock(h: u32, m: u32, s: u32) -> bool
+    ensures { λ r. ⌜ r ≡ isClock h m s ⌝ }
+{
+    if 23 < h {
+        return false;
+    }
+    if 59 < m {
+        return false;
+    }
+    s <= 60
+}
+
 // hh:mm:ss at a place is a time.
 fn clock_in(t: &[u8], at: usize) -> bool
     requires { ⌜ at ≤ 11 ⌝ }
     ensures { λ r. ⌜ r ≡ clockIn at (now (t .entry)) ⌝ }
 {
-    if 23 < pair(t, at) {
-        return false;
-    }
-    if 59 < pair(t, at + 3) {
-        return false;
-    }
-    pair(t, at + 6) <= 60
+    is_clock(pair(t, at), pair(t, at + 3), pair(t, at + 6))
 }
 
 // The numbers of a UTC offset: no minus stands before zeros.
