@@ -148,5 +148,6 @@ number-small d h =
   where
     up : (y l : ℕ) → y ≤ l → y + suc (l - y) ≡ suc l
     up y l h = omega arith
+
     below : (b r w m t : ℕ) → b + (w + m) ≡ t → r < w → b + r < t
     below b r w m t p q = omega arith

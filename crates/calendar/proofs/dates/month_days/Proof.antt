@@ -1,6 +1,6 @@
 -- `calendar::dates::month_days` meets its contract: February apart, the months' lengths are 30 and 31 in turn, up to July and again from August.
-use borrow.Author.Needs.{needs}
 use native.Mathlib.Omega.{arith}
+use borrow.Author.Needs.{needs}
 use Rattle.calendar.proofs.Days.{leap-small, february, other-month}
 use Rattle.calendar.proofs.dates.month_days.Statement.{statement}
 use Rattle.calendar.proofs.dates.month_days.Tie as tie

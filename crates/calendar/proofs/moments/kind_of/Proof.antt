@@ -1,21 +1,17 @@
-use Rattle.calendar.specs.Moments.{kindOf}
+-- `calendar::moments::kind_of` meets its contract: its tests are the definition's.
 use borrow.Author.Tests.{le-leb, lt-leb}
+use Rattle.calendar.specs.Moments.{kindOf}
 use Rattle.calendar.proofs.moments.kind_of.Statement.{statement}
 use Rattle.calendar.proofs.moments.kind_of.Tie as tie
-use Rattle.calendar.proofs.moments.kind_of.Reads as reads
-use Rattle.calendar.proofs.moments.kind_of.Lts as lts
 
--- src/moments.rt:79:9
 returns : tie.Need-returns
 unfolding kindOf
 returns c = rw (le-leb _ _ (c .if1 .taken))
 
--- src/moments.rt:82:9
 returns-2 : tie.Need-returns-2
 unfolding kindOf
 returns-2 c = rw (lt-leb _ _ (c .before .if1 .left), le-leb _ _ (c .if2 .taken))
 
--- src/moments.rt:75:1
 returns-3 : tie.Need-returns-3
 unfolding kindOf
 returns-3 c = rw (lt-leb _ _ (c .before .if1 .left), lt-leb _ _ (c .if2 .left))

@@ -1,114 +1,85 @@
-use Rattle.calendar.proofs.Fixed.{written-by}
-use Rattle.calendar.specs.declared.texts.Form.the-variants.{Date, Time, DateTime, Offset}
-use borrow.Author.Tests.{le-leb, lt-leb}
-use lib.ListN.{length}
-use lib.Dec.{leb}
+-- `calendar::texts::basic` meets its contract: by the form and the length, the places of the form are the definition's.
 use mathlib.Core.Bool.{true, false}
-use mathlib.Core.Path.{_≡_, refl, sym, ap, _∙_}
+use mathlib.Core.Path.{refl}
+use borrow.Author.Tests.{le-leb, lt-leb}
 use borrow.Author.Needs.{needs}
+use Rattle.calendar.specs.declared.texts.Form.the-variants.{Date, Time, DateTime, Offset}
+use Rattle.calendar.proofs.Fixed.{written-by}
 use Rattle.calendar.proofs.texts.basic.Statement.{statement}
 use Rattle.calendar.proofs.texts.basic.Tie as tie
-use Rattle.calendar.proofs.texts.basic.Reads as reads
-use Rattle.calendar.proofs.texts.basic.Lts as lts
-use Rattle.calendar.proofs.texts.strip.Reads as strip-reads
 
--- src/texts.rt:300:29
 enum-told : tie.Need-enum-told
 enum-told c = search needs
 
--- src/texts.rt:300:29
 slice-aggregate-strip : tie.Need-slice-aggregate-strip
 slice-aggregate-strip c = search needs
 
--- src/texts.rt:300:23
 strip-requires : tie.Need-strip-requires
 strip-requires c κs = search needs
 
--- src/texts.rt:302:21
 enum-told-2 : tie.Need-enum-told-2
 enum-told-2 c = search needs
 
--- src/texts.rt:303:30
 slice-aggregate-strip-2 : tie.Need-slice-aggregate-strip-2
 slice-aggregate-strip-2 c = search needs
 
--- src/texts.rt:303:17
 strip-requires-2 : tie.Need-strip-requires-2
 strip-requires-2 c κs = search needs
 
--- src/texts.rt:303:17
 returns : tie.Need-returns
 returns c = written-by true Time (c .before .before .before .before .before .before .args .t .now) (le-leb _ _ (c .before .before .if1 .taken)) (c .before .before .before .enum-told2 .given .1) (c .strip2 .ensures)
 
--- src/texts.rt:305:19
 slice-aggregate-strip-3 : tie.Need-slice-aggregate-strip-3
 slice-aggregate-strip-3 c = search needs
 
--- src/texts.rt:305:13
 strip-requires-3 : tie.Need-strip-requires-3
 strip-requires-3 c κs = search needs
 
--- src/texts.rt:308:22
 enum-told-3 : tie.Need-enum-told-3
 enum-told-3 c = search needs
 
--- src/texts.rt:309:30
 slice-aggregate-strip-4 : tie.Need-slice-aggregate-strip-4
 slice-aggregate-strip-4 c = search needs
 
--- src/texts.rt:309:17
 strip-requires-4 : tie.Need-strip-requires-4
 strip-requires-4 c κs = search needs
 
--- src/texts.rt:309:17
 returns-2 : tie.Need-returns-2
 returns-2 c = written-by _ DateTime (c .before .before .before .before .before .before .args .t .now) (le-leb _ _ (c .before .before .if2 .taken)) (c .before .before .before .enum-told3 .given .1) (c .strip4 .ensures)
 
--- src/texts.rt:311:19
 slice-aggregate-strip-5 : tie.Need-slice-aggregate-strip-5
 slice-aggregate-strip-5 c = search needs
 
--- src/texts.rt:311:13
 strip-requires-5 : tie.Need-strip-requires-5
 strip-requires-5 c κs = search needs
 
--- src/texts.rt:314:21
 enum-told-4 : tie.Need-enum-told-4
 enum-told-4 c = search needs
 
--- src/texts.rt:315:30
 slice-aggregate-strip-6 : tie.Need-slice-aggregate-strip-6
 slice-aggregate-strip-6 c = search needs
 
--- src/texts.rt:315:17
 strip-requires-6 : tie.Need-strip-requires-6
 strip-requires-6 c κs = search needs
 
--- src/texts.rt:315:17
 returns-3 : tie.Need-returns-3
 returns-3 c = written-by true Offset (c .before .before .before .before .before .before .args .t .now) (le-leb _ _ (c .before .before .if3 .taken)) (c .before .before .before .enum-told4 .given .1) (c .strip6 .ensures)
 
--- src/texts.rt:317:19
 slice-aggregate-strip-7 : tie.Need-slice-aggregate-strip-7
 slice-aggregate-strip-7 c = search needs
 
--- src/texts.rt:317:13
 strip-requires-7 : tie.Need-strip-requires-7
 strip-requires-7 c κs = search needs
 
--- src/texts.rt:296:1
 returns-4 : tie.Need-returns-4
 returns-4 c = written-by _ Date (c .before .before .before .before .before .args .t .now) refl (c .before .before .enum-told .given .1) (c .strip .ensures)
 
--- src/texts.rt:296:1
 returns-5 : tie.Need-returns-5
 returns-5 c = written-by false Time (c .before .before .before .before .before .before .args .t .now) (lt-leb _ _ (c .before .before .if1 .left)) (c .before .before .before .enum-told2 .given .1) (c .strip3 .ensures)
 
--- src/texts.rt:296:1
 returns-6 : tie.Need-returns-6
 returns-6 c = written-by false DateTime (c .before .before .before .before .before .before .args .t .now) (lt-leb _ _ (c .before .before .if2 .left)) (c .before .before .before .enum-told3 .given .1) (c .strip5 .ensures)
 
--- src/texts.rt:296:1
 returns-7 : tie.Need-returns-7
 returns-7 c = written-by false Offset (c .before .before .before .before .before .before .args .t .now) (lt-leb _ _ (c .before .before .if3 .left)) (c .before .before .before .enum-told4 .given .1) (c .strip7 .ensures)
 

@@ -1,37 +1,27 @@
-use Rattle.calendar.specs.Dates.{clockIn}
+-- `calendar::texts::clock_in` meets its contract: the numbers at their places are a time.
 use borrow.Author.Needs.{needs}
+use Rattle.calendar.specs.Dates.{clockIn}
 use Rattle.calendar.proofs.texts.clock_in.Statement.{statement}
 use Rattle.calendar.proofs.texts.clock_in.Tie as tie
-use Rattle.calendar.proofs.texts.clock_in.Reads as reads
-use Rattle.calendar.proofs.texts.clock_in.Lts as lts
-use Rattle.calendar.proofs.texts.is_clock.Reads as is-clock-reads
-use Rattle.calendar.proofs.texts.pair.Reads as pair-reads
 
--- src/texts.rt:192:14
 pair-requires : tie.Need-pair-requires
 pair-requires c κs = search needs
 
--- src/texts.rt:192:35
 add-pair : tie.Need-add-pair
 add-pair c = search needs
 
--- src/texts.rt:192:27
 pair-requires-2 : tie.Need-pair-requires-2
 pair-requires-2 c κs = search needs
 
--- src/texts.rt:192:52
 add-pair-2 : tie.Need-add-pair-2
 add-pair-2 c = search needs
 
--- src/texts.rt:192:44
 pair-requires-3 : tie.Need-pair-requires-3
 pair-requires-3 c κs = search needs
 
--- src/texts.rt:192:5
 is-clock-requires : tie.Need-is-clock-requires
 is-clock-requires c κs = search needs
 
--- src/texts.rt:188:1
 returns : tie.Need-returns
 unfolding clockIn
 returns c = rw (← (c .before .before .before .pair .ensures .0), ← (c .before .before .pair2 .ensures .0), ← (c .before .pair3 .ensures .0)) (c .is-clock .ensures)

@@ -1,49 +1,38 @@
-use Rattle.calendar.proofs.Numbers.{no-digit, one-digit}
-use lib.ListN.{getD}
-use mathlib.Core.Path.{_≡_, refl, sym, _∙_}
+-- `calendar::texts::digit_on` meets its contract: one digit more, or none at the text's end.
+use Prim.Native.Nat.{ℕ, _+_, _-_, _*_, _<_}
 use native.Mathlib.Omega.{arith}
-use Prim.Native.Nat.{ℕ, _+_, _-_, _*_, _≤_, _<_}
+use mathlib.Core.Path.{_≡_, _∙_}
 use borrow.Author.Needs.{needs}
+use lib.ListN.{getD}
+use Rattle.calendar.proofs.Numbers.{no-digit, one-digit}
 use Rattle.calendar.proofs.texts.digit_on.Statement.{statement}
 use Rattle.calendar.proofs.texts.digit_on.Tie as tie
-use Rattle.calendar.proofs.texts.digit_on.Reads as reads
-use Rattle.calendar.proofs.texts.digit_on.Lts as lts
 
 -- low
 low-digit : (a c : ℕ) → c < 48 → a * 10 ≡ a * 10 + (c - 48)
 low-digit a c h = omega arith
 
--- end
-
--- src/texts.rt:122:9
 returns : tie.Need-returns
 returns c = (no-digit (c .before .args .t .now) (c .before .args .at) (c .before .args .a) (c .if1 .taken), omega arith)
 
--- src/texts.rt:124:13
 shared-slice-read-c : tie.Need-shared-slice-read-c
 shared-slice-read-c c = search needs
 
--- src/texts.rt:126:16
 mul-result : tie.Need-mul-result
 mul-result c = search needs
 
--- src/texts.rt:126:9
 returns-2 : tie.Need-returns-2
 returns-2 c = (low-digit (c .before .before .before .args .a) (getD (c .before .before .before .args .t .now) (c .before .before .before .args .at) 0) (c .if2 .taken) ∙ one-digit (c .before .before .before .args .t .now) (c .before .before .before .args .at) (c .before .before .before .args .a) (c .before .before .if1 .left), omega arith)
 
--- src/texts.rt:128:5
 mul-result-2 : tie.Need-mul-result-2
 mul-result-2 c = search needs
 
--- src/texts.rt:128:15
 cast-result : tie.Need-cast-result
 cast-result c = omega (arith, c .before .shared-slice-known .given (c .before .before .before .args .at))
 
--- src/texts.rt:128:5
 add-result : tie.Need-add-result
 add-result c = omega (arith, c .before .shared-slice-known .given (c .before .before .before .args .at))
 
--- src/texts.rt:117:1
 returns-3 : tie.Need-returns-3
 returns-3 c = (one-digit (c .before .before .before .args .t .now) (c .before .before .before .args .at) (c .before .before .before .args .a) (c .before .before .if1 .left), omega (arith, c .before .shared-slice-known .given (c .before .before .before .args .at)))
 

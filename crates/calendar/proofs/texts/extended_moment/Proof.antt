@@ -1,28 +1,22 @@
-use Rattle.calendar.proofs.Fixed.{says-some, says-none}
-use Rattle.calendar.specs.Dates.{momentOf}
-use Rattle.octets.specs.Optional.{or?}
-use mathlib.Core.Path.{_≡_, refl, sym, ap, _∙_}
+-- `calendar::texts::extended_moment` meets its contract: the date's text, or else the date-time's.
+use mathlib.Core.Path.{sym, _∙_}
 use borrow.Author.Needs.{needs}
+use Rattle.octets.specs.Optional.{or?}
+use Rattle.calendar.specs.Dates.{momentOf}
+use Rattle.calendar.proofs.Fixed.{says-some, says-none}
 use Rattle.calendar.proofs.texts.extended_moment.Statement.{statement}
 use Rattle.calendar.proofs.texts.extended_moment.Tie as tie
-use Rattle.calendar.proofs.texts.extended_moment.Reads as reads
-use Rattle.calendar.proofs.texts.extended_moment.Lts as lts
-use Rattle.calendar.proofs.texts.extended.Reads as extended-reads
 
--- src/texts.rt:326:9
 extended-requires : tie.Need-extended-requires
 extended-requires c κs = search needs
 
--- src/texts.rt:328:9
 returns : tie.Need-returns
 unfolding momentOf or?
 returns c = record { text = says-some _ (c .if1 .taken) ∙ rw (sym (c .before .before .extended .ensures .text) ∙ says-some _ (c .if1 .taken)); room = c .before .before .extended .ensures .room }
 
--- src/texts.rt:330:5
 extended-requires-2 : tie.Need-extended-requires-2
 extended-requires-2 c κs = search needs
 
--- src/texts.rt:323:1
 returns-2 : tie.Need-returns-2
 unfolding momentOf or?
 returns-2 c = rw (sym (c .before .before .before .extended .ensures .text) ∙ says-none _ (c .before .if1 .left)) (c .extended2 .ensures)

@@ -1,21 +1,17 @@
-use Rattle.calendar.specs.Dates.{isClock}
+-- `calendar::texts::is_clock` meets its contract: its tests are the definition's.
 use borrow.Author.Tests.{le-leb, lt-leb}
+use Rattle.calendar.specs.Dates.{isClock}
 use Rattle.calendar.proofs.texts.is_clock.Statement.{statement}
 use Rattle.calendar.proofs.texts.is_clock.Tie as tie
-use Rattle.calendar.proofs.texts.is_clock.Reads as reads
-use Rattle.calendar.proofs.texts.is_clock.Lts as lts
 
--- src/texts.rt:179:9
 returns : tie.Need-returns
 unfolding isClock
 returns c = rw (lt-leb _ _ (c .if1 .taken))
 
--- src/texts.rt:182:9
 returns-2 : tie.Need-returns-2
 unfolding isClock
 returns-2 c = rw (le-leb _ _ (c .before .if1 .left), lt-leb _ _ (c .if2 .taken))
 
--- src/texts.rt:175:1
 returns-3 : tie.Need-returns-3
 unfolding isClock
 returns-3 c = rw (le-leb _ _ (c .before .if1 .left), le-leb _ _ (c .if2 .left))

@@ -1,18 +1,14 @@
-use Rattle.calendar.specs.Texts.{textSaid}
-use borrow.Author.Tests.{ne-eqb, not-true, not-false}
-use mathlib.Core.Path.{_≡_, refl, sym, _∙_}
-use native.Mathlib.Omega.{arith}
+-- `calendar::texts::read` meets its contract: the loop reads places into the front of the array (`Reading`). The measure is what is left of the form.
 use Prim.Native.Nat.{_-_}
-use lib.ListN.{length}
-use Rattle.calendar.proofs.Slots.{Reading, begins, adds, reads, short, wrong, long, ends}
+use native.Mathlib.Omega.{arith}
+use mathlib.Core.Path.{refl, sym, _∙_}
+use borrow.Author.Tests.{ne-eqb, not-true, not-false}
 use borrow.Author.Needs.{needs}
+use lib.ListN.{length}
+use Rattle.calendar.specs.Texts.{textSaid}
+use Rattle.calendar.proofs.Slots.{Reading, begins, adds, reads, short, wrong, long, ends}
 use Rattle.calendar.proofs.texts.read.Statement.{statement}
 use Rattle.calendar.proofs.texts.read.Tie as tie
-use Rattle.calendar.proofs.texts.read.Reads as reads
-use Rattle.calendar.proofs.texts.read.Lts as lts
-use Rattle.calendar.proofs.texts.is_added.Reads as is-added-reads
-use Rattle.calendar.proofs.texts.takes.Reads as takes-reads
-use Rattle.octets.proofs.upper_octet.Reads as upper-octet-reads
 
 abbrev Inv-loop : tie.InvT-loop
 Inv-loop form whole s out₀ i₀ k₀ out i k = Reading whole form s out i k
@@ -20,52 +16,40 @@ Inv-loop form whole s out₀ i₀ k₀ out i k = Reading whole form s out i k
 abbrev μ-loop : tie.MeasureT-loop
 μ-loop form whole s out₀ i₀ k₀ out i k = length form - k
 
--- src/texts.rt:70:5
 loop-holds : tie.Need-loop-holds Inv-loop μ-loop
 loop-holds c = begins _ _ _ _ refl
 
--- src/texts.rt:71:17
 shared-slice-read-f : tie.Need-shared-slice-read-f Inv-loop μ-loop
 shared-slice-read-f c = search needs
 
--- src/texts.rt:72:12
 is-added-requires : tie.Need-is-added-requires Inv-loop μ-loop
 is-added-requires c κs = search needs
 
--- src/texts.rt:73:13
 array-write-out : tie.Need-array-write-out Inv-loop μ-loop
 array-write-out c = search needs
 
--- src/texts.rt:74:13
 add-k : tie.Need-add-k Inv-loop μ-loop
 add-k c = search needs
 
--- src/texts.rt:70:5
 loop-less : tie.Need-loop-less Inv-loop μ-loop
 loop-less c = search needs
 
--- src/texts.rt:70:5
 loop-again : tie.Need-loop-again Inv-loop μ-loop
 loop-again c = adds _ _ _ _ _ _ (c .before .before .before .before .loop .inv) (c .before .before .before .loop-test .taken) (omega arith) (sym (c .before .is-added .ensures) ∙ c .if1 .taken)
 
--- src/texts.rt:77:17
 returns : tie.Need-returns Inv-loop μ-loop
 unfolding textSaid
 returns c = record { text = short _ _ _ _ _ _ (c .before .before .before .before .before .loop .inv) (c .before .before .before .before .loop-test .taken) (c .if2 .taken) (sym (c .before .before .is-added .ensures) ∙ c .before .if1 .left); room = omega arith }
 
--- src/texts.rt:82:33
 shared-slice-read-upper-octet : tie.Need-shared-slice-read-upper-octet Inv-loop μ-loop
 shared-slice-read-upper-octet c = search needs
 
--- src/texts.rt:82:17
 upper-octet-requires : tie.Need-upper-octet-requires Inv-loop μ-loop
 upper-octet-requires c κs = search needs
 
--- src/texts.rt:83:17
 takes-requires : tie.Need-takes-requires Inv-loop μ-loop
 takes-requires c κs = search needs
 
--- src/texts.rt:84:17
 returns-2 : tie.Need-returns-2 Inv-loop μ-loop
 unfolding textSaid
 returns-2 c = record {
@@ -73,32 +57,25 @@ returns-2 c = record {
   room = omega arith;
 }
 
--- src/texts.rt:89:13
 array-write-out-2 : tie.Need-array-write-out-2 Inv-loop μ-loop
 array-write-out-2 c = search needs
 
--- src/texts.rt:90:13
 add-i : tie.Need-add-i Inv-loop μ-loop
 add-i c = search needs
 
--- src/texts.rt:91:13
 add-k-2 : tie.Need-add-k-2 Inv-loop μ-loop
 add-k-2 c = search needs
 
--- src/texts.rt:70:5
 loop-less-2 : tie.Need-loop-less-2 Inv-loop μ-loop
 loop-less-2 c = search needs
 
--- src/texts.rt:70:5
 loop-again-2 : tie.Need-loop-again-2 Inv-loop μ-loop
 loop-again-2 c = reads _ _ _ _ _ _ (c .before .before .before .before .before .before .before .before .before .loop .inv) _ (c .before .before .before .before .before .before .before .before .loop-test .taken) (omega arith) (c .before .before .before .before .if2 .left) (sym (c .before .before .before .before .before .before .is-added .ensures) ∙ c .before .before .before .before .before .if1 .left) (c .before .before .upper-octet .ensures) (sym (c .before .takes .ensures) ∙ not-false _ (c .if3 .left))
 
--- src/texts.rt:95:9
 returns-3 : tie.Need-returns-3 Inv-loop μ-loop
 unfolding textSaid
 returns-3 c = record { text = long _ _ _ _ _ _ (c .before .before .loop .inv) (c .before .loop-test .left) (c .if4 .taken); room = omega arith }
 
--- src/texts.rt:63:1
 returns-4 : tie.Need-returns-4 Inv-loop μ-loop
 unfolding textSaid
 returns-4 c = record {

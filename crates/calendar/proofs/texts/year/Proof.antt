@@ -1,29 +1,21 @@
-use Rattle.calendar.proofs.Numbers.{digit-more}
-use Rattle.calendar.specs.Forms.{numberAt}
-use Rattle.octets.specs.Decimal.{valueFrom, valueOf}
-use mathlib.Core.Path.{_≡_, refl, sym, ap, _∙_}
-use native.Mathlib.Omega.{arith}
+-- `calendar::texts::year` meets its contract: two digits more behind the first two.
+use mathlib.Core.Path.{_∙_}
 use borrow.Author.Needs.{needs}
+use Rattle.octets.specs.Decimal.{valueOf}
+use Rattle.calendar.specs.Forms.{numberAt}
+use Rattle.calendar.proofs.Numbers.{digit-more}
 use Rattle.calendar.proofs.texts.year.Statement.{statement}
 use Rattle.calendar.proofs.texts.year.Tie as tie
-use Rattle.calendar.proofs.texts.year.Reads as reads
-use Rattle.calendar.proofs.texts.year.Lts as lts
-use Rattle.calendar.proofs.texts.digit_on.Reads as digit-on-reads
-use Rattle.calendar.proofs.texts.pair.Reads as pair-reads
 
--- src/texts.rt:143:35
 pair-requires : tie.Need-pair-requires
 pair-requires c κs = search needs
 
--- src/texts.rt:143:20
 digit-on-requires : tie.Need-digit-on-requires
 digit-on-requires c κs = search needs
 
--- src/texts.rt:143:5
 digit-on-requires-2 : tie.Need-digit-on-requires-2
 digit-on-requires-2 c κs = search needs
 
--- src/texts.rt:140:1
 returns : tie.Need-returns
 unfolding numberAt valueOf
 returns c = c .digit-on2 .ensures .0 ∙ (rw (c .before .digit-on .ensures .0, c .before .before .pair .ensures .0, digit-more (c .before .before .before .before .args .t .now) 0 2 0) (digit-more (c .before .before .before .before .args .t .now) 0 3 0))

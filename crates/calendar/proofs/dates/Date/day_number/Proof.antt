@@ -1,10 +1,10 @@
 -- `calendar::dates::Date::day_number` meets its contract: a day's bounds keep the formula within 32 bits, and it agrees with the definition.
-use borrow.Author.Needs.{needs}
-use borrow.Author.Tests.{not-true, not-false}
 use native.Mathlib.Omega.{arith}
 use mathlib.Core.Path.{_≡_, sym, ap, _∙_}
 use mathlib.Core.Bool.{true}
 use mathlib.Core.Option.{some}
+use borrow.Author.Needs.{needs}
+use borrow.Author.Tests.{not-true, not-false}
 use Rattle.octets.specs.Optional.{when}
 use Rattle.calendar.specs.Gregorian.{isDay, dayNumber}
 use Rattle.calendar.proofs.Days.{Bounds, bounds, marchYear, fromMarch, byFormula, counted}

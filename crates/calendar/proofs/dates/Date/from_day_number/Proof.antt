@@ -1,7 +1,7 @@
 -- `calendar::dates::Date::from_day_number` meets its contract: the formula gives the definition's date.
-use borrow.Author.Needs.{needs}
 use mathlib.Core.Path.{refl, sym, ap}
 use mathlib.Core.Option.{some}
+use borrow.Author.Needs.{needs}
 use borrow.Author.Tests.{lt-ltb, le-ltb}
 use Rattle.octets.specs.Optional.{when}
 use Rattle.calendar.proofs.Back.{found}

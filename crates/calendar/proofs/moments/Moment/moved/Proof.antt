@@ -1,97 +1,73 @@
+-- `calendar::moments::Moment::moved` meets its contract: hours from the first day on, and back to a date.
+use native.Mathlib.Omega.{arith}
+use mathlib.Core.Path.{sym, ap, _∙_}
+use borrow.Author.Tests.{not-true, not-false}
+use borrow.Author.Needs.{needs}
 use Rattle.calendar.specs.Answers.{dayNumberSaid, dateSaid}
 use Rattle.calendar.proofs.Hours.{no-time, no-day, within, past, never-past, arrives}
-use borrow.Author.Tests.{not-true, not-false}
-use mathlib.Core.Path.{_≡_, refl, sym, ap, _∙_}
-use native.Mathlib.Omega.{arith}
-use borrow.Author.Needs.{needs}
 use Rattle.calendar.proofs.moments.Moment.moved.Statement.{statement}
 use Rattle.calendar.proofs.moments.Moment.moved.Tie as tie
-use Rattle.calendar.proofs.moments.Moment.moved.Reads as reads
-use Rattle.calendar.proofs.moments.Moment.moved.Lts as lts
-use Rattle.calendar.proofs.dates.Date.day_number.Reads as day-number-reads
-use Rattle.calendar.proofs.dates.Date.from_day_number.Reads as from-day-number-reads
-use Rattle.calendar.proofs.texts.is_clock.Reads as is-clock-reads
 
--- src/moments.rt:50:13
 is-clock-requires : tie.Need-is-clock-requires
 is-clock-requires c κs = search needs
 
--- src/moments.rt:51:13
 returns : tie.Need-returns
 returns c = no-time _ _ (sym (c .before .is-clock .ensures) ∙ not-true _ (c .if1 .taken))
 
--- src/moments.rt:53:33
 day-number-requires : tie.Need-day-number-requires
 day-number-requires c κs = search needs
 
--- src/moments.rt:53:28
 enum-known-n : tie.Need-enum-known-n
 enum-known-n c = search needs
 
--- src/moments.rt:54:13
 enum-told : tie.Need-enum-told
 enum-told c = search needs
 
--- src/moments.rt:54:13
 returns-2 : tie.Need-returns-2
 returns-2 c = no-day _ _ (ap dayNumberSaid (sym (c .enum-told .given .1)) ∙ c .before .before .day-number .ensures)
 
--- src/moments.rt:56:21
 cast-here : tie.Need-cast-here
 cast-here c = search needs
 
--- src/moments.rt:56:20
 mul-here : tie.Need-mul-here
 mul-here c = search needs
 
--- src/moments.rt:56:39
 cast-here-2 : tie.Need-cast-here-2
 cast-here-2 c = search needs
 
--- src/moments.rt:56:20
 add-here : tie.Need-add-here
 add-here c = search needs
 
--- src/moments.rt:57:12
 sub-if2 : tie.Need-sub-if2
 sub-if2 c = let w = within (c .before .before .before .before .before .before .before .before .args .self) 0 (c .before .before .n .given .0 .0) (sym (c .before .before .before .before .before .before .is-clock .ensures) ∙ not-false _ (c .before .before .before .before .before .if1 .left)) (ap dayNumberSaid (sym (c .before .before .n .given .1)) ∙ c .before .before .before .before .day-number .ensures) in
     omega arith
 
--- src/moments.rt:58:13
 returns-3 : tie.Need-returns-3
 returns-3 c = past _ _ _ (sym (c .before .before .before .before .before .before .before .is-clock .ensures) ∙ not-false _ (c .before .before .before .before .before .before .if1 .left)) (ap dayNumberSaid (sym (c .before .before .before .n .given .1)) ∙ c .before .before .before .before .before .day-number .ensures) (omega arith)
 
--- src/moments.rt:60:21
 add-there : tie.Need-add-there
 add-there c = search needs
 
--- src/moments.rt:61:53
 cast-from-day-number : tie.Need-cast-from-day-number
 cast-from-day-number c = search needs
 
--- src/moments.rt:61:31
 from-day-number-requires : tie.Need-from-day-number-requires
 from-day-number-requires c κs = search needs
 
--- src/moments.rt:61:24
 enum-known-day : tie.Need-enum-known-day
 enum-known-day c = search needs
 
--- src/moments.rt:62:13
 enum-told-2 : tie.Need-enum-told-2
 enum-told-2 c = search needs
 
--- src/moments.rt:62:13
 returns-4 : tie.Need-returns-4
 returns-4 c = absurd
     (never-past (c .before .before .before .before .before .before .before .before .before .before .before .before .args .self) (c .before .before .before .before .before .before .before .before .before .before .before .before .args .hours) _ (sym (c .before .before .before .before .before .before .before .before .before .before .is-clock .ensures) ∙ not-false _ (c .before .before .before .before .before .before .before .before .before .if1 .left)) (ap dayNumberSaid (sym (c .before .before .before .before .before .before .n .given .1)) ∙ c .before .before .before .before .before .before .before .before .day-number .ensures) (omega arith)
     (ap dateSaid (sym (c .enum-told2 .given .1)) ∙ c .before .before .from-day-number .ensures))
 
--- src/moments.rt:66:19
 cast-t16 : tie.Need-cast-t16
 cast-t16 c = search needs
 
--- src/moments.rt:45:5
 returns-5 : tie.Need-returns-5
 returns-5 c = arrives _ _ _ (sym (c .before .before .before .before .before .before .before .before .before .before .before .is-clock .ensures) ∙ not-false _ (c .before .before .before .before .before .before .before .before .before .before .if1 .left)) (ap dayNumberSaid (sym (c .before .before .before .before .before .before .before .n .given .1)) ∙ c .before .before .before .before .before .before .before .before .before .day-number .ensures) (omega arith) _
     (ap dateSaid (sym (c .before .day .given .1)) ∙ c .before .before .before .from-day-number .ensures)
