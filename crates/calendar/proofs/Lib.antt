@@ -6,3 +6,6 @@ pub mod Slots
 pub mod Numbers
 pub mod Fixed
 pub mod Hours
+pub mod Pieces
+pub mod Words
+pub mod Keys

@@ -7,3 +7,4 @@ pub mod Recurrence
 pub mod Moments
 pub mod Rules
 pub mod Answers
+pub mod Walk
