@@ -9,3 +9,5 @@ pub mod Hours
 pub mod Pieces
 pub mod Words
 pub mod Keys
+pub mod Counting
+pub mod Standing

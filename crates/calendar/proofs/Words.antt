@@ -5,14 +5,15 @@ use mathlib.Core.Path.{_≡_, refl, sym, ap, _∙_}
 use mathlib.Core.Bool.{Bool, true, false}
 use mathlib.Core.List.{List, [], _∷_, map}
 use native.Mathlib.Omega.{arith}
-use borrow.Author.Tests.{ltb-true, ltb-false}
+use borrow.Author.Tests.{ltb-true, ltb-false, lt-ltb, le-ltb}
 use lib.Dec.{ltb}
 use lib.ListN.{length, take, drop}
 use lib.Seq.{drop-drop}
-use Rattle.octets.specs.Basics.{pick, same}
+use Rattle.octets.specs.Basics.{pick, _or_, any, same, among}
 use Rattle.octets.specs.Classes.{upper, sameName}
 use Rattle.octets.specs.Pieces.{split}
-use Rattle.octets.proofs.Cases.{cases}
+use Rattle.octets.proofs.Cases.{cases, never, neither, alike}
+use Rattle.octets.proofs.Classes.{same-is, same-itself}
 use Rattle.octets.proofs.Positions.{from, upto}
 use Rattle.calendar.specs.Walk.{before, wordsIn, wordPlace}
 use Rattle.calendar.proofs.Pieces.{before-take, split-more, split-last, comma-uncased, split-upper, scanned}
@@ -63,3 +64,29 @@ module _ (words s : List ℕ) (at e : ℕ) (b : Bool) (is : e ≡ length (before
 
   pub turn-end : length (take (length words - at) (drop at words)) ≤ e → b ≡ false → wordPlace (wordsIn (drop at words)) (upper s) ≡ 1
   turn-end h f = place-end (drop at words) (upper s) e (scanned (code ",") words at e is) (rw (from words at) at h) (sym word ∙ f)
+
+-- a text is among the words if its place is one of theirs
+pub same-turned : (a b : List ℕ) → same a b ≡ same b a
+same-turned a b = alike (same a b) (same b a)
+    (λ e. rw (same-is a b e) (same-itself b))
+    (λ e. rw (same-is b a e) (same-itself a))
+
+module _ (n : List ℕ) where
+  pub place-found : (ws : List (List ℕ)) → among n ws ≡ true → wordPlace ws n < length ws
+  unfolding among any wordPlace
+  place-found [] h = never h refl
+  place-found (w ∷ ws) h = cases (same w n)
+      (λ e. rw e (omega arith))
+      (λ e. rw e (let l = place-found ws (rw (same-turned n w, e) at h) in omega arith))
+
+  pub place-missing : (ws : List (List ℕ)) → among n ws ≡ false → wordPlace ws n ≡ length ws
+  unfolding among any wordPlace
+  place-missing [] h = refl
+  place-missing (w ∷ ws) h =
+      let b = neither (same n w) (any (same n) ws) h in
+      rw (same-turned w n, b .0) (ap suc (place-missing ws (b .1)))
+
+  pub place-among : (ws : List (List ℕ)) → ltb (wordPlace ws n) (length ws) ≡ among n ws
+  place-among ws = cases (among n ws)
+      (λ e. lt-ltb (wordPlace ws n) (length ws) (place-found ws e) ∙ sym e)
+      (λ e. le-ltb (wordPlace ws n) (length ws) (rw (place-missing ws e) (omega arith)) ∙ sym e)

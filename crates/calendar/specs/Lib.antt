@@ -8,3 +8,4 @@ pub mod Moments
 pub mod Rules
 pub mod Answers
 pub mod Walk
+pub mod Reading

@@ -1,5 +1,6 @@
 // Dates, moments, durations and recurrence rules.
 pub mod dates;
+pub mod items;
 pub mod moments;
 pub mod parts;
 pub mod rules;
