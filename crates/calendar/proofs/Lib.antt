@@ -6,8 +6,11 @@ pub mod Slots
 pub mod Numbers
 pub mod Fixed
 pub mod Hours
+pub mod Options
 pub mod Pieces
 pub mod Words
 pub mod Keys
 pub mod Counting
 pub mod Standing
+pub mod Octets
+pub mod Walk

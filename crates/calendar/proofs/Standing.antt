@@ -22,14 +22,10 @@ use Rattle.octets.proofs.Positions.{from, upto, part-length}
 use Rattle.calendar.specs.Recurrence.{frequencies, weekdays, wordOf, countOf, numberOf, ordinalOf, dayOf}
 use Rattle.calendar.specs.Walk.{wordsIn, wordPlace}
 use Rattle.calendar.specs.Reading.{numberIn}
+use Rattle.calendar.proofs.Options.{some-when, some-then, some-both}
 use Rattle.calendar.proofs.Pieces.{uncased, upper-length, upper-take, upper-drop}
 use Rattle.calendar.proofs.Words.{place-among}
 use Rattle.calendar.proofs.Counting.{digit-bounds}
-
-pub some-when : {A : Type 0} (b : Bool) (a : A) → isSome (when b a) ≡ b
-unfolding isSome when
-some-when true a = refl
-some-when false a = refl
 
 -- uppercase changes neither digits nor signs
 digit-raised : (c : ℕ) → isDigit c ≡ true → upperOctet c ≡ c
@@ -177,21 +173,6 @@ pub weekday-stands : (n : List ℕ) → isSome (wordOf weekdays n) ≡ ltb (word
 weekday-stands n = word-stands weekdays n ∙ ap (ltb (wordPlace weekdays n)) (unfold weekdays in refl)
 
 -- a weekday with a number
-pub some-then : {A B : Type 0} (o : Option A) (f : A → Option B) → isSome o ≡ false → isSome (then? o f) ≡ false
-unfolding isSome then?
-some-then none f e = refl
-some-then (some a) f e = never refl e
-
-pub some-map : {A B : Type 0} (f : A → B) (o : Option A) → isSome (map? f o) ≡ isSome o
-unfolding isSome map?
-some-map f none = refl
-some-map f (some a) = refl
-
-some-both : {A B C : Type 0} (o : Option A) (f : A → B → C) (p : Option B) → isSome o ≡ true → isSome (then? o (λ a. map? (f a) p)) ≡ isSome p
-unfolding isSome then?
-some-both none f p e = never e refl
-some-both (some a) f p e = some-map (f a) p
-
 module _ (s : List ℕ) (at : ℕ) (is : at ≡ length s - 2) where
   tail : drop (length (upper s) - 2) (upper s) ≡ upper (take (length s - at) (drop at s))
   tail = rw (upper-length s, ← is, from s at) (sym (upper-drop at s))

@@ -79,6 +79,6 @@ unfoldable pub readRule : List ℕ → Option Rule
 readRule s = map? ruleFrom (partsOf (upper s))
 
 -- what a returned `RuleRead` says
-unfoldable pub ruleIn : RuleRead → Option Rule
-ruleIn (Is r) = some r
-ruleIn NoRule = none
+unfoldable pub ruleSaid : RuleRead → Option Rule
+ruleSaid (Is r) = some r
+ruleSaid NoRule = none

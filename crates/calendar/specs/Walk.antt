@@ -34,13 +34,13 @@ unfoldable pub keyAt : ℕ → Key
 keyAt i = getD keys i (key [] frequency)
 
 -- the sort that a key's values are of, as the code has it
-unfoldable pub sortIn : ItemSort → Sort
-sortIn Frequency = frequency
-sortIn Moment = moment
-sortIn Count = count
-sortIn Weekday = weekday
-sortIn Ordinal = ordinal
-sortIn (Numbers b) = numbers (b .signed) (b .most) (b .lo) (b .hi)
+unfoldable pub sortSaid : ItemSort → Sort
+sortSaid Frequency = frequency
+sortSaid Moment = moment
+sortSaid Count = count
+sortSaid Weekday = weekday
+sortSaid Ordinal = ordinal
+sortSaid (Numbers b) = numbers (b .signed) (b .most) (b .lo) (b .hi)
 
 abbrev pub partAt : ℕ → ℕ → ℕ → ℕ → PartAt
 partAt k n f t = record { key = k; name = n; from = f; to = t }

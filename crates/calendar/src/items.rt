@@ -11,7 +11,7 @@ ghost use Rattle.octets.specs.Classes.{upper};
 ghost use Rattle.octets.specs.Decimal.{hasSign, minus, unsigned, trim, minusIf, integerText, valueOf};
 ghost use Rattle.octets.specs.Pen.{pen, Wrote};
 ghost use Rattle.calendar.specs.Recurrence.{frequencies, weekdays, ordinal, wordOf, countOf, numberOf, dayOf, itemText};
-ghost use Rattle.calendar.specs.Walk.{sortIn};
+ghost use Rattle.calendar.specs.Walk.{sortSaid};
 ghost use Rattle.calendar.specs.Reading.{numberIn};
 use crate::parts::Bounds;
 use crate::parts::ItemSort;

@@ -3,7 +3,7 @@ ghost use mathlib.Core.Path.{_≡_};
 ghost use lib.ListN.{length};
 ghost use Rattle.octets.specs.Classes.{upper};
 ghost use Rattle.calendar.specs.Recurrence.{numbers};
-ghost use Rattle.calendar.specs.Walk.{before, wordsIn, wordPlace, keyAt, sortIn, firstPart};
+ghost use Rattle.calendar.specs.Walk.{before, wordsIn, wordPlace, keyAt, sortSaid, firstPart};
 use octets::same_name;
 
 // A part: its key's place among the keys (14: none), the length of its name, where its values begin, and where it ends.
@@ -94,7 +94,7 @@ pub fn first_part(s: &[u8]) -> PartAt
 }
 
 fn numbers(signed: bool, most: usize, lo: u32, hi: u32) -> ItemSort
-    ensures { λ r. ⌜ sortIn r ≡ numbers signed most lo hi ⌝ }
+    ensures { λ r. ⌜ sortSaid r ≡ numbers signed most lo hi ⌝ }
 {
     ItemSort::Numbers(Bounds {
         signed: signed,
@@ -106,7 +106,7 @@ fn numbers(signed: bool, most: usize, lo: u32, hi: u32) -> ItemSort
 
 // What the values of the part with a key are.
 pub fn sort_of(key: usize) -> ItemSort
-    ensures { λ r. ⌜ sortIn r ≡ (keyAt key) .sort ⌝ }
+    ensures { λ r. ⌜ sortSaid r ≡ (keyAt key) .sort ⌝ }
 {
     match key {
         1 => ItemSort::Moment,
