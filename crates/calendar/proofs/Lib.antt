@@ -14,3 +14,4 @@ pub mod Counting
 pub mod Standing
 pub mod Octets
 pub mod Walk
+pub mod Gathering

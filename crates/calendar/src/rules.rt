@@ -53,3 +53,11 @@ pub enum RuleRead {
     Is(Rule),
     NoRule,
 }
+
+// A rule while its parts are read, but for the BY parts.
+struct Head {
+    frequency: Frequency,
+    interval: u32,
+    end: End,
+    wkst: Weekday,
+}
