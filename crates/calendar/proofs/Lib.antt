@@ -10,8 +10,9 @@ pub mod Options
 pub mod Pieces
 pub mod Words
 pub mod Keys
-pub mod Counting
 pub mod Standing
 pub mod Octets
 pub mod Walk
 pub mod Gathering
+pub mod Listing
+pub mod Showing

@@ -1,12 +1,12 @@
 -- Which values of a recurrence rule stand, as the code tests them: on the octets as received, not in uppercase.
-use Prim.Native.Nat.{ℕ, zero, suc, _+_, _-_, _≤_, _<_}
+use Prim.Native.Nat.{ℕ, zero, suc, _+_, _-_, _≤_, _<_, min}
 use Prim.Native.Char.{code}
 use mathlib.Core.Path.{_≡_, refl, sym, ap, _∙_}
 use mathlib.Core.Bool.{Bool, true, false, not}
 use mathlib.Core.List.{List, [], _∷_, _++_, map}
 use mathlib.Core.Option.{Option, none, some}
 use native.Mathlib.Omega.{arith}
-use borrow.Author.Tests.{le-leb, lt-leb, leb-true, leb-false}
+use borrow.Author.Tests.{le-leb, lt-leb, leb-true, leb-false, eqb-true}
 use lib.Dec.{eqb, leb, ltb}
 use lib.ListN.{length, getD, take, drop, length-take}
 use Rattle.octets.specs.Basics.{octets, pick, _and_, _or_, all, filled, among}
@@ -15,19 +15,24 @@ use Rattle.octets.specs.Optional.{map?, then?, isSome, when}
 use Rattle.octets.specs.Classes.{between, isDigit, isUpper, isLower, upperOctet, upper}
 use Rattle.octets.specs.Decimal.{digits, valueOf, isSign, hasSign, unsigned}
 use Rattle.octets.specs.Limits.{mostInteger}
-use Rattle.octets.proofs.Cases.{cases, both, never, and-false-right}
+use Rattle.octets.proofs.Cases.{cases, both, either, never, and-false-right}
 use Rattle.octets.proofs.Classes.{between-true, below-between, above-between}
+use Rattle.octets.proofs.Decimal.{digits-all}
 use Rattle.octets.proofs.Limits.{most-integer}
 use Rattle.octets.proofs.Positions.{from, upto, part-length}
-use Rattle.calendar.specs.Recurrence.{frequencies, weekdays, wordOf, countOf, numberOf, ordinalOf, dayOf}
+use Rattle.calendar.specs.Recurrence.{frequencies, weekdays, wordOf, untilOf, countOf, numberOf, ordinalOf, dayOf}
+use Rattle.calendar.specs.Dates.{momentOf}
+use Rattle.calendar.specs.Moments.{momentFrom, readMoment}
 use Rattle.calendar.specs.Walk.{wordsIn, wordPlace}
-use Rattle.calendar.specs.Reading.{numberIn}
-use Rattle.calendar.proofs.Options.{some-when, some-then, some-both}
+use Rattle.calendar.proofs.Options.{some-when, some-then, some-map, some-both}
 use Rattle.calendar.proofs.Pieces.{uncased, upper-length, upper-take, upper-drop}
 use Rattle.calendar.proofs.Words.{place-among}
-use Rattle.calendar.proofs.Counting.{digit-bounds}
 
 -- uppercase changes neither digits nor signs
+digit-bounds : (c : ℕ) → isDigit c ≡ true → (48 ≤ c) × (c ≤ 57)
+unfolding isDigit
+digit-bounds c e = between-true (code "0") (code "9") c e
+
 digit-raised : (c : ℕ) → isDigit c ≡ true → upperOctet c ≡ c
 unfolding upperOctet isLower
 digit-raised c e = rw (below-between (code "a") (code "z") c (let b = digit-bounds c e in omega arith))
@@ -62,6 +67,12 @@ pub sign-upper : (c : ℕ) → isSign (upperOctet c) ≡ isSign c
 unfolding isSign isLower isUpper between
 sign-upper c = rw (uncased (code "+") refl refl c, uncased (code "-") refl refl c)
 
+pub sign-raised : (c : ℕ) → isSign c ≡ true → upperOctet c ≡ c
+unfolding isSign upperOctet isLower
+sign-raised c e = either (eqb c (code "+")) (eqb c (code "-")) e
+    (λ h. rw (eqb-true c (code "+") h) (unfold between in refl))
+    (λ h. rw (eqb-true c (code "-") h) (unfold between in refl))
+
 pub hasSign-upper : (s : List ℕ) → hasSign (upper s) ≡ hasSign s
 unfolding hasSign upper
 hasSign-upper [] = refl
@@ -76,29 +87,15 @@ unsigned-upper (c ∷ s) = rw (sign-upper c) (by (isSign c))
     by true = refl
     by false = unfold upper in refl
 
-pub unsigned-drop : (s : List ℕ) → unsigned s ≡ drop (pick (hasSign s) 1 0) s
-unfolding unsigned hasSign isSign
-unsigned-drop [] = refl
-unsigned-drop (c ∷ s) = by (isSign c)
-  where
-    by : (b : Bool) → pick b s (c ∷ s) ≡ drop (pick b 1 0) (c ∷ s)
-    by true = refl
-    by false = refl
+-- a number within bounds, which is capped above them
+pub capped-bounds : (lo hi v : ℕ) → between lo hi (min v (hi + 1)) ≡ between lo hi v
+capped-bounds lo hi v = cases (leb v hi)
+    (λ e. let h : min v (hi + 1) ≡ v = omega (arith, leb-true v hi e) in rw h)
+    (λ e. above-between lo hi (min v (hi + 1)) (omega (arith, leb-false v hi e)) ∙ sym (above-between lo hi v (leb-false v hi e)))
 
--- a number within bounds
-in-bounds : (lo hi v : ℕ) (d : Bool) → between lo hi (pick (d and leb v hi) v (hi + 1)) ≡ (d and between lo hi v)
-in-bounds lo hi v true = cases (leb v hi)
-    (λ e. rw e)
-    (λ e. rw e (above-between lo hi (hi + 1) (omega arith) ∙ sym (above-between lo hi v (leb-false v hi e))))
-in-bounds lo hi v false = above-between lo hi (hi + 1) (omega arith)
-
-number-bounds : (lo hi : ℕ) (s : List ℕ) → between lo hi (numberIn hi s) ≡ (digits s and between lo hi (valueOf s))
-unfolding numberIn
-number-bounds lo hi s = in-bounds lo hi (valueOf s) (digits s)
-
-raised-bounds : (lo hi : ℕ) (s : List ℕ) → (digits (upper s) and between lo hi (valueOf (upper s))) ≡ between lo hi (numberIn hi s)
-raised-bounds lo hi s = rw (digits-upper s, number-bounds lo hi s) (cases (digits s)
-    (λ e. rw (digits-raised s (unfold digits in both (filled s) (all isDigit s) e .1)))
+raised-bounds : (lo hi : ℕ) (s : List ℕ) → (digits (upper s) and between lo hi (valueOf (upper s))) ≡ (digits s and between lo hi (valueOf s))
+raised-bounds lo hi s = rw (digits-upper s) (cases (digits s)
+    (λ e. rw (digits-raised s (digits-all s e)))
     (λ e. rw e))
 
 -- as the code tests it: the lower bound, then the upper one
@@ -109,27 +106,14 @@ pub high-enough : (lo hi n : ℕ) → lo ≤ n → between lo hi n ≡ leb n hi
 unfolding between
 high-enough lo hi n h = rw (le-leb lo n h)
 
-pub count-stands : (s : List ℕ) → isSome (countOf (upper s)) ≡ between 1 2147483647 (numberIn 2147483647 s)
+pub count-stands : (s : List ℕ) → isSome (countOf (upper s)) ≡ (digits s and between 1 2147483647 (valueOf s))
 unfolding countOf
 count-stands s = some-when _ _ ∙ rw most-integer (raised-bounds 1 2147483647 s)
-
-pub no-sign : (b : Bool) → eqb (pick b 1 0) 0 ≡ not b
-no-sign true = refl
-no-sign false = refl
-
-pub sign-fits : (s : List ℕ) → pick (hasSign s) 1 0 ≤ length s
-unfolding hasSign isSign
-sign-fits [] = omega arith
-sign-fits (c ∷ s) = by (isSign c)
-  where
-    by : (b : Bool) → pick b 1 0 ≤ suc (length s)
-    by true = omega arith
-    by false = omega arith
 
 -- a number with its sign; its digits begin at `at`
 module _ (signed : Bool) (most lo hi : ℕ) (s : List ℕ) where
   number-stands : isSome (numberOf signed most lo hi (upper s))
-      ≡ ((signed or not (hasSign s)) and (leb (length (unsigned s)) most and between lo hi (numberIn hi (unsigned s))))
+      ≡ ((signed or not (hasSign s)) and (leb (length (unsigned s)) most and (digits (unsigned s) and between lo hi (valueOf (unsigned s)))))
   unfolding numberOf
   number-stands =
       some-when _ _ ∙ rw (hasSign-upper s, unsigned-upper s, upper-length (unsigned s), ← (raised-bounds lo hi (unsigned s)))
@@ -142,16 +126,21 @@ module _ (signed : Bool) (most lo hi : ℕ) (s : List ℕ) where
   pub sign-wrong : (signed or not (hasSign s)) ≡ false → isSome (numberOf signed most lo hi (upper s)) ≡ false
   sign-wrong e = number-stands ∙ rw e
 
-  module _ (at : ℕ) (is : at ≡ pick (hasSign s) 1 0) where
+  module _ (at : ℕ) (is : unsigned s ≡ drop at s) where
     figures : unsigned s ≡ take (length s - at) (drop at s)
-    figures = unsigned-drop s ∙ rw (← is) (sym (from s at))
+    figures = is ∙ sym (from s at)
 
     pub figures-many : most < length (take (length s - at) (drop at s)) → isSome (numberOf signed most lo hi (upper s)) ≡ false
     figures-many h = number-stands ∙ rw (figures, lt-leb (length (take (length s - at) (drop at s))) most h, and-false-right)
 
     pub figures-judged : (signed or not (hasSign s)) ≡ true → length (take (length s - at) (drop at s)) ≤ most
-        → isSome (numberOf signed most lo hi (upper s)) ≡ between lo hi (numberIn hi (take (length s - at) (drop at s)))
+        → isSome (numberOf signed most lo hi (upper s)) ≡ (digits (take (length s - at) (drop at s)) and between lo hi (valueOf (take (length s - at) (drop at s))))
     figures-judged e h = number-stands ∙ rw (e, figures, le-leb (length (take (length s - at) (drop at s))) most h)
+
+-- a date or a date-time
+pub until-stands : (s : List ℕ) → isSome (untilOf (upper s)) ≡ isSome (readMoment s)
+unfolding untilOf readMoment
+until-stands s = some-when (isSome (momentOf (upper s))) (upper s) ∙ sym (some-map momentFrom (momentOf (upper s)))
 
 -- words
 pub word-stands : (ws : List (List ℕ)) (n : List ℕ) → isSome (wordOf ws n) ≡ ltb (wordPlace ws n) (length ws)

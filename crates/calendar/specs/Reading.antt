@@ -4,12 +4,12 @@ use Prim.Native.Char.{code}
 use mathlib.Core.Bool.{Bool, false}
 use mathlib.Core.List.{List, []}
 use mathlib.Core.Option.{Option}
-use lib.Dec.{eqb, leb}
+use lib.Dec.{eqb}
 use lib.ListN.{getD}
 use Rattle.octets.specs.Basics.{octets, pick, _and_, _or_, single}
 use Rattle.octets.specs.Optional.{isSome, when, guard, given, each}
 use Rattle.octets.specs.Classes.{upper}
-use Rattle.octets.specs.Decimal.{digits, valueOf}
+use Rattle.octets.specs.Decimal.{valueOf}
 use Rattle.octets.specs.Limits.{mostInteger}
 use Rattle.octets.specs.Pieces.{split}
 use Rattle.calendar.specs.Recurrence.{Sort, itemOf, several, Part}
@@ -73,7 +73,3 @@ ruleRead h seen = when (getD seen 0 false) (record {
   wkst = h .wkst;
   by = bySeen seen;
 })
-
--- the number in digits; one more than `most`, where it is larger or there are no digits
-unfoldable pub numberIn : ℕ → List ℕ → ℕ
-numberIn most s = pick (digits s and leb (valueOf s) most) (valueOf s) (most + 1)

@@ -92,15 +92,6 @@ itemOf weekday s = wordOf weekdays s
 itemOf ordinal s = dayOf s
 itemOf (numbers signed most lo hi) s = numberOf signed most lo hi s
 
--- a value without plus and leading zeros; `itemOf` gives this of each value that it takes
-unfoldable pub itemText : Sort → List ℕ → List ℕ
-itemText frequency s = s
-itemText moment s = s
-itemText count s = integerText s
-itemText weekday s = s
-itemText ordinal s = integerText (take (length s - 2) s) ++ drop (length s - 2) s
-itemText (numbers signed most lo hi) s = integerText s
-
 -- only BY parts have several values
 unfoldable pub several : Sort → Bool
 several frequency = false

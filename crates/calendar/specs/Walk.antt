@@ -1,13 +1,14 @@
 -- Walking the text of a recurrence rule by places, letters in either case: its parts between semicolons, the place of their keys in `keys`, and
 -- where their values stand.
-use Prim.Native.Nat.{ℕ, suc, _+_}
+use Prim.Native.Nat.{ℕ, suc, _+_, _-_}
 use Prim.Native.Char.{code}
-use mathlib.Core.List.{List, [], _∷_, map}
+use mathlib.Core.List.{List, [], _∷_, _++_, map}
 use lib.Dec.{eqb, ltb}
-use lib.ListN.{length, getD, take}
+use lib.ListN.{length, getD, take, drop}
 use Rattle.octets.specs.Basics.{pick, same}
 use Rattle.octets.specs.Pieces.{split}
 use Rattle.octets.specs.Classes.{upper}
+use Rattle.octets.specs.Decimal.{integerText}
 use Rattle.calendar.specs.Recurrence.{Sort, frequency, moment, count, weekday, ordinal, numbers, Key, key, keys}
 use Rattle.calendar.specs.declared.parts.PartAt.{PartAt}
 use Rattle.calendar.specs.declared.parts.ItemSort.{ItemSort}
@@ -55,3 +56,12 @@ partIn p = keyed (length (before (code "=") p)) p
 -- the part that a text begins with
 unfoldable pub firstPart : List ℕ → PartAt
 firstPart s = partIn (before (code ";") s)
+
+-- a value as it is written: in uppercase, a number without plus and leading zeros
+unfoldable pub itemShown : Sort → List ℕ → List ℕ
+itemShown frequency s = upper s
+itemShown moment s = upper s
+itemShown count s = integerText s
+itemShown weekday s = upper s
+itemShown ordinal s = integerText (take (length s - 2) s) ++ upper (drop (length s - 2) s)
+itemShown (numbers signed most lo hi) s = integerText s

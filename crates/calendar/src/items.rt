@@ -1,105 +1,73 @@
 // The values of a recurrence rule's parts: which stand, and how they are written.
 ghost use mathlib.Core.Path.{_≡_};
 ghost use mathlib.Core.Bool.{not};
-ghost use mathlib.Core.List.{[]};
-ghost use Prim.Native.Nat.{_+_, _*_, _-_, _≤_};
-ghost use lib.Dec.{eqb};
-ghost use lib.ListN.{length, drop};
-ghost use Rattle.octets.specs.Basics.{pick, _and_, _or_};
+ghost use Prim.Native.Nat.{_-_};
+ghost use lib.ListN.{length};
+ghost use Rattle.octets.specs.Basics.{_and_, _or_};
 ghost use Rattle.octets.specs.Optional.{isSome};
-ghost use Rattle.octets.specs.Classes.{upper};
-ghost use Rattle.octets.specs.Decimal.{hasSign, minus, unsigned, trim, minusIf, integerText, valueOf};
+ghost use Rattle.octets.specs.Classes.{between, upper};
+ghost use Rattle.octets.specs.Decimal.{digits, valueOf, hasSign};
 ghost use Rattle.octets.specs.Pen.{pen, Wrote};
-ghost use Rattle.calendar.specs.Recurrence.{frequencies, weekdays, ordinal, wordOf, countOf, numberOf, dayOf, itemText};
-ghost use Rattle.calendar.specs.Walk.{sortSaid};
-ghost use Rattle.calendar.specs.Reading.{numberIn};
+ghost use Rattle.calendar.specs.Recurrence.{ordinal, frequencies, weekdays, wordOf, untilOf, countOf, numberOf, dayOf, itemOf, several};
+ghost use Rattle.calendar.specs.Walk.{sortSaid, itemShown};
+ghost use Rattle.calendar.specs.Reading.{valuesStand};
+use crate::moments::MomentRead;
+use crate::moments::read_moment;
 use crate::parts::Bounds;
 use crate::parts::ItemSort;
 use crate::parts::find;
 use crate::parts::word_place;
 use octets::MOST_INTEGER;
-use octets::is_digit;
+use octets::all_digits;
+use octets::is_sign;
 use octets::peek;
-use octets::put;
+use octets::put_integer_text;
 use octets::put_upper;
-
-fn wide(c: u8) -> u64
-    ensures { λ r. ⌜ r ≡ c ⌝ }
-{
-    c as u64
-}
-
-// The number in digits; one more than `most`, where it is larger or there are no digits.
-pub fn number_in(s: &[u8], most: u32) -> u64
-    ensures { λ r. ⌜ r ≡ numberIn most (now (s .entry)) ⌝ }
-{
-    let most = most as u64;
-    if s.len() == 0 {
-        return most + 1;
-    }
-    let mut n: u64 = 0;
-    let mut i = 0;
-    while i < s.len() {
-        let c = s[i];
-        if !is_digit(c) {
-            return most + 1;
-        }
-        n = n * 10 + wide(c - b'0');
-        if n > most {
-            return most + 1;
-        }
-        i += 1;
-    }
-    n
-}
-
-// 1 where a sign stands in front, else 0.
-fn sign_width(s: &[u8]) -> usize
-    ensures { λ r. ⌜ r ≡ pick (hasSign (now (s .entry))) 1 0 ⌝ }
-{
-    let c = peek(s, 0);
-    if c == b'+' {
-        return 1;
-    }
-    if c == b'-' {
-        return 1;
-    }
-    0
-}
+use octets::sign_length;
+use octets::value_of;
 
 // A sign may stand in front, or none does.
 fn sign_stands(s: &[u8], signed: bool) -> bool
     ensures { λ r. ⌜ r ≡ (signed or not (hasSign (now (s .entry)))) ⌝ }
 {
-    if signed { true } else { sign_width(s) == 0 }
+    if signed { true } else { !is_sign(peek(s, 0)) }
+}
+
+// Digits, and their number within bounds.
+fn is_within(s: &[u8], lo: u32, hi: u32) -> bool
+    ensures { λ r. ⌜ r ≡ (digits (now (s .entry)) and between lo hi (valueOf (now (s .entry)))) ⌝ }
+{
+    if !all_digits(s) {
+        return false;
+    }
+    let n = value_of(s, hi);
+    if n < (lo as u64) {
+        false
+    } else {
+        n <= (hi as u64)
+    }
 }
 
 // From 1 to the largest integer.
 fn is_count(s: &[u8]) -> bool
     ensures { λ r. ⌜ r ≡ isSome (countOf (upper (now (s .entry)))) ⌝ }
 {
-    let n = number_in(s, MOST_INTEGER as u32);
-    if n < 1 { false } else { n <= MOST_INTEGER }
+    is_within(s, 1, MOST_INTEGER as u32)
 }
 
-// A number within bounds.
+// A number within bounds, with a sign where it may have one.
 fn is_number(s: &[u8], b: Bounds) -> bool
     ensures { λ r. ⌜ r ≡ isSome (numberOf (b .signed) (b .most) (b .lo) (b .hi) (upper (now (s .entry)))) ⌝ }
 {
     if !sign_stands(s, b.signed) {
         return false;
     }
-    let from = sign_width(s);
+    let from = sign_length(s);
     let figures = &s[from..];
     if figures.len() > b.most {
         return false;
     }
-    let n = number_in(figures, b.hi);
-    if n < (b.lo as u64) {
-        false
-    } else {
-        n <= (b.hi as u64)
-    }
+    is_within(figures, b.lo, b.hi)
 }
 
 // Where a weekday's two letters begin.
@@ -141,4 +109,87 @@ fn is_ordinal(s: &[u8]) -> bool
             hi: 53,
         },
     )
+}
+
+// A date or a date-time.
+fn is_until(s: &[u8]) -> bool
+    ensures { λ r. ⌜ r ≡ isSome (untilOf (upper (now (s .entry)))) ⌝ }
+{
+    match read_moment(s) {
+        MomentRead::Is(_) => true,
+        MomentRead::NoMoment => false,
+    }
+}
+
+// One value of a part.
+fn item_stands(sort: ItemSort, s: &[u8]) -> bool
+    ensures { λ r. ⌜ r ≡ isSome (itemOf (sortSaid sort) (upper (now (s .entry)))) ⌝ }
+{
+    match sort {
+        ItemSort::Frequency => is_frequency(s),
+        ItemSort::Moment => is_until(s),
+        ItemSort::Count => is_count(s),
+        ItemSort::Weekday => is_weekday(s),
+        ItemSort::Ordinal => is_ordinal(s),
+        ItemSort::Numbers(b) => is_number(s, b),
+    }
+}
+
+// Only BY parts have several values.
+fn has_several(sort: ItemSort) -> bool
+    ensures { λ r. ⌜ r ≡ several (sortSaid sort) ⌝ }
+{
+    match sort {
+        ItemSort::Frequency => false,
+        ItemSort::Moment => false,
+        ItemSort::Count => false,
+        ItemSort::Weekday => false,
+        ItemSort::Ordinal => true,
+        ItemSort::Numbers(_) => true,
+    }
+}
+
+// The values of a part, between commas.
+pub fn values_stand(sort: ItemSort, v: &[u8]) -> bool
+    ensures { λ r. ⌜ r ≡ valuesStand (sortSaid sort) (now (v .entry)) ⌝ }
+{
+    let many = has_several(sort);
+    let mut at = 0;
+    loop {
+        let rest = &v[at..];
+        let e = find(rest, b',');
+        if !item_stands(sort, &rest[0..e]) {
+            return false;
+        }
+        if e >= rest.len() {
+            return true;
+        }
+        if !many {
+            return false;
+        }
+        at = at + e + 1;
+    }
+}
+
+// Writes a weekday with its number.
+fn put_ordinal(out: &mut [u8], at: usize, s: &[u8]) -> usize
+    ensures { λ r. ⌜ Wrote (pen (now (out .entry)) at) (itemShown ordinal (now (s .entry))) (pen (now (out .exit)) r) ⌝ }
+{
+    let from = day_from(s);
+    let behind = put_integer_text(out, at, &s[0..from]);
+    put_upper(out, behind, &s[from..])
+}
+
+// Writes one value of a part: in uppercase, a number without plus and leading zeros.
+pub fn put_item(out: &mut [u8], at: usize, sort: ItemSort, s: &[u8]) -> usize
+    ensures { λ r. ⌜ Wrote (pen (now (out .entry)) at) (itemShown (sortSaid sort) (now (s .entry))) (pen (now (out .exit)) r) ⌝ }
+{
+    match sort {
+        ItemSort::Frequency => put_upper(out, at, s),
+        ItemSort::Moment => put_upper(out, at, s),
+        ItemSort::Count => put_integer_text(out, at, s),
+        ItemSort::Weekday => put_upper(out, at, s),
+        ItemSort::Ordinal => put_ordinal(out, at, s),
+        ItemSort::Numbers(_) => put_integer_text(out, at, s),
+    }
 }
