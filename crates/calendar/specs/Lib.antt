@@ -1,7 +1,12 @@
 pub mod Gregorian
 pub mod Forms
 pub mod Dates
+pub mod Texts
 pub mod Durations
+pub mod Phases
 pub mod Recurrence
 pub mod Moments
 pub mod Rules
+pub mod Answers
+pub mod Walk
+pub mod Reading

@@ -1,6 +1,135 @@
-// Dates of the Gregorian calendar.
+// Dates of the Gregorian calendar, and their day numbers by formula.
+ghost use mathlib.Core.Path.{_≡_};
+ghost use Prim.Native.Nat.{_≤_, _-_};
+ghost use lib.Dec.{ltb};
+ghost use Rattle.octets.specs.Optional.{when};
+ghost use Rattle.calendar.specs.Gregorian.{leapDay, monthDays, isDay, dayNumber, dayCount, dateAt};
+ghost use Rattle.calendar.specs.Answers.{dayNumberSaid, dateSaid};
+use octets::LAST_YEAR;
+
+// The days that can be named.
+pub const DAY_COUNT: u32 = 3652425;
+
 pub struct Date {
     pub year: u32,
     pub month: u32,
     pub day: u32,
+}
+
+// The number of a date's day, or that there is no such day.
+pub enum DayNumber {
+    Day(u32),
+    NoDate,
+}
+
+// The date of a day number, or that the number lies past the last day.
+pub enum DateAt {
+    On(Date),
+    Past,
+}
+
+impl Date {
+    pub const FIRST: Date = Date {
+        year: 0,
+        month: 1,
+        day: 1,
+    };
+
+    pub const LAST: Date = Date {
+        year: LAST_YEAR as u32,
+        month: 12,
+        day: 31,
+    };
+
+    // The first day that can be named.
+    pub fn first() -> Date
+        ensures { λ r. ⌜ r ≡ dateAt 0 ⌝ }
+    {
+        Date::FIRST
+    }
+
+    // The last day that can be named.
+    pub fn last() -> Date
+        ensures { λ r. ⌜ r ≡ dateAt (dayCount - 1) ⌝ }
+    {
+        Date::LAST
+    }
+
+    // The days from the first day to this one. The year is counted from March, so that the leap day is its last.
+    pub fn day_number(self) -> DayNumber
+        ensures { λ r. ⌜ dayNumberSaid r ≡ when (isDay (self .year) (self .month) (self .day)) (dayNumber self) ⌝ }
+    {
+        if !is_day(self.year, self.month, self.day) {
+            return DayNumber::NoDate;
+        }
+        let s = self.year + 400 - (14 - self.month) / 12;
+        let k = (self.month + 9) % 12;
+        DayNumber::Day(365 * s + s / 4 + s / 400 - s / 100 + (153 * k + 2) / 5 + self.day - 146038)
+    }
+
+    // The date so many days behind the first day.
+    pub fn from_day_number(n: u32) -> DateAt
+        ensures { λ r. ⌜ dateSaid r ≡ when (ltb n dayCount) (dateAt n) ⌝ }
+    {
+        if DAY_COUNT <= n {
+            return DateAt::Past;
+        }
+        let z = n + 146037;
+        let c = (4 * z + 3) / 146097;
+        let r = z - 146097 * c / 4;
+        let e = (4 * r + 3) / 1461;
+        let t = r - 1461 * e / 4;
+        let k = (5 * t + 2) / 153;
+        DateAt::On(Date {
+            year: 100 * c + e + k / 10 - 400,
+            month: (k + 2) % 12 + 1,
+            day: t - (153 * k + 2) / 5 + 1,
+        })
+    }
+}
+
+// 1 in a leap year, else 0.
+fn leap_day(y: u32) -> u32
+    ensures { λ r. ⌜ r ≡ leapDay y ⌝ }
+{
+    if y % 400 == 0 {
+        return 1;
+    }
+    if y % 100 == 0 {
+        return 0;
+    }
+    if y % 4 == 0 {
+        return 1;
+    }
+    0
+}
+
+// The length of a month.
+fn month_days(y: u32, m: u32) -> u32
+    requires { ⌜ (1 ≤ m) × (m ≤ 12) ⌝ }
+    ensures { λ r. ⌜ r ≡ monthDays y m ⌝ }
+{
+    if m == 2 {
+        return 28 + leap_day(y);
+    }
+    30 + (m + m / 8) % 2
+}
+
+// There is such a day.
+pub fn is_day(y: u32, m: u32, d: u32) -> bool
+    ensures { λ r. ⌜ r ≡ isDay y m d ⌝ }
+{
+    if (LAST_YEAR as u32) < y {
+        return false;
+    }
+    if m < 1 {
+        return false;
+    }
+    if 12 < m {
+        return false;
+    }
+    if d < 1 {
+        return false;
+    }
+    d <= month_days(y, m)
 }

@@ -5,3 +5,9 @@ pub mod Line
 pub mod Parameters
 pub mod Write
 pub mod Fold
+pub mod Folding
+pub mod Scan
+pub mod Walk
+pub mod Parts
+pub mod Buffer
+pub mod Kinds

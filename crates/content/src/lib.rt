@@ -1,1 +1,29 @@
 // iCalendar text: lines, content lines, parameters, folding.
+mod fold;
+mod write;
+
+pub use fold::Folder;
+pub use fold::end_line;
+pub use fold::fold_all;
+pub use fold::fold_octet;
+pub use fold::fold_upper;
+pub use write::begin_param;
+pub use write::next_param_value;
+pub use write::write_param_value;
+mod form;
+mod lines;
+mod params;
+mod parts;
+mod scan;
+
+pub use form::all_formed;
+pub use form::is_formed;
+pub use lines::all_clean;
+pub use lines::line_end;
+pub use lines::unfold;
+pub use params::ValueType;
+pub use params::is_encoded;
+pub use params::name_twice;
+pub use params::value_type;
+pub use parts::Parts;
+pub use parts::parts_of;

@@ -3,6 +3,8 @@ use Prim.Native.Nat.{ℕ}
 use mathlib.Core.Bool.{Bool, true, false}
 use mathlib.Core.List.{List, [], _∷_}
 use mathlib.Core.Option.{Option, none, some}
+use lib.ListN.{getD}
+use Rattle.octets.specs.Optional.{given}
 
 mutual
   pub data Json : Type 0 where
@@ -72,3 +74,19 @@ object? (num t) = none
 object? (str t) = none
 object? (arr js) = none
 object? (obj ms) = some ms
+
+-- the octets of a string or a number; other values have none
+unfoldable pub octetsOf : Json → List ℕ
+octetsOf j = given (given [] (λ t. t) (string? j)) (λ t. t) (number? j)
+
+-- the elements of an array; other values have none
+unfoldable pub elements : Json → List Json
+elements j = given [] listOf (array? j)
+
+-- one of them, counted from 0; null where it is not there
+unfoldable pub element : ℕ → Json → Json
+element n j = getD (elements j) n null
+
+-- the members of an object; other values have none
+unfoldable pub members : Json → Members
+members j = given noMembers (λ ms. ms) (object? j)

@@ -64,6 +64,12 @@ pub or-assoc : (a b c : Bool) → ((a or b) or c) ≡ (a or (b or c))
 or-assoc true b c = refl
 or-assoc false b c = refl
 
+pub and-swap : (a b c d : Bool) → ((a and b) and (c and d)) ≡ ((a and c) and (b and d))
+and-swap true true c d = refl
+and-swap true false true d = refl
+and-swap true false false d = refl
+and-swap false b c d = refl
+
 pub and-true-right : (a : Bool) → (a and true) ≡ a
 and-true-right true = refl
 and-true-right false = refl

@@ -1,6 +1,12 @@
 pub mod Cases
 pub mod Positions
 pub mod Limits
+pub mod Optional
 pub mod Pen
 pub mod Answers
 pub mod Classes
+pub mod Decimal
+pub mod Pieces
+pub mod Utf8
+pub mod Transducer
+pub mod Characters

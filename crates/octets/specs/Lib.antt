@@ -8,3 +8,4 @@ pub mod Limits
 pub mod Pen
 pub mod Answers
 pub mod Groups
+pub mod Characters

@@ -1,8 +1,12 @@
 // Octets: the limits of a conversion, refusals and answers, and the pen that writes into lent buffers.
+mod encoding;
 mod names;
+mod numbers;
 mod settling;
 mod writing;
 
+pub use encoding::is_clean;
+pub use encoding::is_utf8;
 pub use names::all_digits;
 pub use names::all_plain;
 pub use names::all_text;
@@ -23,6 +27,14 @@ pub use names::put_upper;
 pub use names::same;
 pub use names::same_name;
 pub use names::upper_octet;
+pub use numbers::is_negative;
+pub use numbers::is_sign;
+pub use numbers::leading_zeros;
+pub use numbers::put_decimal;
+pub use numbers::put_figures;
+pub use numbers::put_integer_text;
+pub use numbers::sign_length;
+pub use numbers::value_of;
 pub use settling::finish;
 pub use settling::refuse;
 pub use writing::put;
@@ -45,8 +57,9 @@ pub const MOST_ROWS: usize = 64;
 pub const MOST_COLUMNS: usize = 75;
 
 // An integer, a COUNT or an INTERVAL.
-pub const MOST_INTEGER: u64 = 2147483647;
+pub const MOST_INTEGER: u32 = 2147483647;
 
+// The last year of a date.
 pub const LAST_YEAR: u16 = 9999;
 
 // A refusal; the definition `number` gives its number.

@@ -3,7 +3,7 @@ ghost use mathlib.Core.Path.{_≡_};
 ghost use mathlib.Core.List.{[], _∷_};
 ghost use Prim.Native.Nat.{_≤_};
 ghost use lib.ListN.{getD};
-ghost use Rattle.octets.specs.Basics.{all, same};
+ghost use Rattle.octets.specs.Basics.{_and_, all, same};
 ghost use Rattle.octets.specs.Classes.{between, isDigit, isUpper, isLower, nameOctet, isName, lowerNameOctet, isLowerName, plainOctet, textOctet, upperOctet, lowerOctet, upper, lower, sameName, hexDigit};
 ghost use Rattle.octets.specs.Decimal.{digits};
 ghost use Rattle.octets.specs.Groups.{belongs};
@@ -19,7 +19,7 @@ enum Class {
     Text,
 }
 
-fn within(lo: u8, hi: u8, c: u8) -> bool
+pub(crate) fn within(lo: u8, hi: u8, c: u8) -> bool
     ensures { λ r. ⌜ r ≡ between lo hi c ⌝ }
 {
     if lo <= c { c <= hi } else { false }
@@ -128,18 +128,24 @@ impl Class {
     }
 }
 
-// Each octet is of the class.
+// Both, with no branch.
+pub(crate) fn both(a: bool, b: bool) -> bool
+    ensures { λ r. ⌜ r ≡ (a and b) ⌝ }
+{
+    if a { b } else { false }
+}
+
+// Each octet is of the class. The loop has no way out on the way, so that many octets are tested at once.
 fn all_in(s: &[u8], class: Class) -> bool
     ensures { λ r. ⌜ r ≡ all (belongs class) (now (s .entry)) ⌝ }
 {
+    let mut so_far = true;
     let mut i = 0;
     while i < s.len() {
-        if !class.has(s[i]) {
-            return false;
-        }
+        so_far = both(so_far, class.has(s[i]));
         i += 1;
     }
-    true
+    so_far
 }
 
 // No control character but tab.

@@ -3,19 +3,18 @@ use Prim.Native.Nat.{_≤_, _-_}
 use mathlib.Core.Path.{_≡_, refl, sym, _∙_}
 use native.Mathlib.Omega.{arith}
 use lib.ListN.{length, drop}
-use borrow.Author.Tests.{not-true, not-false}
 use borrow.Author.Needs.{needs}
 use Rattle.octets.specs.Groups.{belongs}
-use Rattle.octets.specs.Basics.{all}
-use Rattle.octets.proofs.Classes.{all-on, all-stop, all-end}
+use Rattle.octets.specs.Basics.{_and_, all}
+use Rattle.octets.proofs.Classes.{all-more, all-done}
 use Rattle.octets.proofs.names.all_in.Statement.{statement}
 use Rattle.octets.proofs.names.all_in.Tie as tie
 
 abbrev Inv-loop : tie.InvT-loop
-Inv-loop s class i₀ i = (i ≤ length s) × (all (belongs class) s ≡ all (belongs class) (drop i s))
+Inv-loop s class so-far₀ i₀ so-far i = (i ≤ length s) × ((so-far and all (belongs class) (drop i s)) ≡ all (belongs class) s)
 
 abbrev μ-loop : tie.MeasureT-loop
-μ-loop s class i₀ i = length s - i
+μ-loop s class so-far₀ i₀ so-far i = length s - i
 
 loop-holds : tie.Need-loop-holds Inv-loop μ-loop
 loop-holds c = (omega arith, refl)
@@ -26,8 +25,8 @@ shared-slice-read-has c = search needs
 has-requires : tie.Need-has-requires Inv-loop μ-loop
 has-requires c κs = search needs
 
-returns : tie.Need-returns Inv-loop μ-loop
-returns c = sym (c .before .before .before .before .loop .inv .1 ∙ all-stop _ _ _ (c .before .before .before .loop-test .taken) (sym (c .before .has .ensures) ∙ not-true _ (c .if1 .taken)))
+both-requires : tie.Need-both-requires Inv-loop μ-loop
+both-requires c κs = search needs
 
 add-i : tie.Need-add-i Inv-loop μ-loop
 add-i c = search needs
@@ -36,10 +35,10 @@ loop-less : tie.Need-loop-less Inv-loop μ-loop
 loop-less c = search needs
 
 loop-again : tie.Need-loop-again Inv-loop μ-loop
-loop-again c = (omega arith, c .before .before .before .before .loop .inv .1 ∙ all-on _ _ _ (c .before .before .before .loop-test .taken) (sym (c .before .has .ensures) ∙ not-false _ (c .if1 .left)))
+loop-again c = (omega arith, rw (c .both .ensures, c .before .has .ensures) (all-more (belongs (c .before .before .before .before .before .before .args .class)) (c .before .before .before .before .before .before .args .s .now) (c .before .before .before .before .loop .i) (c .before .before .before .before .loop .so-far) (c .before .before .before .loop-test .taken) ∙ c .before .before .before .before .loop .inv .1))
 
-returns-2 : tie.Need-returns-2 Inv-loop μ-loop
-returns-2 c = sym (c .before .loop .inv .1 ∙ all-end _ _ _ (c .loop-test .left))
+returns : tie.Need-returns Inv-loop μ-loop
+returns c = sym (all-done _ _ _ _ (c .loop-test .left)) ∙ c .before .loop .inv .1
 
 pub all-in-spec : {M : Type 1} → statement M
 all-in-spec =
@@ -50,8 +49,8 @@ all-in-spec =
     loop-holds
     shared-slice-read-has
     has-requires
-    returns
+    both-requires
     add-i
     loop-less
     loop-again
-    returns-2)
+    returns)

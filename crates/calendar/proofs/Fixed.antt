@@ -1,0 +1,152 @@
+-- Texts of a fixed form as the code has them: what one says, which places its form has, and that the tests are the definitions'.
+use Prim.Native.Nat.{ℕ, _≤_, _<_}
+use mathlib.Core.Path.{_≡_, refl, sym, ap, _∙_}
+use mathlib.Core.Bool.{Bool, true, false, not}
+use mathlib.Core.List.{List, []}
+use mathlib.Core.Option.{Option, none, some}
+use native.Mathlib.Omega.{arith}
+use borrow.Author.Tests.{eq-eqb, ne-eqb, eqb-true, eqb-false}
+use lib.Dec.{eqb, leb}
+use lib.ListN.{length, take}
+use Rattle.octets.specs.Basics.{octets, pick, _and_}
+use Rattle.octets.specs.Optional.{isSome, when, guard}
+use Rattle.octets.specs.Classes.{upperOctet, upper}
+use Rattle.octets.proofs.Classes.{map-length}
+use Rattle.calendar.specs.Forms.{Slot, fits, extended, basic, dateForm, clockForm, utc, timeForm, dateTimeForm, offsetForm}
+use Rattle.calendar.specs.Dates.{dateOf, timeOf, dateTimeOf, offsetOf, dateIs, timeIs, dateTimeIs, offsetIs, dateText, timeText, dateTimeText, offsetText}
+use Rattle.calendar.specs.Texts.{formOf, formIs, formText, octetsIn, textSaid, Says, Carries, isAdded, placeAt, slotAt, slots, shape, shaped, numbersIn, taken}
+use Rattle.calendar.specs.declared.texts.Form.{Form}
+use Rattle.calendar.specs.declared.texts.Form.the-variants.{Date, Time, DateTime, Offset}
+use Rattle.calendar.specs.declared.texts.Text.{Text}
+use Rattle.calendar.proofs.Slots.{whole-text}
+
+pub upper-length : (s : List ℕ) → length (upper s) ≡ length s
+unfolding upper
+upper-length s = map-length upperOctet s
+
+-- what a text of some length says
+pub says-none : (t : Text) → t .len ≡ 0 → textSaid t ≡ none
+unfolding textSaid
+says-none t e = rw (eq-eqb (t .len) 0 e)
+
+pub says-some : (t : Text) → (t .len ≡ 0 → ⊥) → textSaid t ≡ some (octetsIn t)
+unfolding textSaid
+says-some t n = rw (ne-eqb (t .len) 0 n)
+
+pub says-any : (t : Text) → isSome (textSaid t) ≡ not (eqb (t .len) 0)
+unfolding textSaid isSome
+says-any t = at (eqb (t .len) 0)
+  where
+    at : (b : Bool) → isSome (pick b none (some (octetsIn t))) ≡ not b
+    at true = refl
+    at false = refl
+
+-- The places of a form as octets read and write by that form.
+pub reads-shape : (whole : Bool) (f : Form) (form s : List ℕ) → slots false form ≡ shape whole f s → extended (slots whole form) s ≡ shaped whole f s
+unfolding shaped
+reads-shape true f form s e = whole-text form s ∙ ap (λ g. when (fits g s) s) e
+reads-shape false f form s e = ap (λ g. extended g s) e
+
+pub form-taken : (f : Form) (s : List ℕ) → taken false f s ≡ formOf f s
+unfolding taken shaped shape numbersIn dateOf timeOf dateTimeOf offsetOf
+form-taken Date s = refl
+form-taken Time s = refl
+form-taken DateTime s = refl
+form-taken Offset s = refl
+
+guard-when : (p : List ℕ → Bool) (b : Bool) (t : List ℕ) → isSome (guard p (when b t)) ≡ (b and p t)
+unfolding guard when isSome
+guard-when p false t = refl
+guard-when p true t = at (p t)
+  where
+    at : (b : Bool) → isSome (when b t) ≡ b
+    at true = unfold when isSome in refl
+    at false = unfold when isSome in refl
+
+pub form-is : (f : Form) (t : List ℕ) → isSome (taken true f t) ≡ formIs f t
+unfolding taken shaped shape numbersIn dateIs timeIs dateTimeIs offsetIs
+form-is Date t = guard-when _ _ t
+form-is Time t = guard-when _ _ t
+form-is DateTime t = guard-when _ _ t
+form-is Offset t = guard-when _ _ t
+
+pub form-text : (f : Form) (form t : List ℕ) → slots false form ≡ shape true f t → basic (slots false form) t ≡ formText f t
+unfolding shape dateText timeText dateTimeText offsetText
+form-text Date form t e = ap (λ g. basic g t) e
+form-text Time form t e = ap (λ g. basic g t) e
+form-text DateTime form t e = ap (λ g. basic g t) e
+form-text Offset form t e = ap (λ g. basic g t) e
+
+-- the places of each form as the code writes them, longer or not, and the length from which on a text has the longer form
+abbrev pub places : Form → Bool → List ℕ
+places Date b = octets "9999-99-99"
+places Time true = octets "99:99:99Z"
+places Time false = octets "99:99:99"
+places DateTime true = octets "9999-99-99T99:99:99Z"
+places DateTime false = octets "9999-99-99T99:99:99"
+places Offset true = octets "+99:99:99"
+places Offset false = octets "+99:99"
+
+abbrev pub longFrom : Bool → Form → ℕ
+longFrom whole Date = 0
+longFrom whole Time = pick whole 9 7
+longFrom whole DateTime = pick whole 20 16
+longFrom whole Offset = pick whole 7 6
+
+abbrev pub formFor : Form → Bool → List Slot
+formFor Date b = dateForm
+formFor Time b = timeForm b
+formFor DateTime b = dateTimeForm b
+formFor Offset b = offsetForm b
+
+places-form : (f : Form) (b : Bool) → slots false (places f b) ≡ formFor f b
+unfolding slots slotAt isAdded placeAt dateForm clockForm utc timeForm dateTimeForm offsetForm
+places-form Date b = refl
+places-form Time true = refl
+places-form Time false = refl
+places-form DateTime true = refl
+places-form DateTime false = refl
+places-form Offset true = refl
+places-form Offset false = refl
+
+pub shape-form : (whole : Bool) (f : Form) (s : List ℕ) → shape whole f s ≡ formFor f (leb (longFrom whole f) (length s))
+unfolding shape
+shape-form whole Date s = refl
+shape-form whole Time s = refl
+shape-form whole DateTime s = refl
+shape-form whole Offset s = refl
+
+shape-places : (whole : Bool) (f : Form) (s : List ℕ) (b : Bool) → leb (longFrom whole f) (length s) ≡ b → slots false (places f b) ≡ shape whole f (upper s)
+shape-places whole f s b e = places-form f b ∙ sym (shape-form whole f (upper s) ∙ ap (λ n. formFor f (leb (longFrom whole f) n)) (upper-length s) ∙ ap (formFor f) e)
+
+-- what a text says that was read by its places, and what one carries that was written by them
+pub read-by : (whole b : Bool) (f : Form) (s : List ℕ) → leb (longFrom whole f) (length s) ≡ b → {g : Form} → g ≡ f → {t : Text}
+    → Says t (extended (slots whole (places f b)) (upper s)) → Says t (shaped whole g (upper s))
+read-by whole b f s e i r = rw i (record { text = r .text ∙ reads-shape whole f (places f b) (upper s) (shape-places whole f s b e); room = r .room })
+
+pub written-by : (b : Bool) (f : Form) (s : List ℕ) → leb (longFrom true f) (length s) ≡ b → {g : Form} → g ≡ f → {t : Text}
+    → Carries t (basic (slots false (places f b)) (upper s)) → Carries t (formText g (upper s))
+written-by b f s e i r = rw i (record { octets = r .octets ∙ form-text f (places f b) (upper s) (shape-places true f s b e); room = r .room })
+
+-- a text that is read passes the test of its numbers, or there is none; a text that fails it is taken back
+pub passes : (whole : Bool) (f : Form) (s : List ℕ) (t : Text) → Says t (shaped whole f s) → ((t .len ≡ 0 → ⊥) → numbersIn f (octetsIn t) ≡ true) → Says t (taken whole f s)
+unfolding taken guard when
+passes whole f s t r p = record { text = go (eqb (t .len) 0) refl; room = r .room }
+  where
+    go : (b : Bool) → eqb (t .len) 0 ≡ b → textSaid t ≡ guard (numbersIn f) (shaped whole f s)
+    go true e =
+        let n = says-none t (eqb-true (t .len) 0 e) in
+        n ∙ sym (ap (guard (numbersIn f)) (sym (r .text) ∙ n))
+    go false e =
+        let n = eqb-false (t .len) 0 e in
+        let h = says-some t n in
+        h ∙ sym (ap (guard (numbersIn f)) (sym (r .text) ∙ h) ∙ rw (p n))
+
+pub fails : (whole : Bool) (f : Form) (s o : List ℕ) (t : Text) → Says t (shaped whole f s) → numbersIn f (octetsIn t) ≡ false
+    → Says (record { octets = o; len = 0 }) (taken whole f s)
+unfolding taken guard when
+fails whole f s o t r p = record { text = says-none _ refl ∙ sym (go (eqb (t .len) 0) refl); room = omega arith }
+  where
+    go : (b : Bool) → eqb (t .len) 0 ≡ b → guard (numbersIn f) (shaped whole f s) ≡ none
+    go true e = ap (guard (numbersIn f)) (sym (r .text) ∙ says-none t (eqb-true (t .len) 0 e))
+    go false e = ap (guard (numbersIn f)) (sym (r .text) ∙ says-some t (eqb-false (t .len) 0 e)) ∙ rw p

@@ -1,0 +1,95 @@
+-- `calendar::dates::Date::day_number` meets its contract: a day's bounds keep the formula within 32 bits, and it agrees with the definition.
+use native.Mathlib.Omega.{arith}
+use mathlib.Core.Path.{_≡_, sym, ap, _∙_}
+use mathlib.Core.Bool.{true}
+use mathlib.Core.Option.{some}
+use borrow.Author.Needs.{needs}
+use borrow.Author.Tests.{not-true, not-false}
+use Rattle.octets.specs.Optional.{when}
+use Rattle.calendar.specs.Gregorian.{isDay, dayNumber}
+use Rattle.calendar.proofs.Days.{Bounds, bounds, marchYear, fromMarch, byFormula, counted}
+use Rattle.calendar.proofs.dates.Date.day_number.Statement.{statement}
+use Rattle.calendar.proofs.dates.Date.day_number.Tie as tie
+
+is-day-requires : tie.Need-is-day-requires
+is-day-requires c κs = search needs
+
+returns : tie.Need-returns
+unfolding when
+returns c = rw (sym (c .before .is-day .ensures) ∙ not-true _ (c .if1 .taken))
+
+-- what is known of the date once it is a day
+is-one : (c : tie.Else1) → let d = c .before .before .args .self in isDay (d .year) (d .month) (d .day) ≡ true
+is-one c = sym (c .before .is-day .ensures) ∙ not-false _ (c .if1 .left)
+
+within : (c : tie.Else1) → let d = c .before .before .args .self in Bounds (d .year) (d .month) (d .day)
+within c = bounds _ _ _ (is-one c)
+
+add-s : tie.Need-add-s
+add-s c = omega (arith, within (c .before))
+
+sub-s : tie.Need-sub-s
+sub-s c = omega (arith, within (c .before .before))
+
+sub-s-2 : tie.Need-sub-s-2
+sub-s-2 c = search needs
+
+add-k : tie.Need-add-k
+add-k c = omega (arith, within (c .before .before .before))
+
+mul-t8 : tie.Need-mul-t8
+mul-t8 c = omega (arith, within (c .before .before .before))
+
+add-t7 : tie.Need-add-t7
+add-t7 c = omega (arith, within (c .before .before .before))
+
+add-t10 : tie.Need-add-t10
+add-t10 c = omega (arith, within (c .before .before .before))
+
+sub-t12 : tie.Need-sub-t12
+sub-t12 c = search needs
+
+mul-t13 : tie.Need-mul-t13
+mul-t13 c = search needs
+
+add-t14 : tie.Need-add-t14
+add-t14 c = search needs
+
+add-t16 : tie.Need-add-t16
+add-t16 c = omega (arith, within (c .before .before .before))
+
+add-t17 : tie.Need-add-t17
+add-t17 c = omega (arith, within (c .before .before .before .before))
+
+sub-t18 : tie.Need-sub-t18
+unfolding marchYear fromMarch byFormula
+sub-t18 c =
+    let w = within (c .before .before .before .before) in
+    counted _ _ _ (w .month-from) (w .month-to) (w .day-from) .enough
+
+returns-2 : tie.Need-returns-2
+unfolding when dayNumber marchYear fromMarch byFormula
+returns-2 c =
+    let w = within (c .before .before .before .before) in
+    rw (is-one (c .before .before .before .before)) (ap some (counted _ _ _ (w .month-from) (w .month-to) (w .day-from) .number))
+
+pub day-number-spec : {M : Type 1} → statement M
+day-number-spec =
+    tie.close
+    (tie.spec
+    is-day-requires
+    returns
+    add-s
+    sub-s
+    sub-s-2
+    add-k
+    mul-t8
+    add-t7
+    add-t10
+    sub-t12
+    mul-t13
+    add-t14
+    add-t16
+    add-t17
+    sub-t18
+    returns-2)

@@ -1,0 +1,49 @@
+-- `calendar::dates::is_day` meets its contract: its tests are the definition's.
+use borrow.Author.Needs.{needs}
+use borrow.Author.Tests.{le-leb, lt-leb}
+use Rattle.octets.specs.Classes.{between}
+use Rattle.octets.proofs.Limits.{last-year}
+use Rattle.calendar.specs.Gregorian.{isDay}
+use Rattle.calendar.proofs.dates.is_day.Statement.{statement}
+use Rattle.calendar.proofs.dates.is_day.Tie as tie
+
+cast-if1 : tie.Need-cast-if1
+cast-if1 c = search needs
+
+returns : tie.Need-returns
+unfolding isDay between
+returns c = simp (last-year, lt-leb _ _ (c .if1 .taken))
+
+returns-2 : tie.Need-returns-2
+unfolding isDay between
+returns-2 c = simp (last-year, le-leb _ _ (c .before .if1 .left), lt-leb _ _ (c .if2 .taken))
+
+returns-3 : tie.Need-returns-3
+unfolding isDay between
+returns-3 c = simp (last-year, le-leb _ _ (c .before .before .if1 .left), le-leb _ _ (c .before .if2 .left), lt-leb _ _ (c .if3 .taken))
+
+returns-4 : tie.Need-returns-4
+unfolding isDay between
+returns-4 c =
+    simp
+    (last-year, le-leb _ _ (c .before .before .before .if1 .left), le-leb _ _ (c .before .before .if2 .left), le-leb _ _ (c .before .if3 .left), lt-leb _ _ (c .if4 .taken))
+
+month-days-requires : tie.Need-month-days-requires
+month-days-requires c κs = search needs
+
+returns-5 : tie.Need-returns-5
+unfolding isDay between
+returns-5 c =
+    simp (
+      last-year,
+      le-leb _ _ (c .before .before .before .before .if1 .left),
+      le-leb _ _ (c .before .before .before .if2 .left),
+      le-leb _ _ (c .before .before .if3 .left),
+      le-leb _ _ (c .before .if4 .left),
+      c .month-days .ensures,
+    )
+
+pub is-day-spec : {M : Type 1} → statement M
+is-day-spec =
+    tie.close
+    (tie.spec cast-if1 returns returns-2 returns-3 returns-4 month-days-requires returns-5)

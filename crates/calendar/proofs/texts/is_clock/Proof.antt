@@ -1,0 +1,20 @@
+-- `calendar::texts::is_clock` meets its contract: its tests are the definition's.
+use borrow.Author.Tests.{le-leb, lt-leb}
+use Rattle.calendar.specs.Dates.{isClock}
+use Rattle.calendar.proofs.texts.is_clock.Statement.{statement}
+use Rattle.calendar.proofs.texts.is_clock.Tie as tie
+
+returns : tie.Need-returns
+unfolding isClock
+returns c = rw (lt-leb _ _ (c .if1 .taken))
+
+returns-2 : tie.Need-returns-2
+unfolding isClock
+returns-2 c = rw (le-leb _ _ (c .before .if1 .left), lt-leb _ _ (c .if2 .taken))
+
+returns-3 : tie.Need-returns-3
+unfolding isClock
+returns-3 c = rw (le-leb _ _ (c .before .if1 .left), le-leb _ _ (c .if2 .left))
+
+pub is-clock-spec : {M : Type 1} → statement M
+is-clock-spec = tie.close (tie.spec returns returns-2 returns-3)

@@ -1,0 +1,31 @@
+-- `calendar::texts::pair` meets its contract: two digits, one behind the other.
+use native.Mathlib.Omega.{arith}
+use mathlib.Core.Path.{_∙_}
+use borrow.Author.Needs.{needs}
+use Rattle.octets.specs.Decimal.{valueFrom, valueOf}
+use Rattle.octets.proofs.Positions.{ended}
+use Rattle.calendar.specs.Forms.{numberAt}
+use Rattle.calendar.proofs.Numbers.{digit-more}
+use Rattle.calendar.proofs.texts.pair.Statement.{statement}
+use Rattle.calendar.proofs.texts.pair.Tie as tie
+
+returns : tie.Need-returns
+unfolding numberAt valueOf valueFrom
+returns c = (rw (ended (c .before .before .args .t .now) (c .before .before .args .at) (c .if1 .taken)), omega arith)
+
+add-digit-on : tie.Need-add-digit-on
+add-digit-on c = search needs
+
+digit-on-requires : tie.Need-digit-on-requires
+digit-on-requires c κs = search needs
+
+digit-on-requires-2 : tie.Need-digit-on-requires-2
+digit-on-requires-2 c κs = search needs
+
+returns-2 : tie.Need-returns-2
+unfolding numberAt valueOf
+returns-2 c = (c .digit-on2 .ensures .0 ∙ (rw (c .before .digit-on .ensures .0) (digit-more (c .before .before .before .before .args .t .now) (c .before .before .before .before .args .at) 1 0)), omega (arith, c .before .digit-on .ensures .1, c .digit-on2 .ensures .1))
+
+pub pair-spec : {M : Type 1} → statement M
+pair-spec =
+    tie.close (tie.spec returns add-digit-on digit-on-requires digit-on-requires-2 returns-2)

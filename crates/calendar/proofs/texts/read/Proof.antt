@@ -1,0 +1,110 @@
+-- `calendar::texts::read` meets its contract: the loop reads places into the front of the array (`Reading`). The measure is what is left of the form.
+use Prim.Native.Nat.{_-_}
+use native.Mathlib.Omega.{arith}
+use mathlib.Core.Path.{refl, sym, _∙_}
+use borrow.Author.Tests.{ne-eqb, not-true, not-false}
+use borrow.Author.Needs.{needs}
+use lib.ListN.{length}
+use Rattle.calendar.specs.Texts.{textSaid}
+use Rattle.calendar.proofs.Slots.{Reading, begins, adds, reads, short, wrong, long, ends}
+use Rattle.calendar.proofs.texts.read.Statement.{statement}
+use Rattle.calendar.proofs.texts.read.Tie as tie
+
+abbrev Inv-loop : tie.InvT-loop
+Inv-loop form whole s out₀ i₀ k₀ out i k = Reading whole form s out i k
+
+abbrev μ-loop : tie.MeasureT-loop
+μ-loop form whole s out₀ i₀ k₀ out i k = length form - k
+
+loop-holds : tie.Need-loop-holds Inv-loop μ-loop
+loop-holds c = begins _ _ _ _ refl
+
+shared-slice-read-f : tie.Need-shared-slice-read-f Inv-loop μ-loop
+shared-slice-read-f c = search needs
+
+is-added-requires : tie.Need-is-added-requires Inv-loop μ-loop
+is-added-requires c κs = search needs
+
+array-write-out : tie.Need-array-write-out Inv-loop μ-loop
+array-write-out c = search needs
+
+add-k : tie.Need-add-k Inv-loop μ-loop
+add-k c = search needs
+
+loop-less : tie.Need-loop-less Inv-loop μ-loop
+loop-less c = search needs
+
+loop-again : tie.Need-loop-again Inv-loop μ-loop
+loop-again c = adds _ _ _ _ _ _ (c .before .before .before .before .loop .inv) (c .before .before .before .loop-test .taken) (omega arith) (sym (c .before .is-added .ensures) ∙ c .if1 .taken)
+
+returns : tie.Need-returns Inv-loop μ-loop
+unfolding textSaid
+returns c = record { text = short _ _ _ _ _ _ (c .before .before .before .before .before .loop .inv) (c .before .before .before .before .loop-test .taken) (c .if2 .taken) (sym (c .before .before .is-added .ensures) ∙ c .before .if1 .left); room = omega arith }
+
+shared-slice-read-upper-octet : tie.Need-shared-slice-read-upper-octet Inv-loop μ-loop
+shared-slice-read-upper-octet c = search needs
+
+upper-octet-requires : tie.Need-upper-octet-requires Inv-loop μ-loop
+upper-octet-requires c κs = search needs
+
+takes-requires : tie.Need-takes-requires Inv-loop μ-loop
+takes-requires c κs = search needs
+
+returns-2 : tie.Need-returns-2 Inv-loop μ-loop
+unfolding textSaid
+returns-2 c = record {
+  text = wrong _ _ _ _ _ _ (c .before .before .before .before .before .before .before .before .before .loop .inv) _ (c .before .before .before .before .before .before .before .before .loop-test .taken) (c .before .before .before .before .if2 .left) (sym (c .before .before .before .before .before .before .is-added .ensures) ∙ c .before .before .before .before .before .if1 .left) (c .before .before .upper-octet .ensures) (sym (c .before .takes .ensures) ∙ not-true _ (c .if3 .taken));
+  room = omega arith;
+}
+
+array-write-out-2 : tie.Need-array-write-out-2 Inv-loop μ-loop
+array-write-out-2 c = search needs
+
+add-i : tie.Need-add-i Inv-loop μ-loop
+add-i c = search needs
+
+add-k-2 : tie.Need-add-k-2 Inv-loop μ-loop
+add-k-2 c = search needs
+
+loop-less-2 : tie.Need-loop-less-2 Inv-loop μ-loop
+loop-less-2 c = search needs
+
+loop-again-2 : tie.Need-loop-again-2 Inv-loop μ-loop
+loop-again-2 c = reads _ _ _ _ _ _ (c .before .before .before .before .before .before .before .before .before .loop .inv) _ (c .before .before .before .before .before .before .before .before .loop-test .taken) (omega arith) (c .before .before .before .before .if2 .left) (sym (c .before .before .before .before .before .before .is-added .ensures) ∙ c .before .before .before .before .before .if1 .left) (c .before .before .upper-octet .ensures) (sym (c .before .takes .ensures) ∙ not-false _ (c .if3 .left))
+
+returns-3 : tie.Need-returns-3 Inv-loop μ-loop
+unfolding textSaid
+returns-3 c = record { text = long _ _ _ _ _ _ (c .before .before .loop .inv) (c .before .loop-test .left) (c .if4 .taken); room = omega arith }
+
+returns-4 : tie.Need-returns-4 Inv-loop μ-loop
+unfolding textSaid
+returns-4 c = record {
+  text = rw (ne-eqb (c .before .before .loop .k) 0 (λ e. omega arith)) (ends _ _ _ _ _ _ (c .before .before .loop .inv) (c .before .loop-test .left) (c .if4 .left));
+  room = omega (arith, c .before .before .loop .inv .wide, c .before .before .loop .inv .upto, c .before .before .before .before .before .pre .1);
+}
+
+pub read-spec : {M : Type 1} → statement M
+read-spec =
+    tie.close
+    (tie.spec
+    Inv-loop
+    μ-loop
+    loop-holds
+    shared-slice-read-f
+    is-added-requires
+    array-write-out
+    add-k
+    loop-less
+    loop-again
+    returns
+    shared-slice-read-upper-octet
+    upper-octet-requires
+    takes-requires
+    returns-2
+    array-write-out-2
+    add-i
+    add-k-2
+    loop-less-2
+    loop-again-2
+    returns-3
+    returns-4)

@@ -1,0 +1,45 @@
+-- `calendar::texts::take` meets its contract: a text that has the form is taken if its numbers are real.
+use mathlib.Core.Path.{sym, _∙_}
+use borrow.Author.Needs.{needs}
+use Rattle.octets.proofs.Positions.{upto}
+use Rattle.calendar.specs.Texts.{taken}
+use Rattle.calendar.proofs.Fixed.{passes, fails}
+use Rattle.calendar.proofs.texts.take.Statement.{statement}
+use Rattle.calendar.proofs.texts.take.Tie as tie
+
+shape-requires : tie.Need-shape-requires
+shape-requires c κs = search needs
+
+returns : tie.Need-returns
+returns c = passes _ _ _ _ (c .before .before .shape .ensures) (λ n. absurd (n (c .if1 .taken)))
+
+sub-numbers-in : tie.Need-sub-numbers-in
+sub-numbers-in c = search needs
+
+part-numbers-in-start : tie.Need-part-numbers-in-start
+part-numbers-in-start c = search needs
+
+part-numbers-in-end : tie.Need-part-numbers-in-end
+part-numbers-in-end c = c .before .before .before .shape .ensures .room
+
+numbers-in-requires : tie.Need-numbers-in-requires
+numbers-in-requires c κs = search needs
+
+returns-2 : tie.Need-returns-2
+returns-2 c = passes _ _ _ _ (c .before .before .before .before .before .before .shape .ensures) (λ n. rw (upto (c .before .before .before .before .before .before .shape .result .octets) (c .before .before .before .before .before .before .shape .result .len)) at (sym (c .before .numbers-in .ensures) ∙ c .if2 .taken))
+
+returns-3 : tie.Need-returns-3
+returns-3 c = fails _ _ _ _ _ (c .before .before .before .before .before .before .shape .ensures) (rw (upto (c .before .before .before .before .before .before .shape .result .octets) (c .before .before .before .before .before .before .shape .result .len)) at (sym (c .before .numbers-in .ensures) ∙ c .if2 .left))
+
+pub take-spec : {M : Type 1} → statement M
+take-spec =
+    tie.close
+    (tie.spec
+    shape-requires
+    returns
+    sub-numbers-in
+    part-numbers-in-start
+    part-numbers-in-end
+    numbers-in-requires
+    returns-2
+    returns-3)

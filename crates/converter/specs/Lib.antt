@@ -1,0 +1,10 @@
+pub mod Tree
+pub mod Structure
+pub mod Growth
+pub mod Property
+pub mod Jcal
+pub mod ToJcal
+pub mod Skeleton
+pub mod Return
+pub mod ToIcal
+pub mod Claim

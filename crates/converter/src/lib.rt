@@ -1,0 +1,1 @@
+// The two conversions between iCalendar and jCal.
