@@ -114,7 +114,8 @@ fn is_listed(rows: &[u8], name: &[u8]) -> bool
 }
 
 // Decodes the frame of a line, and answers its length: 0 for a line that is no row.
-fn decode(line: &[u8], frame: &mut [u8; 34]) -> usize
+fn decode(line: &[u8], frame: &mut [u8]) -> usize
+    requires { ⌜ length (now frame) ≡ 34 ⌝ }
     ensures { λ r. ⌜ (r ≤ 34) × (entryOf (take r (now (frame .exit))) ≡ rowOf (now (line .entry))) ⌝ }
 {
     if 68 < line.len() {
