@@ -15,10 +15,11 @@ use Rattle.octets.specs.Optional.{map?, both?, then?, isSome, when}
 use Rattle.octets.specs.Classes.{between, hexDigit}
 use Rattle.octets.proofs.Cases.{cases, same?, never, both, either, and-assoc, and-false-right}
 use Rattle.octets.proofs.Classes.{within-between, below-between, above-between, between-true}
-use Rattle.octets.proofs.Optional.{missing, some-same, both-is}
+use Rattle.octets.proofs.Optional.{missing, some-same, both-is, when-true}
 use Rattle.octets.proofs.Positions.{here, ended, from}
 use Rattle.types.specs.Codes.{binary, utcOffset, splits}
 use Rattle.types.specs.Table.{Entry, entry, Table}
+use Rattle.types.specs.Laid.{laidRow}
 use Rattle.types.specs.Rows.{octetOf, frameOf, rowOctet, isRow, entryOf, rowOf}
 
 -- which codes split
@@ -84,6 +85,66 @@ module _ (f : List ℕ) (h : 3 ≤ length f) (k : length f ≤ 34) where
     pub some-name : all rowOctet (take (length f - 2) (drop 2 f)) ≡ true → isSome (entryOf f) ≡ no-keyword (take (length f - 2) (drop 2 f))
     some-name a = frame-test f h k ∙ rw (e, a)
 
+-- what a row tells of its code, its number, its name
+pub record Row-told (c m : ℕ) (n : List ℕ) : Type 0 where
+  pub coded : between binary utcOffset c ≡ true
+  pub some-many : (eqb m 0 or (eqb m 1 and splits c)) ≡ true
+  pub sized : between 1 32 (length n) ≡ true
+  pub spelt : all rowOctet n ≡ true
+  pub no-word : no-keyword n ≡ true
+
+pub row-told : (c m : ℕ) (n : List ℕ) → isRow c m n ≡ true → Row-told c m n
+unfolding isRow no-keyword
+row-told c m n e =
+    let a = both (between binary utcOffset c) ((eqb m 0 or (eqb m 1 and splits c)) and between 1 32 (length n) and all rowOctet n and not (same n (octets "BEGIN") or same n (octets "END"))) e in
+    let b = both (eqb m 0 or (eqb m 1 and splits c)) (between 1 32 (length n) and all rowOctet n and not (same n (octets "BEGIN") or same n (octets "END"))) (a .1) in
+    let d = both (between 1 32 (length n)) (all rowOctet n and not (same n (octets "BEGIN") or same n (octets "END"))) (b .1) in
+    let g = both (all rowOctet n) (not (same n (octets "BEGIN") or same n (octets "END"))) (d .1) in
+    record { coded = a .0; some-many = b .0; sized = d .0; spelt = g .0; no-word = g .1 }
+
+-- the frame of a row: what is laid out of it is the frame behind the length of its name
+pub record Framed (f : List ℕ) : Type 0 where
+  pub row : Entry
+  pub is : entryOf f ≡ some row
+  pub name : take (length f - 2) (drop 2 f) ≡ row .name
+  pub low : 3 ≤ length f
+  pub high : length f ≤ 34
+  pub laid : laidRow row ≡ (length f - 2) ∷ f
+
+one-or-many : (c m : ℕ) → (eqb m 0 or (eqb m 1 and splits c)) ≡ true → pick (eqb m 1) 1 0 ≡ m
+one-or-many c m h = same? m 0
+    (λ e. rw e)
+    (λ e. let q : m ≡ 1 = eqb-true m 1 (both (eqb m 1) (splits c) (rw e at h) .0) in rw q)
+
+frame-laid : (c m : ℕ) (n : List ℕ) → Row-told c m n → laidRow (entry n c (eqb m 1)) ≡ (length (c ∷ m ∷ n) - 2) ∷ c ∷ m ∷ n
+unfolding laidRow
+frame-laid c m n t = let l : length (c ∷ m ∷ n) - 2 ≡ length n = omega arith in rw (one-or-many c m (t .some-many), l)
+
+pub framed : (f : List ℕ) → isSome (entryOf f) ≡ true → Framed f
+unfolding entryOf isSome
+framed [] e = never e refl
+framed (c ∷ []) e = never e refl
+framed (c ∷ m ∷ n) e =
+    let k : isRow c m n ≡ true = sym (is-some-when (isRow c m n) (entry n c (eqb m 1))) ∙ e in
+    let t = row-told c m n k in
+    let s = between-true 1 32 (length n) (t .sized) in
+    record
+      { row = entry n c (eqb m 1)
+      ; is = when-true (isRow c m n) (entry n c (eqb m 1)) k
+      ; name = from (c ∷ m ∷ n) 2
+      ; low = omega arith
+      ; high = omega arith
+      ; laid = frame-laid c m n t
+      }
+
+pub no-frame : (f : List ℕ) → isSome (entryOf f) ≡ false → entryOf f ≡ none
+unfolding isSome
+no-frame f e = nothing (entryOf f) e
+  where
+    nothing : (o : Option Entry) → isSome o ≡ false → o ≡ none
+    nothing none k = refl
+    nothing (some a) k = never refl k
+
 -- two hexadecimal digits are an octet
 module _ (h l : ℕ) where
   octet-good : hexDigit h ≤ 15 → hexDigit l ≤ 15 → octetOf h l ≡ some (hexDigit h * 16 + hexDigit l)
@@ -136,12 +197,12 @@ module _ (line frame : List ℕ) where
   decoded-none = record { is = map-same (frameOf line) }
 
   module _ (n : ℕ) (d : Decoded line n frame) where
-    no-frame : frameOf (drop (2 * n) line) ≡ none → entryOf [] ≡ rowOf line
+    stopped : frameOf (drop (2 * n) line) ≡ none → entryOf [] ≡ rowOf line
     unfolding rowOf then? map? entryOf
-    no-frame e = rw (d .is, e)
+    stopped e = rw (d .is, e)
 
     pub odd-digits : 2 * n + 1 ≡ length line → entryOf [] ≡ rowOf line
-    odd-digits h = no-frame (frame-one line (2 * n) h)
+    odd-digits h = stopped (frame-one line (2 * n) h)
 
     pub whole-frame : length line ≤ 2 * n → entryOf (take n frame) ≡ rowOf line
     unfolding rowOf then? map?
@@ -150,7 +211,7 @@ module _ (line frame : List ℕ) where
     module _ (h : 2 * n + 1 < length line) where
       pub bad-digits : octetOf (getD line (2 * n) 0) (getD line (2 * n + 1) 0) ≡ none → entryOf [] ≡ rowOf line
       unfolding both?
-      bad-digits e = no-frame (frame-two line (2 * n) h ∙ rw e)
+      bad-digits e = stopped (frame-two line (2 * n) h ∙ rw e)
 
       pub decoded-more : (x : ℕ) → n < length frame → octetOf (getD line (2 * n) 0) (getD line (2 * n + 1) 0) ≡ some x → Decoded line (n + 1) (set frame n x)
       decoded-more x k e =

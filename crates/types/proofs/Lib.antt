@@ -4,3 +4,4 @@ pub mod Laid
 pub mod Types
 pub mod Lines
 pub mod Frames
+pub mod Laying

@@ -11,7 +11,6 @@ use Rattle.octets.specs.Classes.{upper}
 use Rattle.octets.specs.Pen.{Pen, pen}
 use Rattle.types.specs.Codes.{typeNames}
 use Rattle.types.specs.Table.{Entry, entry, Table, find}
-use Rattle.types.specs.Rows.{rowOf}
 use Rattle.types.specs.declared.rows.Laid.{Laid}
 use Rattle.types.specs.declared.rows.Laid.the-variants.{Upto, Malformed}
 
@@ -42,9 +41,9 @@ first (l ∷ ls) = l
 unfoldable pub firstLine : List ℕ → List ℕ
 firstLine s = first (split (code "\n") s)
 
--- the row of a line, where its name is not listed already
-unfoldable pub newRow : Table → List ℕ → Option Entry
-newRow t l = guard (λ e. not (isSome (find t (e .name)))) (rowOf l)
+-- a row, where the table does not list its name
+unfoldable pub unlisted : Table → Option Entry → Option Entry
+unlisted t r = guard (λ e. not (isSome (find t (e .name)))) r
 
 -- the pen behind what was laid out, with the buffer as it is then
 unfoldable pub penBehind : Laid → List ℕ → Option Pen

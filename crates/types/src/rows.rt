@@ -12,7 +12,7 @@ ghost use Rattle.types.specs.Codes.{binary, utcOffset, splits};
 ghost use Rattle.types.specs.Table.{find};
 ghost use Rattle.types.specs.Rows.{rowOctet, entryOf, rowOf, rowsOf, mayJoin};
 ghost use Rattle.types.specs.Laid.{laidRow, laid, tableIn, roomForRows, readRows};
-ghost use Rattle.types.specs.Reading.{firstLine, newRow, penBehind};
+ghost use Rattle.types.specs.Reading.{firstLine, unlisted, penBehind};
 use crate::Found;
 use crate::ROOM_FOR_ROWS;
 use crate::table::find;
@@ -62,7 +62,7 @@ fn lay_rows(hex: &[u8], rows: &mut [u8]) -> Laid
         if count == MOST_ROWS {
             return Laid::Malformed;
         }
-        let Laid::Upto(next) = lay_row(&hex[from..end], rows, at) else {
+        let Laid::Upto(next) = lay_line(&hex[from..end], rows, at) else {
             return Laid::Malformed;
         };
         at = next;
@@ -88,20 +88,28 @@ fn line_end(hex: &[u8], from: usize) -> usize
 }
 
 // Lays out the row of a line, where it is one and its name is not listed already.
-fn lay_row(line: &[u8], rows: &mut [u8], at: usize) -> Laid
+fn lay_line(line: &[u8], rows: &mut [u8], at: usize) -> Laid
     requires { ⌜ at ≤ length (now rows) ⌝ }
-    ensures { λ r. ⌜ penBehind r (now (rows .exit)) ≡ map? (λ e. wrote (pen (now (rows .entry)) at) (laidRow e)) (newRow (tableIn (take at (now (rows .entry)))) (now (line .entry))) ⌝ }
+    ensures { λ r. ⌜ penBehind r (now (rows .exit)) ≡ map? (λ e. wrote (pen (now (rows .entry)) at) (laidRow e)) (unlisted (tableIn (take at (now (rows .entry)))) (rowOf (now (line .entry)))) ⌝ }
 {
     let mut frame = [0u8; 34];
     let n = decode(line, &mut frame);
-    if !is_row(&frame[0..n]) {
+    lay_frame(&frame[0..n], rows, at)
+}
+
+// Lays out the row of a frame, where it is one and its name is not listed already.
+fn lay_frame(frame: &[u8], rows: &mut [u8], at: usize) -> Laid
+    requires { ⌜ at ≤ length (now rows) ⌝ }
+    ensures { λ r. ⌜ penBehind r (now (rows .exit)) ≡ map? (λ e. wrote (pen (now (rows .entry)) at) (laidRow e)) (unlisted (tableIn (take at (now (rows .entry)))) (entryOf (now (frame .entry)))) ⌝ }
+{
+    if !is_row(frame) {
         return Laid::Malformed;
     }
-    if is_listed(&rows[0..at], &frame[2..n]) {
+    if is_listed(&rows[0..at], &frame[2..]) {
         return Laid::Malformed;
     }
-    let start = put(rows, at, (n - 2) as u8);
-    Laid::Upto(put_all(rows, start, &frame[0..n]))
+    let start = put(rows, at, (frame.len() - 2) as u8);
+    Laid::Upto(put_all(rows, start, frame))
 }
 
 fn is_listed(rows: &[u8], name: &[u8]) -> bool
