@@ -5,3 +5,5 @@ pub mod Types
 pub mod Lines
 pub mod Frames
 pub mod Laying
+pub mod Joining
+pub mod Progress
