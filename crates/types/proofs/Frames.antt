@@ -128,14 +128,14 @@ framed (c ∷ m ∷ n) e =
     let k : isRow c m n ≡ true = sym (is-some-when (isRow c m n) (entry n c (eqb m 1))) ∙ e in
     let t = row-told c m n k in
     let s = between-true 1 32 (length n) (t .sized) in
-    record
-      { row = entry n c (eqb m 1)
-      ; is = when-true (isRow c m n) (entry n c (eqb m 1)) k
-      ; name = from (c ∷ m ∷ n) 2
-      ; low = omega arith
-      ; high = omega arith
-      ; laid = frame-laid c m n t
-      }
+    record {
+      row = entry n c (eqb m 1);
+      is = when-true (isRow c m n) (entry n c (eqb m 1)) k;
+      name = from (c ∷ m ∷ n) 2;
+      low = omega arith;
+      high = omega arith;
+      laid = frame-laid c m n t;
+    }
 
 pub no-frame : (f : List ℕ) → isSome (entryOf f) ≡ false → entryOf f ≡ none
 unfolding isSome

@@ -31,10 +31,10 @@ row-octet-upper : (c : ℕ) → rowOctet c ≡ true → upperOctet c ≡ c
 unfolding rowOctet isUpper isDigit isLower
 row-octet-upper c h = upper-octet-other c
     (either (between (code "A") (code "Z") c) (between (code "0") (code "9") c or eqb c (code "-")) h
-      (λ e. below-between (code "a") (code "z") c (omega (arith, between-true (code "A") (code "Z") c e .1)))
-      (λ k. either (between (code "0") (code "9") c) (eqb c (code "-")) k
-        (λ e. below-between (code "a") (code "z") c (omega (arith, between-true (code "0") (code "9") c e .1)))
-        (λ e. below-between (code "a") (code "z") c (omega (arith, eqb-true c (code "-") e)))))
+    (λ e. below-between (code "a") (code "z") c (omega (arith, between-true (code "A") (code "Z") c e .1)))
+    (λ k. either (between (code "0") (code "9") c) (eqb c (code "-")) k
+    (λ e. below-between (code "a") (code "z") c (omega (arith, between-true (code "0") (code "9") c e .1)))
+    (λ e. below-between (code "a") (code "z") c (omega (arith, eqb-true c (code "-") e)))))
 
 pub row-name-upper : (n : List ℕ) → all rowOctet n ≡ true → upper n ≡ n
 unfolding all upper
@@ -137,8 +137,8 @@ module _ (es : Table) (m : mayJoin es ≡ true) (rest : Option Table) (on : Tabl
   unfolding added unlisted guard when map? then?
   a-row e u = rw (two-maps es e rest) (cases (ltb (length es) mostRows)
       (λ l. rw l (cases (isSome (find (defaults ++ es) (e .name)))
-        (λ h. rw h (sym (none-may (es ++ e ∷ []) rest (λ fs. rw append-assoc (old-name es e u fs h)))))
-        (λ h. rw h (ih (es ++ e ∷ []) (may-add es e u l h m)))))
+      (λ h. rw h (sym (none-may (es ++ e ∷ []) rest (λ fs. rw append-assoc (old-name es e u fs h)))))
+      (λ h. rw h (ih (es ++ e ∷ []) (may-add es e u l h m)))))
       (λ l. rw l (sym (none-may (es ++ e ∷ []) rest (λ fs. rw append-assoc (too-many es fs e l))))))
 
   no-row : then? (added es none) on ≡ guard mayJoin (map? (λ fs. es ++ fs) (both? _∷_ none rest))

@@ -7,3 +7,4 @@ pub mod Frames
 pub mod Laying
 pub mod Joining
 pub mod Progress
+pub mod Reading

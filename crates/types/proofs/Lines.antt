@@ -40,8 +40,8 @@ split-cases [] f g = f refl
 split-cases (x ∷ s) f g = cases (eqb x (code "\n"))
     (λ e. g 0 (omega arith) (rw e))
     (λ e. split-cases s
-      (λ q. f (rw (e, q)))
-      (λ n h q. g (suc n) (omega arith) (rw (e, q, add-one n, add-one (suc n)))))
+    (λ q. f (rw (e, q)))
+    (λ n h q. g (suc n) (omega arith) (rw (e, q, add-one n, add-one (suc n)))))
 
 -- the first line of a text, and the lines behind it
 module _ (s : List ℕ) where
@@ -57,8 +57,8 @@ module _ (s : List ℕ) where
   more-lines e = split-cases s
       (λ q. absurd (whole (ap (λ (ls : List (List ℕ)). length (first ls)) q)))
       (λ n h q.
-        let k : length (first (split (code "\n") s)) ≡ n = ap (λ (ls : List (List ℕ)). length (first ls)) q ∙ length-take-le n s (omega arith) in
-        rw k q)
+      let k : length (first (split (code "\n") s)) ≡ n = ap (λ (ls : List (List ℕ)). length (first ls)) q ∙ length-take-le n s (omega arith) in
+      rw k q)
     where
       whole : length (first (split (code "\n") s)) ≡ length s → ⊥
       whole k = omega arith

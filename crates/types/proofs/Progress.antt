@@ -39,7 +39,7 @@ entry-size (c ∷ m ∷ n) e h =
     let q : length n ≡ length (e .name) = ap (λ (x : Entry). length (x .name)) (w .1) in
     omega arith
 
-row-size : (l : List ℕ) (e : Entry) → rowOf l ≡ some e → length (laidRow e) ≤ 35
+pub row-size : (l : List ℕ) (e : Entry) → rowOf l ≡ some e → length (laidRow e) ≤ 35
 unfolding rowOf
 row-size l e h = then-is (frameOf l) entryOf e h (λ f _ k. entry-size f e k)
 
@@ -47,7 +47,7 @@ row-size l e h = then-is (frameOf l) entryOf e h (λ f _ k. entry-size f e k)
 behind : (es : Table) (r : Entry) → laid (es ++ r ∷ []) ≡ laid es ++ laidRow r
 behind es r = laid-append es (r ∷ []) ∙ unfold laid in rw (append-nil (laidRow r))
 
-map-none : {A B : Type 0} (g : A → B) (o : Option A) → map? g o ≡ none → o ≡ none
+pub map-none : {A B : Type 0} (g : A → B) (o : Option A) → map? g o ≡ none → o ≡ none
 unfolding map?
 map-none g none e = refl
 map-none g (some a) e = missing (sym e)
@@ -124,16 +124,16 @@ module _ {hex o rows : List ℕ} {from at count : ℕ} (p : Progress hex o rows 
             (λ r q w. joined r q (record { is = sym w }))
           where
             joined : (r : Entry) → unlisted (tableIn (take at rows)) (rowOf (take (end - from) (drop from hex))) ≡ some r → Wrote (pen rows at) (laidRow r) (pen b next) → Progress hex o b (end + 1) next (count + 1)
-            joined r q w = record
-              { es = p .es ++ r ∷ []
-              ; within = omega arith
-              ; counted = rw (length-append, p .counted)
-              ; few = omega (arith, most-rows, p .few)
-              ; small = rw (behind (p .es) r, length-append) (omega (arith, p .small, row-size (take (end - from) (drop from hex)) r (unlisted-is (tableIn (take at rows)) (rowOf (take (end - from) (drop from hex))) r q)))
-              ; room = p .room
-              ; written = as-text (then (p .written) w) (sym (behind (p .es) r))
-              ; left = line-left ∙ rw (added-is, q) (unfold map? then? in refl)
-              }
+            joined r q w = record {
+              es = p .es ++ r ∷ [];
+              within = omega arith;
+              counted = rw (length-append, p .counted);
+              few = omega (arith, most-rows, p .few);
+              small = rw (behind (p .es) r, length-append) (omega (arith, p .small, row-size (take (end - from) (drop from hex)) r (unlisted-is (tableIn (take at rows)) (rowOf (take (end - from) (drop from hex))) r q)));
+              room = p .room;
+              written = as-text (then (p .written) w) (sym (behind (p .es) r));
+              left = line-left ∙ rw (added-is, q) (unfold map? then? in refl);
+            }
 
 -- nothing is laid out of a file that is refused
 pub refused-file : (hex o b : List ℕ) → guard mayJoin (rowsOf hex) ≡ none → penBehind Malformed b ≡ map? (λ es. wrote (pen o 0) (laid es)) (guard mayJoin (rowsOf hex))

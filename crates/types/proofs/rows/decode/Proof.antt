@@ -89,10 +89,14 @@ loop-less c = search needs
 
 loop-again : tie.Need-loop-again Inv-loop μ-loop
 loop-again c =
-    let l = c .before .before .before .before .before .before .before .before .loop in
-    (omega arith, omega arith, simp length-set (l .inv .2), l .inv .3,
-    decoded-more _ _ (l .n) (l .inv .4) (omega arith) _ (omega arith)
-    (octet-is _ _ _ _ (c .before .before .before .before .hex-digit .ensures) (c .before .before .hex-digit2 .ensures) (c .before .if3 .left) (c .if4 .left)))
+    let l = c .before .before .before .before .before .before .before .before .loop in (
+      omega arith,
+      omega arith,
+      simp length-set (l .inv .2),
+      l .inv .3,
+      decoded-more _ _ (l .n) (l .inv .4) (omega arith) _ (omega arith)
+          (octet-is _ _ _ _ (c .before .before .before .before .hex-digit .ensures) (c .before .before .hex-digit2 .ensures) (c .before .if3 .left) (c .if4 .left)),
+    )
 
 same-length-4 : tie.Need-same-length-4 Inv-loop μ-loop
 same-length-4 c = search needs
