@@ -11,3 +11,4 @@ pub mod Elements
 pub mod ValueLaws
 pub mod Parsing
 pub mod Quotes
+pub mod Printing
