@@ -12,3 +12,6 @@ pub mod ValueLaws
 pub mod Parsing
 pub mod Quotes
 pub mod Printing
+pub mod Fine
+pub mod Surrogates
+pub mod Decoding

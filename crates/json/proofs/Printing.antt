@@ -71,15 +71,15 @@ Stop [] = Unit {0}
 Stop (b ∷ s) = numberOctet b ≡ false
 
 -- numbers
-record Alien (b : ℕ) : Type 0 where
-  digit : isDigit b ≡ false
-  nought : eqb b 48 ≡ false
-  hyphen : eqb b 45 ≡ false
-  plus : eqb b 43 ≡ false
-  dot : eqb b 46 ≡ false
-  power : isExponent b ≡ false
+pub record Alien (b : ℕ) : Type 0 where
+  pub digit : isDigit b ≡ false
+  pub nought : eqb b 48 ≡ false
+  pub hyphen : eqb b 45 ≡ false
+  pub plus : eqb b 43 ≡ false
+  pub dot : eqb b 46 ≡ false
+  pub power : isExponent b ≡ false
 
-alien : (b : ℕ) → numberOctet b ≡ false → Alien b
+pub alien : (b : ℕ) → numberOctet b ≡ false → Alien b
 unfolding numberOctet
 alien b h =
     let a = neither (isDigit b) (eqb b 45 or eqb b 43 or eqb b 46 or isExponent b) h in
@@ -91,7 +91,7 @@ alien b h =
     digit-48 : isDigit 48 ≡ true
     digit-48 = unfold isDigit between in refl
 
-advance-stop : (q : Place) (b : ℕ) → Alien b → advance q b ≡ beyond
+pub advance-stop : (q : Place) (b : ℕ) → Alien b → advance q b ≡ beyond
 unfolding advance firstDigit behindInt isPlusMinus
 advance-stop start b a = rw (a .hyphen, a .nought, a .digit)
 advance-stop minus b a = rw (a .nought, a .digit)
