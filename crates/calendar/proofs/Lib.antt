@@ -10,3 +10,13 @@ pub mod Phases
 pub mod Periods
 pub mod Readback
 pub mod Worked
+pub mod Options
+pub mod Pieces
+pub mod Words
+pub mod Keys
+pub mod Standing
+pub mod Octets
+pub mod Walk
+pub mod Gathering
+pub mod Listing
+pub mod Showing

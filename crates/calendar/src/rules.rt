@@ -28,10 +28,36 @@ pub enum End {
     Open,
 }
 
+// Which BY parts there are.
+pub struct ByParts {
+    pub second: bool,
+    pub minute: bool,
+    pub hour: bool,
+    pub day: bool,
+    pub monthday: bool,
+    pub yearday: bool,
+    pub weekno: bool,
+    pub month: bool,
+    pub setpos: bool,
+}
+
 pub struct Rule {
     pub frequency: Frequency,
     pub interval: u32,
     pub end: End,
     pub wkst: Weekday,
-    pub parts: [bool; 14],
+    pub by: ByParts,
+}
+
+pub enum RuleRead {
+    Is(Rule),
+    NoRule,
+}
+
+// A rule while its parts are read, but for the BY parts.
+struct Head {
+    frequency: Frequency,
+    interval: u32,
+    end: End,
+    wkst: Weekday,
 }
