@@ -16,3 +16,5 @@ pub mod Walk
 pub mod Gathering
 pub mod Listing
 pub mod Showing
+pub mod Choices
+pub mod Turns
