@@ -78,7 +78,7 @@ form-text DateTime form t e = ap (λ g. basic g t) e
 form-text Offset form t e = ap (λ g. basic g t) e
 
 -- the places of each form as the code writes them, longer or not, and the length from which on a text has the longer form
-abbrev places : Form → Bool → List ℕ
+abbrev pub places : Form → Bool → List ℕ
 places Date b = octets "9999-99-99"
 places Time true = octets "99:99:99Z"
 places Time false = octets "99:99:99"
@@ -87,13 +87,13 @@ places DateTime false = octets "9999-99-99T99:99:99"
 places Offset true = octets "+99:99:99"
 places Offset false = octets "+99:99"
 
-abbrev longFrom : Bool → Form → ℕ
+abbrev pub longFrom : Bool → Form → ℕ
 longFrom whole Date = 0
 longFrom whole Time = pick whole 9 7
 longFrom whole DateTime = pick whole 20 16
 longFrom whole Offset = pick whole 7 6
 
-abbrev formFor : Form → Bool → List Slot
+abbrev pub formFor : Form → Bool → List Slot
 formFor Date b = dateForm
 formFor Time b = timeForm b
 formFor DateTime b = dateTimeForm b
@@ -109,7 +109,7 @@ places-form DateTime false = refl
 places-form Offset true = refl
 places-form Offset false = refl
 
-shape-form : (whole : Bool) (f : Form) (s : List ℕ) → shape whole f s ≡ formFor f (leb (longFrom whole f) (length s))
+pub shape-form : (whole : Bool) (f : Form) (s : List ℕ) → shape whole f s ≡ formFor f (leb (longFrom whole f) (length s))
 unfolding shape
 shape-form whole Date s = refl
 shape-form whole Time s = refl

@@ -1,3 +1,4 @@
+pub mod Options
 pub mod Ranges
 pub mod Days
 pub mod Back
@@ -6,7 +7,10 @@ pub mod Slots
 pub mod Numbers
 pub mod Fixed
 pub mod Hours
-pub mod Options
+pub mod Phases
+pub mod Periods
+pub mod Readback
+pub mod Worked
 pub mod Pieces
 pub mod Words
 pub mod Keys
@@ -18,3 +22,4 @@ pub mod Listing
 pub mod Showing
 pub mod Choices
 pub mod Turns
+pub mod Real

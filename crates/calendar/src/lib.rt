@@ -1,5 +1,6 @@
 // Dates, moments, durations and recurrence rules.
 pub mod dates;
+pub mod durations;
 pub mod items;
 pub mod moments;
 pub mod parts;

@@ -5,3 +5,4 @@ pub mod Line
 pub mod Parameters
 pub mod Write
 pub mod Fold
+pub mod Folding

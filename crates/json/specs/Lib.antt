@@ -6,3 +6,4 @@ pub mod Reader
 pub mod Print
 pub mod Tape
 pub mod Parse
+pub mod Promise

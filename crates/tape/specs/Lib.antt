@@ -1,1 +1,5 @@
 pub mod Sound
+pub mod Decode
+pub mod Promise
+pub mod Scan
+pub mod Slots

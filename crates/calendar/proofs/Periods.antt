@@ -1,0 +1,58 @@
+-- The ends of periods: a date-time, or else a duration without minus.
+use Prim.Native.Nat.{ℕ, _-_, _≤_, _<_}
+use Prim.Native.Char.{code}
+use mathlib.Core.Path.{_≡_, refl, sym, ap, _∙_}
+use mathlib.Core.Bool.{Bool, true, false}
+use mathlib.Core.List.{List, [], _∷_}
+use mathlib.Core.Option.{Option, none, some}
+use native.Mathlib.Omega.{arith}
+use borrow.Author.Tests.{ne-eqb}
+use lib.Dec.{eqb}
+use lib.ListN.{getD}
+use Rattle.octets.specs.Basics.{pick, _or_}
+use Rattle.octets.specs.Optional.{or?, isSome, when, given}
+use Rattle.octets.specs.Classes.{between, isLower, upperOctet, upper}
+use Rattle.octets.specs.Decimal.{minus}
+use Rattle.octets.proofs.Cases.{cases}
+use Rattle.octets.proofs.Classes.{between-true}
+use Rattle.calendar.specs.Dates.{dateTimeOf}
+use Rattle.calendar.specs.Durations.{forwardIs, periodEndOf}
+use Rattle.calendar.proofs.Options.{some-when}
+
+-- a minus has no case
+upper-minus : (c : ℕ) → eqb (upperOctet c) (code "-") ≡ eqb c (code "-")
+unfolding upperOctet isLower
+upper-minus c =
+    cases (between (code "a") (code "z") c)
+    (λ e. let b = between-true (code "a") (code "z") c e in rw (e, ne-eqb (c - 32) 45 (λ q. omega arith), ne-eqb c 45 (λ q. omega arith)))
+    (λ e. rw e)
+
+pub minus-upper : (s : List ℕ) → minus (upper s) ≡ eqb (getD s 0 0) (code "-")
+unfolding minus upper
+minus-upper [] = refl
+minus-upper (c ∷ s) = upper-minus c
+
+pub is-some-or : {A : Type 0} (x y : Option A) → isSome (or? x y) ≡ (isSome x or isSome y)
+unfolding isSome or?
+is-some-or none y = refl
+is-some-or (some a) y = refl
+
+pub end-is : (u : List ℕ) → isSome (periodEndOf u) ≡ (isSome (dateTimeOf u) or forwardIs u)
+unfolding periodEndOf
+end-is u = is-some-or (dateTimeOf u) (when (forwardIs u) u) ∙ ap (λ b. isSome (dateTimeOf u) or b) (some-when (forwardIs u) u)
+
+module _ (u : List ℕ) where
+  abbrev written : List ℕ
+  written = given [] (λ t. t) (periodEndOf u)
+
+  pub end-moment : (t : List ℕ) → dateTimeOf u ≡ some t → t ≡ written
+  unfolding periodEndOf or? given
+  end-moment t e = rw e
+
+  pub end-forward : dateTimeOf u ≡ none → forwardIs u ≡ true → u ≡ written
+  unfolding periodEndOf or? given when
+  end-forward e f = rw (e, f)
+
+  pub end-none : dateTimeOf u ≡ none → forwardIs u ≡ false → [] ≡ written
+  unfolding periodEndOf or? given when
+  end-none e f = rw (e, f)

@@ -1,0 +1,10 @@
+pub mod Folding
+pub mod Encoded
+pub mod Names
+pub mod Bare
+pub mod Written
+pub mod WrittenForm
+pub mod WrittenClean
+pub mod Unfolded
+pub mod Physical
+pub mod ParamText

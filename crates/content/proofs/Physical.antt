@@ -1,0 +1,237 @@
+-- The physical lines of a text that is written: each is clean, so that no character is cut, and has at most 75 octets before CRLF.
+use Prim.Native.Nat.{ℕ, suc, _+_, _≤_, _<_}
+use Prim.Native.Char.{code}
+use mathlib.Core.Path.{_≡_, refl, sym, ap, _∙_}
+use mathlib.Core.Bool.{true, false}
+use mathlib.Core.List.{List, [], _∷_, _++_, map, append-assoc}
+use native.Mathlib.Nat.{add-zero}
+use native.Mathlib.Omega.{arith}
+use borrow.Author.Tests.{lt-ltb, le-ltb, ltb-false, leb-true, leb-false, eqb-true}
+use lib.Dec.{eqb, leb, ltb}
+use lib.ListN.{length}
+use Rattle.octets.specs.Basics.{octets, pick, all}
+use Rattle.octets.specs.Pieces.{split}
+use Rattle.octets.specs.Limits.{mostColumns}
+use Rattle.octets.specs.Classes.{isControl, plainOctet, between}
+use Rattle.octets.specs.Utf8.{Due, start, one, two, three, afterE0, afterED, afterF0, afterF4, broken, lead, due, dueAfter, isStart, utf8, clean}
+use Rattle.octets.proofs.Cases.{cases, both, and-true, All, All-append}
+use Rattle.octets.proofs.Classes.{between-true}
+use Rattle.octets.proofs.Pieces.{Free, split-part}
+use Rattle.octets.proofs.Limits.{most-columns}
+use Rattle.octets.proofs.Utf8.{broken-stays, broken-start, utf8-start, start-utf8, utf8-both}
+use Rattle.content.specs.Fold.{width, breaks, foldedOctet, nextColumn, foldFrom, textOf}
+use Rattle.content.proofs.Unfolded.{clean-free}
+use Rattle.content.proofs.Folding.{width-most, breaks-never, onward}
+
+-- physical lines, each ended by CRLF
+unfoldable pub rowsText : List (List ℕ) → List ℕ
+rowsText [] = []
+rowsText (r ∷ rs) = r ++ (octets "\r\n" ++ rowsText rs)
+
+-- what a physical line is
+pub record Row (r : List ℕ) : Type 0 where
+  pub short : length r ≤ mostColumns
+  pub whole : clean r ≡ true
+
+-- the rest of the physical line at `col`, and those that follow it
+rowsFrom : ℕ → List ℕ → List ℕ × List (List ℕ)
+rowsFrom col [] = ([], [])
+rowsFrom col (c ∷ s) =
+    let r = rowsFrom (nextColumn col c) s in
+    pick (breaks col c) ([], (code " " ∷ c ∷ r .0) ∷ r .1) (c ∷ r .0, r .1)
+
+rows-text : (col : ℕ) (s rest : List ℕ) → foldFrom col s ++ (octets "\r\n" ++ rest) ≡ rowsText ((rowsFrom col s) .0 ∷ (rowsFrom col s) .1) ++ rest
+unfolding foldFrom rowsFrom rowsText foldedOctet
+rows-text col [] rest = refl
+rows-text col (c ∷ s) rest =
+    append-assoc (foldedOctet col c) (foldFrom (nextColumn col c) s) (octets "\r\n" ++ rest)
+    ∙ ap (λ l. foldedOctet col c ++ l) (rows-text (nextColumn col c) s rest)
+    ∙ cases (breaks col c) (λ e. rw e) (λ e. rw e)
+
+-- the octets of its character that are still due
+left : Due → ℕ
+left start = 0
+left one = 1
+left two = 2
+left three = 3
+left afterE0 = 2
+left afterED = 2
+left afterF0 = 3
+left afterF4 = 3
+left broken = 0
+
+-- an octet begins a character, or is one of those due; or the text is broken
+data Step (d : Due) (c : ℕ) : Type 0 where
+  lost : due d c ≡ broken → Step d c
+  first : d ≡ start → suc (left (due d c)) ≡ width c → Step d c
+  more : width c ≡ 0 → suc (left (due d c)) ≡ left d → Step d c
+
+module _ (c : ℕ) where
+  width-one : c < 128 → width c ≡ 1
+  unfolding width
+  width-one h = rw (lt-ltb c 128 h)
+
+  width-none : 128 ≤ c → c < 192 → width c ≡ 0
+  unfolding width
+  width-none h k = rw (le-ltb c 128 h, lt-ltb c 192 k)
+
+  width-two : 192 ≤ c → c < 224 → width c ≡ 2
+  unfolding width
+  width-two h k = rw (le-ltb c 128 (omega arith), le-ltb c 192 h, lt-ltb c 224 k)
+
+  width-three : 224 ≤ c → c < 240 → width c ≡ 3
+  unfolding width
+  width-three h k = rw (le-ltb c 128 (omega arith), le-ltb c 192 (omega arith), le-ltb c 224 h, lt-ltb c 240 k)
+
+  width-four : 240 ≤ c → width c ≡ 4
+  unfolding width
+  width-four h = rw (le-ltb c 128 (omega arith), le-ltb c 192 (omega arith), le-ltb c 224 (omega arith), le-ltb c 240 h)
+
+  -- the first octet of a character
+  lead-step : Step start c
+  unfolding due lead left
+  lead-step =
+      cases (leb c 127) (λ e. first refl (rw e (sym (width-one (omega (arith, leb-true c 127 e)))))) λ n₁.
+      cases (leb c 193) (λ e. lost (rw (n₁, e))) λ n₂.
+      let h₂ = leb-false c 193 n₂ in
+      cases (leb c 223) (λ e. first refl (rw (n₁, n₂, e) (sym (width-two (omega arith) (omega (arith, leb-true c 223 e)))))) λ n₃.
+      let h₃ = leb-false c 223 n₃ in
+      cases (eqb c 224) (λ e. first refl (rw (n₁, n₂, n₃, e) (sym (width-three (omega arith) (omega (arith, eqb-true c 224 e)))))) λ n₄.
+      cases (eqb c 237) (λ e. first refl (rw (n₁, n₂, n₃, n₄, e) (sym (width-three (omega arith) (omega (arith, eqb-true c 237 e)))))) λ n₅.
+      cases (leb c 239) (λ e. first refl (rw (n₁, n₂, n₃, n₄, n₅, e) (sym (width-three (omega arith) (omega (arith, leb-true c 239 e)))))) λ n₆.
+      let h₆ = leb-false c 239 n₆ in
+      cases (eqb c 240) (λ e. first refl (rw (n₁, n₂, n₃, n₄, n₅, n₆, e) (sym (width-four (omega arith))))) λ n₇.
+      cases (leb c 243) (λ e. first refl (rw (n₁, n₂, n₃, n₄, n₅, n₆, n₇, e) (sym (width-four (omega arith))))) λ n₈.
+      cases (eqb c 244) (λ e. first refl (rw (n₁, n₂, n₃, n₄, n₅, n₆, n₇, n₈, e) (sym (width-four (omega arith))))) λ n₉.
+      lost (rw (n₁, n₂, n₃, n₄, n₅, n₆, n₇, n₈, n₉))
+
+  -- another one
+  within : (lo hi : ℕ) → 128 ≤ lo → hi < 192 → between lo hi c ≡ true → width c ≡ 0
+  within lo hi h k e = let b = between-true lo hi c e in width-none (omega arith) (omega arith)
+
+  step : (d : Due) → Step d c
+  unfolding due left
+  step start = lead-step
+  step one = cases (between 128 191 c) (λ e. more (within 128 191 (omega arith) (omega arith) e) (rw e)) (λ e. lost (rw e))
+  step two = cases (between 128 191 c) (λ e. more (within 128 191 (omega arith) (omega arith) e) (rw e)) (λ e. lost (rw e))
+  step three = cases (between 128 191 c) (λ e. more (within 128 191 (omega arith) (omega arith) e) (rw e)) (λ e. lost (rw e))
+  step afterE0 = cases (between 160 191 c) (λ e. more (within 160 191 (omega arith) (omega arith) e) (rw e)) (λ e. lost (rw e))
+  step afterED = cases (between 128 159 c) (λ e. more (within 128 159 (omega arith) (omega arith) e) (rw e)) (λ e. lost (rw e))
+  step afterF0 = cases (between 144 191 c) (λ e. more (within 144 191 (omega arith) (omega arith) e) (rw e)) (λ e. lost (rw e))
+  step afterF4 = cases (between 128 143 c) (λ e. more (within 128 143 (omega arith) (omega arith) e) (rw e)) (λ e. lost (rw e))
+  step broken = lost refl
+
+-- the rest of the physical line at `col`, where d is due: it fits, and ends at the end of a character
+record Fine (col : ℕ) (d : Due) (r : List ℕ × List (List ℕ)) : Type 0 where
+  short : col + length (r .0) ≤ mostColumns
+  ends : dueAfter d (r .0) ≡ start
+  plain : all plainOctet (r .0) ≡ true
+  others : All Row (r .1)
+
+fine-none : (col : ℕ) → col ≤ mostColumns → Fine col start ([], [])
+unfolding dueAfter all
+fine-none col h = record { short = rw (add-zero col) h; ends = refl; plain = refl; others = tt }
+
+fine-octet : (col c : ℕ) (d : Due) (r : List ℕ × List (List ℕ)) → plainOctet c ≡ true → Fine (suc col) (due d c) r → Fine col d (c ∷ r .0, r .1)
+unfolding dueAfter all
+fine-octet col c d r p f = record { short = omega (arith, f .short); ends = f .ends; plain = and-true p (f .plain); others = f .others }
+
+-- behind a fold
+fine-row : (c : ℕ) (r : List ℕ × List (List ℕ)) → plainOctet c ≡ true → Fine 2 (due start c) r → Row (code " " ∷ c ∷ r .0)
+fine-row c r p f = record { short = omega (arith, f .short); whole = unfold clean all plainOctet isControl in and-true utf (and-true p (f .plain)) }
+  where
+    utf : utf8 (code " " ∷ c ∷ r .0) ≡ true
+    utf = start-utf8 (code " " ∷ c ∷ r .0) (unfold dueAfter due lead in f .ends)
+
+fine-fold : (col c : ℕ) (r : List ℕ × List (List ℕ)) → col ≤ mostColumns → plainOctet c ≡ true → Fine 2 (due start c) r → Fine col start ([], (code " " ∷ c ∷ r .0) ∷ r .1)
+unfolding dueAfter all
+fine-fold col c r h p f = record { short = rw (add-zero col) h; ends = refl; plain = refl; others = (fine-row c r p f, f .others) }
+
+-- one octet of the line
+module _ (col c : ℕ) (d : Due) (s : List ℕ) (h : col + left d ≤ mostColumns) (p : plainOctet c ≡ true) (e : dueAfter (due d c) s ≡ start)
+    (rest : (to : ℕ) → to + left (due d c) ≤ mostColumns → Fine to (due d c) (rowsFrom to s)) where
+  unfolded : breaks col c ≡ false → suc col + left (due d c) ≤ mostColumns → Fine col d (rowsFrom col (c ∷ s))
+  unfolding rowsFrom
+  unfolded b k = rw (b, onward col c b (omega arith)) (fine-octet col c d (rowsFrom (suc col) s) p (rest (suc col) k))
+
+  folded : d ≡ start → breaks col c ≡ true → suc (left (due d c)) ≡ width c → Fine col d (rowsFrom col (c ∷ s))
+  unfolding rowsFrom nextColumn
+  folded q b w =
+      let m = most-columns in
+      let r : Fine 2 (due start c) (rowsFrom 2 s) = rw q at (rest 2 (omega (arith, width-most c))) in
+      rw (b, q) (fine-fold col c (rowsFrom 2 s) (omega arith) p r)
+
+  fits : breaks col c ≡ false → suc (left (due d c)) ≡ width c → suc col + left (due d c) ≤ mostColumns
+  unfolding breaks
+  fits b w =
+      let t : ltb 0 (width c) ≡ true = lt-ltb 0 (width c) (omega arith) in
+      let k = ltb-false mostColumns (col + width c) (rw t at b) in
+      omega arith
+
+  one-octet : Fine col d (rowsFrom col (c ∷ s))
+  one-octet = by (step c d)
+    where
+      by : Step d c → Fine col d (rowsFrom col (c ∷ s))
+      by (lost b) = broken-start (sym (broken-stays s) ∙ (rw b at e))
+      by (first q w) = cases (breaks col c) (λ b. folded q b w) (λ b. unfolded b (fits b w))
+      by (more z w) = unfolded (breaks-never col c z) (omega arith)
+
+fine : (s : List ℕ) (col : ℕ) (d : Due) → col + left d ≤ mostColumns → dueAfter d s ≡ start → all plainOctet s ≡ true → Fine col d (rowsFrom col s)
+unfolding dueAfter all rowsFrom left
+fine [] col d h e p = rw e (fine-none col (omega (arith, rw e at h)))
+fine (c ∷ s) col d h e p =
+    let b = both (plainOctet c) (all plainOctet s) p in
+    one-octet col c d s h (b .0) e (λ to k. fine s to (due d c) k e (b .1))
+
+-- a text that is physical lines
+pub record Rows (t : List ℕ) : Type 0 where
+  pub rows : List (List ℕ)
+  pub text : t ≡ rowsText rows
+  pub each : All Row rows
+
+rows-append : (rs ts : List (List ℕ)) → rowsText (rs ++ ts) ≡ rowsText rs ++ rowsText ts
+unfolding rowsText
+rows-append [] ts = refl
+rows-append (r ∷ rs) ts = rw (rows-append rs ts) (sym (append-assoc r (octets "\r\n" ++ rowsText rs) (rowsText ts)))
+
+line-rows : (l : List ℕ) → clean l ≡ true → All Row ((rowsFrom 0 l) .0 ∷ (rowsFrom 0 l) .1)
+line-rows l h =
+    let b : (utf8 l ≡ true) × (all plainOctet l ≡ true) = unfold clean in both (utf8 l) (all plainOctet l) h in
+    let f : Fine 0 start (rowsFrom 0 l) = fine l 0 start (unfold left in omega (arith, most-columns)) (utf8-start l (b .0)) (b .1) in
+    (record { short = omega (arith, f .short); whole = unfold clean in and-true (start-utf8 ((rowsFrom 0 l) .0) (f .ends)) (f .plain) }, f .others)
+
+-- THE LAW: clean lines are written as physical lines
+pub text-rows : (ls : List (List ℕ)) → All (λ l. clean l ≡ true) ls → Rows (textOf ls)
+text-rows [] h = record { rows = []; text = unfold textOf rowsText in refl; each = tt }
+text-rows (l ∷ ls) h = behind l ls (h .0) (text-rows ls (h .1))
+  where
+    behind : (l : List ℕ) (ls : List (List ℕ)) → clean l ≡ true → Rows (textOf ls) → Rows (textOf (l ∷ ls))
+    behind l ls h r = record {
+      rows = ((rowsFrom 0 l) .0 ∷ (rowsFrom 0 l) .1) ++ r .rows;
+      text = unfold textOf in (rows-text 0 l (textOf ls) ∙ ap (λ t. rowsText ((rowsFrom 0 l) .0 ∷ (rowsFrom 0 l) .1) ++ t) (r .text) ∙ sym (rows-append ((rowsFrom 0 l) .0 ∷ (rowsFrom 0 l) .1) (r .rows)));
+      each = All-append Row ((rowsFrom 0 l) .0 ∷ (rowsFrom 0 l) .1) (r .rows) (line-rows l h) (r .each);
+    }
+
+-- as cut at each LF: a physical line with its CR, and nothing behind the last
+no-newline : (r : List ℕ) → Row r → Free (code "\n") (r ++ octets "\r")
+no-newline r w = All-append (λ x. eqb x (code "\n") ≡ false) r (octets "\r") (clean-free r (w .whole)) (refl, tt)
+
+pub rows-split : (rs : List (List ℕ)) → All Row rs → split (code "\n") (rowsText rs) ≡ map (λ r. r ++ octets "\r") rs ++ [] ∷ []
+unfolding rowsText
+rows-split [] h = unfold split in refl
+rows-split (r ∷ rs) h =
+    ap (split (code "\n")) (sym (append-assoc r (octets "\r") (code "\n" ∷ rowsText rs)))
+    ∙ split-part (code "\n") (r ++ octets "\r") (rowsText rs) (no-newline r (h .0))
+    ∙ ap (λ l. (r ++ octets "\r") ∷ l) (rows-split rs (h .1))
+
+-- the text is UTF-8
+rows-utf8 : (rs : List (List ℕ)) → All Row rs → utf8 (rowsText rs) ≡ true
+unfolding rowsText
+rows-utf8 [] h = unfold utf8 dueAfter isStart in refl
+rows-utf8 (r ∷ rs) h = utf8-both r (octets "\r\n" ++ rowsText rs) (utf r (h .0 .whole)) (utf8-both (octets "\r\n") (rowsText rs) (unfold utf8 dueAfter due lead isStart in refl) (rows-utf8 rs (h .1)))
+  where
+    utf : (r : List ℕ) → clean r ≡ true → utf8 r ≡ true
+    utf r h = unfold clean in (both (utf8 r) (all plainOctet r) h .0)
+
+pub text-utf8 : (ls : List (List ℕ)) → All (λ l. clean l ≡ true) ls → utf8 (textOf ls) ≡ true
+text-utf8 ls h = let r = text-rows ls h in rw (r .text) (rows-utf8 (r .rows) (r .each))

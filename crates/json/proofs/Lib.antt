@@ -1,0 +1,13 @@
+pub mod Runs
+pub mod Words
+pub mod NumberLaws
+pub mod Outs
+pub mod StringLaws
+pub mod Agreements
+pub mod Texts
+pub mod Tapes
+pub mod Sizes
+pub mod Elements
+pub mod ValueLaws
+pub mod Parsing
+pub mod Quotes

@@ -1,0 +1,47 @@
+-- What the crate's own readers promise each other; `parse` promises what Parse says.
+use Prim.Native.Nat.{ℕ, _-_, _≤_, _<_}
+use mathlib.Core.Path.{_≡_}
+use Prim.Native.Char.{code}
+use mathlib.Core.Bool.{Bool, true, false, not}
+use lib.Dec.{eqb, ltb}
+use mathlib.Core.List.{List, [], _∷_}
+use lib.ListN.{length, take, drop, getD}
+use Rattle.octets.specs.Basics.{_or_, all}
+use Rattle.octets.specs.Pen.{Pen, pen, Wrote}
+use Rattle.json.specs.Reads.{Out, ok, deep, bad}
+use Rattle.json.specs.declared.Step.{Step}
+use Rattle.json.specs.declared.Step.the-variants.{Read, TooDeep, NotJson}
+use Rattle.json.specs.declared.Found.{Found}
+use Rattle.json.specs.declared.Found.the-variants.{At, Nothing}
+
+-- from `at` to r stand octets of a class, and at r none
+pub record Run (class : ℕ → Bool) (text : List ℕ) (at r : ℕ) : Type 0 where
+  pub above : at ≤ r
+  pub below : r ≤ length text
+  pub inside : all class (take (r - at) (drop at text)) ≡ true
+  pub over : r < length text → class (getD text r 0) ≡ false
+
+-- the place of the answer, `low` at least, is where the reading o ends
+pub data FoundAt (text : List ℕ) (low : ℕ) (o : Out (Unit {0})) : Found → Type 0 where
+  found : {e : ℕ} → o ≡ ok tt (drop e text) → low ≤ e → e ≤ length text → FoundAt text low o (At e)
+  missing : o ≡ bad → FoundAt text low o Nothing
+
+-- the answer is the reading o: what it read has the tape f, which was written with the pen p; t is the buffer then
+pub data Agrees {A : Type 0} (f : A → List ℕ) (text : List ℕ) (low : ℕ) (p : Pen) (t : List ℕ) (o : Out A) : Step → Type 0 where
+  read : {e to : ℕ} (a : A) → o ≡ ok a (drop e text) → low ≤ e → e ≤ length text → Wrote p (f a) (pen t to) → Agrees f text low p t o (Read e to)
+  too-deep : o ≡ deep → Agrees f text low p t o TooDeep
+  not-json : o ≡ bad → Agrees f text low p t o NotJson
+
+-- the number that four hexadecimal digits gave; where there are none, one more than they can say
+unfoldable pub codeOf : Out ℕ → ℕ
+codeOf (ok n s) = n
+codeOf deep = 65536
+codeOf bad = 65536
+
+-- an octet that stands for itself in a string
+unfoldable pub plainOctet : ℕ → Bool
+plainOctet b = not (ltb b 32 or eqb b (code "\"") or eqb b (code "\\"))
+
+-- an octet that is written as it is
+unfoldable pub bareOctet : ℕ → Bool
+bareOctet b = not (eqb b (code "\"") or eqb b (code "\\") or eqb b (code "\n") or eqb b (code "\t"))

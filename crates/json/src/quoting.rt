@@ -1,0 +1,65 @@
+// JSON strings written (01, Values): only the double quote, backslash, newline and tab are escaped, each by two characters.
+ghost use mathlib.Core.Path.{_≡_};
+ghost use Prim.Native.Nat.{_≤_};
+ghost use lib.ListN.{length};
+ghost use Rattle.octets.specs.Pen.{pen, Wrote};
+ghost use Rattle.json.specs.Print.{escaped, printString};
+ghost use Rattle.json.specs.Promise.{Run, bareOctet};
+
+fn is_bare(b: u8) -> bool
+    ensures { λ r. ⌜ r ≡ bareOctet b ⌝ }
+{
+    match b {
+        b'"' => false,
+        b'\\' => false,
+        b'\n' => false,
+        b'\t' => false,
+        _ => true,
+    }
+}
+
+// The place behind the octets at `at` that are written as they are.
+fn past_bare(s: &[u8], at: usize) -> usize
+    requires { ⌜ at ≤ length (now s) ⌝ }
+    ensures { λ r. ⌜ Run bareOctet (now (s .entry)) at r ⌝ }
+{
+    let mut i = at;
+    while i < s.len() {
+        if !is_bare(s[i]) {
+            return i;
+        }
+        i += 1;
+    }
+    i
+}
+
+// Writes one octet of a string.
+fn put_octet(out: &mut [u8], at: usize, b: u8) -> usize
+    ensures { λ r. ⌜ Wrote (pen (now (out .entry)) at) (escaped b) (pen (now (out .exit)) r) ⌝ }
+{
+    match b {
+        b'"' => octets::put_all(out, at, b"\\\""),
+        b'\\' => octets::put_all(out, at, b"\\\\"),
+        b'\n' => octets::put_all(out, at, b"\\n"),
+        b'\t' => octets::put_all(out, at, b"\\t"),
+        _ => octets::put(out, at, b),
+    }
+}
+
+// Writes a string between quotes; octets that are written as they are go run by run.
+pub fn put_string(out: &mut [u8], at: usize, s: &[u8]) -> usize
+    ensures { λ r. ⌜ Wrote (pen (now (out .entry)) at) (printString (now (s .entry))) (pen (now (out .exit)) r) ⌝ }
+{
+    let mut p = octets::put(out, at, b'"');
+    let mut i = 0;
+    while i < s.len() {
+        let e = past_bare(s, i);
+        let q = octets::put_all(out, p, &s[i..e]);
+        if e == s.len() {
+            return octets::put(out, q, b'"');
+        }
+        p = put_octet(out, q, s[e]);
+        i = e + 1;
+    }
+    octets::put(out, p, b'"')
+}

@@ -1,0 +1,7 @@
+pub mod Tags
+pub mod Values
+pub mod Walks
+pub mod Scans
+pub mod Fine
+pub mod Back
+pub mod Tables

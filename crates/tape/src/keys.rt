@@ -1,0 +1,146 @@
+// Whether the keys of an object are all different. A few are compared with all keys behind them; many are found again by a table of slots.
+use super::END;
+use super::walking::behind;
+use super::walking::tag;
+use super::walking::text_at;
+use octets::same;
+ghost use mathlib.Core.Path.{_≡_};
+ghost use Prim.Native.Nat.{_≤_};
+ghost use Rattle.tape.specs.Sound.{hasKey, distinctKeys};
+ghost use Rattle.tape.specs.Decode.{membersAt};
+ghost use Rattle.tape.specs.Slots.{slotOf, Blank, Probes};
+
+// Keys that are compared with all behind them.
+const FEW: usize = 16;
+
+// Slots in a table: one for each answer of `slot_of`, and some more behind them.
+const SLOTS: usize = 16640;
+
+// What a table has of a key: the slot that it is found in, a free slot for it, or neither.
+pub enum Probed {
+    There(usize),
+    Free(usize),
+    Full,
+}
+
+// Whether the key is one of those from `at` to the end of the object.
+fn has_key(t: &[u8], at: usize, key: &[u8]) -> bool
+    ensures { λ r. ⌜ r ≡ hasKey (now (key .entry)) (membersAt (now (t .entry)) at) ⌝ }
+{
+    let mut i = at;
+    loop {
+        if tag(t, i) == END {
+            return false;
+        }
+        let k = text_at(t, i);
+        let v = k.next;
+        let e = behind(t, v);
+        let from = k.from;
+        let to = k.to;
+        if same(key, &t[from..to]) {
+            return true;
+        }
+        i = e;
+    }
+}
+
+// The slot from which on a key stands in a table.
+fn slot_of(key: &[u8]) -> usize
+    ensures { λ r. ⌜ r ≡ slotOf (now (key .entry)) ⌝ }
+{
+    let mut h: usize = 0;
+    let mut i = 0;
+    while i < key.len() {
+        h = (h * 257 + key[i] as usize) % 16381;
+        i += 1;
+    }
+    h
+}
+
+// Looks a key up in a table, whose slots hold places of keys, and 0 where they are free.
+fn probe(t: &[u8], table: &[usize], key: &[u8]) -> Probed
+    ensures { λ r. ⌜ Probes (now (t .entry)) (now (table .entry)) (now (key .entry)) r ⌝ }
+{
+    let mut s = slot_of(key);
+    while s < table.len() {
+        let p = table[s];
+        if p == 0 {
+            return Probed::Free(s);
+        }
+        let k = text_at(t, p);
+        let from = k.from;
+        let to = k.to;
+        if same(key, &t[from..to]) {
+            return Probed::There(s);
+        }
+        s += 1;
+    }
+    Probed::Full
+}
+
+// Whether the keys from `at` on are all different; the table is free.
+fn all_new(t: &[u8], at: usize, table: &mut [usize]) -> bool
+    requires { ⌜ 1 ≤ at ⌝ ∗ ⌜ Blank (now table) ⌝ }
+    ensures { λ r. ⌜ r ≡ distinctKeys (membersAt (now (t .entry)) at) ⌝ }
+{
+    let mut i = at;
+    loop {
+        if tag(t, i) == END {
+            return true;
+        }
+        let k = text_at(t, i);
+        let v = k.next;
+        let e = behind(t, v);
+        let from = k.from;
+        let to = k.to;
+        let p = probe(t, table, &t[from..to]);
+        match p {
+            Probed::Free(s) => {
+                table[s] = i;
+                i = e;
+            }
+            Probed::There(_) => {
+                return false;
+            }
+            Probed::Full => {
+                if has_key(t, e, &t[from..to]) {
+                    return false;
+                }
+                i = e;
+            }
+        }
+    }
+}
+
+// Whether the keys from `at` on are all different, by a table.
+fn many_distinct(t: &[u8], at: usize) -> bool
+    requires { ⌜ 1 ≤ at ⌝ }
+    ensures { λ r. ⌜ r ≡ distinctKeys (membersAt (now (t .entry)) at) ⌝ }
+{
+    let mut table = [0usize; SLOTS];
+    all_new(t, at, &mut table)
+}
+
+// Whether the keys from `at` to the end of the object are all different.
+pub fn keys_distinct(t: &[u8], at: usize) -> bool
+    ensures { λ r. ⌜ r ≡ distinctKeys (membersAt (now (t .entry)) at) ⌝ }
+{
+    let mut i = at;
+    let mut n = 0;
+    while n < FEW {
+        if tag(t, i) == END {
+            return true;
+        }
+        let k = text_at(t, i);
+        let v = k.next;
+        let e = behind(t, v);
+        let from = k.from;
+        let to = k.to;
+        if has_key(t, e, &t[from..to]) {
+            return false;
+        }
+        i = e;
+        n += 1;
+    }
+    many_distinct(t, i)
+}
