@@ -2,12 +2,12 @@
 use Prim.Native.Nat.{ℕ, _<_}
 use Prim.Native.Char.{code}
 use mathlib.Core.Path.{_≡_, refl, _∙_}
-use mathlib.Core.Bool.{Bool, true, false}
+use mathlib.Core.Bool.{Bool, true, false, not}
 use mathlib.Core.List.{List, [], _∷_, _++_, map}
 use native.Mathlib.Omega.{arith}
 use borrow.Author.Tests.{le-leb, lt-leb, ne-eqb, eqb-true}
 use lib.Dec.{eqb}
-use Rattle.octets.specs.Basics.{_or_, all, any, filled}
+use Rattle.octets.specs.Basics.{octets, _or_, all, any, filled}
 use Rattle.octets.specs.Pieces.{joined}
 use Rattle.octets.specs.Classes.{isDigit, isUpper, isLower, isLetter, nameOctet, isName, isControl, plainOctet, textOctet, upper}
 use Rattle.octets.specs.Utf8.{dueAfter, isStart, utf8, clean}
@@ -16,6 +16,7 @@ use Rattle.octets.proofs.Classes.{between-true}
 use Rattle.octets.proofs.Utf8.{ascii, ascii-utf8, clean-both, clean-cut, clean-upper}
 use Rattle.content.specs.Carets.{encoded}
 use Rattle.content.specs.Line.{Param}
+use Rattle.content.specs.Parameters.{called, mayReturn}
 use Rattle.content.specs.Write.{asksQuotes, quotedIf, paramValueText, paramText, paramsText, lineText}
 use Rattle.content.proofs.Names.{lower-name}
 use Rattle.content.proofs.Encoded.{encoded-utf8, encoded-plain}
@@ -106,6 +107,11 @@ values-clean (v ∷ vs) h k =
 pub record Texts (p : Param) : Type 0 where
   pub utf : all utf8 (p .values) ≡ true
   pub plain : all (all textOctet) (p .values) ≡ true
+
+-- those that number 7 lets through, in UTF-8
+pub may-texts : (p : Param) → mayReturn p ≡ true → all utf8 (p .values) ≡ true → Texts p
+unfolding mayReturn
+may-texts p h u = record { utf = u; plain = both (not (called (octets "value") p)) (all (all textOctet) (p .values)) h .1 }
 
 param-clean : (p : Param) → Writable p → Texts p → clean (paramText p) ≡ true
 unfolding paramText

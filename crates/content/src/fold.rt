@@ -7,7 +7,7 @@ ghost use Rattle.octets.specs.Basics.{octets};
 ghost use Rattle.octets.specs.Classes.{upper};
 ghost use Rattle.octets.specs.Limits.{mostColumns};
 ghost use Rattle.octets.specs.Pen.{pen, Wrote};
-ghost use Rattle.content.specs.Fold.{width, breaks, nextColumn};
+ghost use Rattle.content.specs.Fold.{width, breaks};
 ghost use Rattle.content.specs.Folding.{folding, Folded};
 use octets::MOST_COLUMNS;
 use octets::put;
@@ -20,7 +20,7 @@ pub struct Folder {
     pub column: usize,
 }
 
-// Columns before which every character ends in its line, whatever its width.
+// A character that begins before this column ends in its line, whatever its width.
 const SAFE_COLUMNS: usize = MOST_COLUMNS - 3;
 
 // The octets of the character that c begins, or 0.
@@ -50,7 +50,7 @@ fn breaks(column: usize, c: u8) -> bool
     MOST_COLUMNS - n < column
 }
 
-// Writes an octet.
+// Writes an octet, behind a fold where its character would not end in the line.
 pub fn fold_octet(out: &mut [u8], p: Folder, c: u8) -> Folder
     ensures { λ r. ⌜ Folded (folding (now (out .entry)) p) (c ∷ []) (folding (now (out .exit)) r) ⌝ }
 {
@@ -87,7 +87,7 @@ fn fold_run(out: &mut [u8], p: Folder, s: &[u8]) -> Folder
     }
 }
 
-// The end of the longest run from i that stands in safe columns.
+// The end of a run from i that stands in safe columns.
 fn run_end(column: usize, i: usize, len: usize) -> usize
     requires { ⌜ (column + 3 < mostColumns) × (i < len) ⌝ }
     ensures { λ r. ⌜ (i < r) × (r ≤ len) × (column + (r - i) + 3 ≤ mostColumns) ⌝ }

@@ -33,13 +33,19 @@ part-fold-run-end : tie.Need-part-fold-run-end Inv-loop μ-loop
 part-fold-run-end c = search needs
 
 fold-run-requires : tie.Need-fold-run-requires Inv-loop μ-loop
-fold-run-requires c κs = rw (part-length (c .before .before .before .before .before .before .before .before .args .s .now) (c .before .before .before .before .before .loop .i) (c .before .before .run-end .result) (omega arith) (omega arith)) (c .before .before .run-end .ensures .2)
+fold-run-requires c κs =
+    let found = c .before .before in
+    let turn = found .before .before .before in
+    rw (part-length (turn .before .before .before .args .s .now) (turn .loop .i) (found .run-end .result) (omega arith) (omega arith)) (found .run-end .ensures .2)
 
 loop-less : tie.Need-loop-less Inv-loop μ-loop
 loop-less c = search needs
 
 loop-again : tie.Need-loop-again Inv-loop μ-loop
-loop-again c = (omega arith, omega arith, leads-on (c .before .before .before .before .before .before .before .before .loop .inv .2) (c .before .before .fold-run .ensures) (part-rest _ (c .before .before .before .before .before .before .before .before .loop .i) (c .before .before .before .before .before .run-end .result) (omega arith)))
+loop-again c =
+    let found = c .before .before .before .before .before in
+    let turn = found .before .before .before in
+    (omega arith, omega arith, leads-on (turn .loop .inv .2) (c .before .before .fold-run .ensures) (part-rest _ (turn .loop .i) (found .run-end .result) (omega arith)))
 
 shared-slice-read-fold-octet : tie.Need-shared-slice-read-fold-octet Inv-loop μ-loop
 shared-slice-read-fold-octet c = search needs
@@ -54,7 +60,9 @@ loop-less-2 : tie.Need-loop-less-2 Inv-loop μ-loop
 loop-less-2 c = search needs
 
 loop-again-2 : tie.Need-loop-again-2 Inv-loop μ-loop
-loop-again-2 c = (omega arith, omega arith, leads-on (c .before .before .before .before .before .before .before .loop .inv .2) (c .before .before .fold-octet .ensures) (here _ _ (c .before .before .before .before .before .before .loop-test .taken)))
+loop-again-2 c =
+    let test = c .before .before .before .before .before .before in
+    (omega arith, omega arith, leads-on (test .before .loop .inv .2) (c .before .before .fold-octet .ensures) (here _ _ (test .loop-test .taken)))
 
 same-length : tie.Need-same-length Inv-loop μ-loop
 same-length c = search needs

@@ -23,7 +23,10 @@ same-length : tie.Need-same-length
 same-length c = search needs
 
 returns : tie.Need-returns
-returns c = one-broken (sym (c .before .before .before .before .before .before .before .before .before .before .breaks .ensures) ∙ c .before .before .before .before .before .before .before .before .before .if1 .taken) (c .before .before .before .before .before .before .put-all .ensures) (c .before .before .put .ensures)
+returns c =
+    let fold = c .before .before .before .before .before .before in
+    let test = fold .before .before .before in
+    one-broken (sym (test .before .breaks .ensures) ∙ test .if1 .taken) (fold .put-all .ensures) (c .before .before .put .ensures)
 
 put-requires-2 : tie.Need-put-requires-2
 put-requires-2 c κs = search needs
@@ -35,7 +38,9 @@ same-length-2 : tie.Need-same-length-2
 same-length-2 c = search needs
 
 returns-2 : tie.Need-returns-2
-returns-2 c = one-plain (sym (c .before .before .before .before .before .before .breaks .ensures) ∙ c .before .before .before .before .before .if1 .left) (omega (arith, most-columns)) (c .before .before .before .put2 .ensures)
+returns-2 c =
+    let test = c .before .before .before .before .before in
+    one-plain (sym (test .before .breaks .ensures) ∙ test .if1 .left) (omega (arith, most-columns)) (c .before .before .before .put2 .ensures)
 
 add-t21 : tie.Need-add-t21
 add-t21 c = search needs
@@ -44,7 +49,9 @@ same-length-3 : tie.Need-same-length-3
 same-length-3 c = search needs
 
 returns-3 : tie.Need-returns-3
-returns-3 c = one-plain (sym (c .before .before .before .before .before .before .breaks .ensures) ∙ c .before .before .before .before .before .if1 .left) (omega (arith, most-columns)) (c .before .before .before .put2 .ensures)
+returns-3 c =
+    let test = c .before .before .before .before .before in
+    one-plain (sym (test .before .breaks .ensures) ∙ test .if1 .left) (omega (arith, most-columns)) (c .before .before .before .put2 .ensures)
 
 pub fold-octet-spec : {M : Type 1} → statement M
 fold-octet-spec =

@@ -37,7 +37,13 @@ loop-less c = search needs
 
 loop-again : tie.Need-loop-again Inv-loop μ-loop
 unfolding upper
-loop-again c = (omega arith, omega arith, leads-on (c .before .before .before .before .before .before .before .loop .inv .2) (c .before .before .fold-octet .ensures) (rw (here _ _ (c .before .before .before .before .before .before .loop-test .taken), c .before .before .before .upper-octet .ensures)))
+loop-again c =
+    let test = c .before .before .before .before .before .before in (
+      omega arith,
+      omega arith,
+      leads-on (test .before .loop .inv .2) (c .before .before .fold-octet .ensures)
+          (rw (here _ _ (test .loop-test .taken), c .before .before .before .upper-octet .ensures)),
+    )
 
 same-length : tie.Need-same-length Inv-loop μ-loop
 same-length c = search needs

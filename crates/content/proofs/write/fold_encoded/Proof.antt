@@ -39,7 +39,12 @@ same-length : tie.Need-same-length Inv-loop μ-loop
 same-length c = search needs
 
 returns : tie.Need-returns Inv-loop μ-loop
-returns c = leads-end (leads-on (c .before .before .before .before .before .before .before .loop .inv .2) (c .before .before .before .fold-all .ensures) (c .before .before .before .before .before .before .plain-end .ensures .2)) (encoded-ended (c .before .before .before .before .before .before .before .before .before .before .args .v .now) (c .before .before .before .before .before .before .plain-end .result) (omega arith))
+returns c =
+    let run = c .before .before .before in
+    let found = run .before .before .before in
+    let turn = found .before in
+    leads-end (leads-on (turn .loop .inv .2) (run .fold-all .ensures) (found .plain-end .ensures .2))
+    (encoded-ended (turn .before .before .before .args .v .now) (found .plain-end .result) (omega arith))
 
 shared-slice-read-fold-encoded-octet :
     tie.Need-shared-slice-read-fold-encoded-octet Inv-loop μ-loop
@@ -55,7 +60,13 @@ loop-less : tie.Need-loop-less Inv-loop μ-loop
 loop-less c = search needs
 
 loop-again : tie.Need-loop-again Inv-loop μ-loop
-loop-again c = (omega arith, omega arith, leads-on (leads-on (c .before .before .before .before .before .before .before .before .before .before .before .before .loop .inv .2) (c .before .before .before .before .before .before .before .before .fold-all .ensures) (c .before .before .before .before .before .before .before .before .before .before .before .plain-end .ensures .2)) (c .before .before .fold-encoded-octet .ensures) (encoded-here (c .before .before .before .before .before .before .before .before .before .before .before .before .before .before .before .args .v .now) (c .before .before .before .before .before .before .before .before .before .before .before .plain-end .result) (omega arith)))
+loop-again c =
+    let run = c .before .before .before .before .before .before .before .before in
+    let found = run .before .before .before in
+    let turn = found .before in
+    let plain = leads-on (turn .loop .inv .2) (run .fold-all .ensures) (found .plain-end .ensures .2) in
+    let next = encoded-here (turn .before .before .before .args .v .now) (found .plain-end .result) (omega arith) in
+    (omega arith, omega arith, leads-on plain (c .before .before .fold-encoded-octet .ensures) next)
 
 pub fold-encoded-spec : {M : Type 1} → statement M
 fold-encoded-spec =

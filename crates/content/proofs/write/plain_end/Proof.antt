@@ -30,7 +30,10 @@ loop-less : tie.Need-loop-less Inv-loop μ-loop
 loop-less c = search needs
 
 loop-again : tie.Need-loop-again Inv-loop μ-loop
-loop-again c = (omega arith, omega arith, plain-more _ _ _ (c .before .before .before .loop .inv .0) (c .before .before .loop-test .taken) (stays _ (λ e. c .match .rest .1 (inl e)) (λ e. c .match .rest .1 (inr (inl e))) (λ e. c .match .rest .1 (inr (inr e)))) (c .before .before .before .loop .inv .2))
+loop-again c =
+    let turn = c .before .before .before in
+    let same = stays _ (λ e. c .match .rest .1 (inl e)) (λ e. c .match .rest .1 (inr (inl e))) (λ e. c .match .rest .1 (inr (inr e))) in
+    (omega arith, omega arith, plain-more _ _ _ (turn .loop .inv .0) (c .before .before .loop-test .taken) same (turn .loop .inv .2))
 
 returns-2 : tie.Need-returns-2 Inv-loop μ-loop
 returns-2 c = c .before .loop .inv

@@ -23,7 +23,11 @@ same-length c = search needs
 
 returns : tie.Need-returns
 unfolding paramValueText quotedIf
-returns c = rw (← (c .before .before .before .before .before .before .before .before .before .before .before .before .before .is-quoted .ensures), c .before .before .before .before .before .before .before .before .before .before .before .before .if1 .taken) (then (then (c .before .before .before .before .before .before .before .before .before .before .fold-octet .ensures) (c .before .before .before .before .before .before .fold-encoded .ensures)) (c .before .before .fold-octet2 .ensures))
+returns c =
+    let open-quote = c .before .before .before .before .before .before .before .before .before .before in
+    let test = open-quote .before .before in
+    rw (← (test .before .is-quoted .ensures), test .if1 .taken)
+    (then (then (open-quote .fold-octet .ensures) (c .before .before .before .before .before .before .fold-encoded .ensures)) (c .before .before .fold-octet2 .ensures))
 
 plain-end-requires : tie.Need-plain-end-requires
 plain-end-requires c κs = search needs
@@ -36,7 +40,11 @@ same-length-2 c = search needs
 
 returns-2 : tie.Need-returns-2
 unfolding paramValueText quotedIf
-returns-2 c = rw (← (c .before .before .before .before .before .before .before .is-quoted .ensures), c .before .before .before .before .before .before .if1 .left, plain-whole (c .before .before .before .before .before .before .before .before .before .before .args .v .now) (rw (c .before .before .before .before .if2 .taken) at (c .before .before .before .before .before .plain-end .ensures .2))) (c .before .before .fold-all .ensures)
+returns-2 c =
+    let found = c .before .before .before .before .before in
+    let test = found .before in
+    let plain = plain-whole (test .before .before .before .before .args .v .now) (rw (c .before .before .before .before .if2 .taken) at (found .plain-end .ensures .2)) in
+    rw (← (test .before .is-quoted .ensures), test .if1 .left, plain) (c .before .before .fold-all .ensures)
 
 fold-encoded-requires-2 : tie.Need-fold-encoded-requires-2
 fold-encoded-requires-2 c κs = search needs
