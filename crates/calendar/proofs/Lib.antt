@@ -23,3 +23,4 @@ pub mod Showing
 pub mod Choices
 pub mod Turns
 pub mod Real
+pub mod Again

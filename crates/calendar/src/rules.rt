@@ -108,7 +108,7 @@ fn weekday_of(s: &[u8]) -> Weekday
 fn count_of(s: &[u8]) -> u32
     ensures { λ r. ⌜ r ≡ counted (now (s .entry)) ⌝ }
 {
-    value_of(s, MOST_INTEGER as u32) as u32
+    value_of(s, MOST_INTEGER) as u32
 }
 
 fn until_of(s: &[u8]) -> End

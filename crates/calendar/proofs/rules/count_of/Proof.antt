@@ -6,9 +6,6 @@ use Rattle.calendar.specs.Reading.{counted}
 use Rattle.calendar.proofs.rules.count_of.Statement.{statement}
 use Rattle.calendar.proofs.rules.count_of.Tie as tie
 
-cast-value-of : tie.Need-cast-value-of
-cast-value-of c = search needs
-
 value-of-requires : tie.Need-value-of-requires
 value-of-requires c κs = search needs
 
@@ -23,7 +20,6 @@ pub count-of-spec : {M : Type 1} → statement M
 count-of-spec =
     tie.close
     (tie.spec
-    cast-value-of
     value-of-requires
     cast-result
     returns)
