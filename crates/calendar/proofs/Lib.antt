@@ -21,3 +21,6 @@ pub mod Gathering
 pub mod Listing
 pub mod Showing
 pub mod Real
+pub mod Choices
+pub mod Turns
+pub mod Again

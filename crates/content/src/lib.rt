@@ -10,6 +10,7 @@ pub use fold::fold_upper;
 pub use write::begin_param;
 pub use write::next_param_value;
 pub use write::write_param_value;
+
 mod form;
 mod lines;
 mod params;
