@@ -7,3 +7,4 @@ pub mod Separators
 pub mod Walking
 pub mod Tokens
 pub mod Telling
+pub mod Decoding

@@ -8,5 +8,6 @@ pub mod Parts
 pub mod Buffer
 pub mod Parameters
 pub mod Kinds
+pub mod Object
 pub mod Write
 pub mod Fold

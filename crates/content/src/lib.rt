@@ -1,6 +1,7 @@
 // iCalendar text: lines, content lines, parameters, folding.
 mod form;
 mod lines;
+mod object;
 mod params;
 mod parts;
 mod scan;
