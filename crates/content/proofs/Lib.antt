@@ -8,3 +8,4 @@ pub mod Walking
 pub mod Tokens
 pub mod Telling
 pub mod Decoding
+pub mod Objects

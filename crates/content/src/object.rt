@@ -1,10 +1,10 @@
 // The parameters of a content line as a jCal object.
 ghost use mathlib.Core.Path.{_≡_};
 ghost use mathlib.Core.Bool.{false};
-ghost use mathlib.Core.List.{map};
+ghost use mathlib.Core.List.{[], map};
 ghost use Prim.Native.Nat.{_+_, _≤_};
 ghost use lib.ListN.{length, drop};
-ghost use Rattle.octets.specs.Basics.{pick};
+ghost use Rattle.octets.specs.Basics.{octets, pick};
 ghost use Rattle.octets.specs.Classes.{lower};
 ghost use Rattle.octets.specs.Pen.{pen, Wrote};
 ghost use Rattle.json.specs.Tree.{str, obj, itemsOf};
@@ -12,10 +12,17 @@ ghost use Rattle.json.specs.Print.{escaped, quoted, printString, printKey, more
 ghost use Rattle.content.specs.Line.{pieces, paramValue};
 ghost use Rattle.content.specs.Carets.{decoded};
 ghost use Rattle.content.specs.Scan.{until};
+ghost use Rattle.content.specs.Parts.{paramsIn};
+ghost use Rattle.content.specs.Parameters.{withoutValue, plainOr, membersOf};
 ghost use Rattle.content.specs.Object.{standsFor, takes, special};
+use crate::parts::inner;
+use crate::parts::param_at;
+use crate::scan::next_bare;
+use octets::lower_octet;
 use octets::peek;
 use octets::put;
 use octets::put_all;
+use octets::same_name;
 
 // The octet that `c` stands for, where `d` follows it.
 fn stands_for(c: u8, d: u8) -> u8
@@ -104,4 +111,96 @@ fn put_decoded(out: &mut [u8], at: usize, v: &[u8]) -> usize
         i = e + taken(c, d);
     }
     put(out, to, b'"')
+}
+
+// Writes a parameter value as a JSON string.
+fn put_value(out: &mut [u8], at: usize, v: &[u8]) -> usize
+    ensures { λ r. ⌜ Wrote (pen (now (out .entry)) at) (printString (paramValue (now (v .entry)))) (pen (now (out .exit)) r) ⌝ }
+{
+    let span = inner(v, 0, v.len());
+    let from = span.from;
+    let end = span.end;
+    let a = put(out, at, b'"');
+    put_decoded(out, a, &v[from..end])
+}
+
+// Writes the values from `from` on, each behind a comma, and the closing bracket.
+fn put_more(out: &mut [u8], at: usize, values: &[u8], from: usize) -> usize
+    requires { ⌜ from ≤ length (now values) ⌝ }
+    ensures { λ r. ⌜ Wrote (pen (now (out .entry)) at) (moreItems (itemsOf (map str (map paramValue (pieces 44 false (drop from (now (values .entry)))))))) (pen (now (out .exit)) r) ⌝ }
+{
+    let mut i = from;
+    let mut to = at;
+    loop {
+        let e = next_bare(values, i, b',', b',');
+        let a = put(out, to, b',');
+        let b = put_value(out, a, &values[i..e]);
+        if e >= values.len() {
+            return put(out, b, b']');
+        }
+        to = b;
+        i = e + 1;
+    }
+}
+
+// Writes the values of a parameter: one as a string, several as an array.
+fn put_values(out: &mut [u8], at: usize, values: &[u8]) -> usize
+    ensures { λ r. ⌜ Wrote (pen (now (out .entry)) at) (print (plainOr (map str (map paramValue (pieces 44 false (now (values .entry))))))) (pen (now (out .exit)) r) ⌝ }
+{
+    let e = next_bare(values, 0, b',', b',');
+    if e >= values.len() {
+        return put_value(out, at, values);
+    }
+    let a = put(out, at, b'[');
+    let b = put_value(out, a, &values[0..e]);
+    put_more(out, b, values, e + 1)
+}
+
+// Writes a name in lowercase as a key.
+fn put_key(out: &mut [u8], at: usize, name: &[u8]) -> usize
+    ensures { λ r. ⌜ Wrote (pen (now (out .entry)) at) (printKey (lower (now (name .entry)))) (pen (now (out .exit)) r) ⌝ }
+{
+    let mut to = put(out, at, b'"');
+    let mut i = 0;
+    while i < name.len() {
+        to = put_escaped(out, to, lower_octet(name[i]));
+        i += 1;
+    }
+    put_all(out, to, b"\":")
+}
+
+// Writes a comma behind an earlier member.
+fn put_comma(out: &mut [u8], at: usize, begun: bool) -> usize
+    ensures { λ r. ⌜ Wrote (pen (now (out .entry)) at) (pick begun (octets ",") []) (pen (now (out .exit)) r) ⌝ }
+{
+    if begun {
+        return put(out, at, b',');
+    }
+    at
+}
+
+// Writes the parameters as an object, without VALUE.
+pub fn put_params(out: &mut [u8], at: usize, s: &[u8]) -> usize
+    ensures { λ r. ⌜ Wrote (pen (now (out .entry)) at) (print (obj (membersOf (withoutValue (paramsIn (now (s .entry))))))) (pen (now (out .exit)) r) ⌝ }
+{
+    let mut to = put(out, at, b'{');
+    let mut begun = false;
+    let mut e = next_bare(s, 0, b';', b';');
+    while e < s.len() {
+        let i = e + 1;
+        let p = param_at(s, i);
+        let n = p.name;
+        let from = p.values;
+        let end = p.end;
+        if same_name(&s[i..n], b"value") {
+            e = end;
+        } else {
+            let a = put_comma(out, to, begun);
+            let b = put_key(out, a, &s[i..n]);
+            to = put_values(out, b, &s[from..end]);
+            begun = true;
+            e = end;
+        }
+    }
+    put(out, to, b'}')
 }
