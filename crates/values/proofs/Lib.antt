@@ -1,0 +1,3 @@
+pub mod Neat
+pub mod Lifting
+pub mod FixedLaws
