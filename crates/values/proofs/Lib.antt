@@ -1,3 +1,4 @@
 pub mod Neat
 pub mod Lifting
 pub mod FixedLaws
+pub mod NumberLaws
