@@ -2,3 +2,4 @@ pub mod Neat
 pub mod Lifting
 pub mod FixedLaws
 pub mod NumberLaws
+pub mod TextLaws
