@@ -3,3 +3,4 @@ pub mod Lifting
 pub mod FixedLaws
 pub mod NumberLaws
 pub mod TextLaws
+pub mod RecurLaws

@@ -81,7 +81,7 @@ pub All-map : {A B : Type 0} (P : B → Type 0) (f : A → B) (xs : List A) → 
 All-map P f [] h = tt
 All-map P f (a ∷ xs) h = (h .0, All-map P f xs (h .1))
 
-each-filled : {A B : Type 0} (f : A → Option B) (xs : List A) (bs : List B) → (xs ≡ [] → ⊥) → each f xs ≡ some bs → filled bs ≡ true
+pub each-filled : {A B : Type 0} (f : A → Option B) (xs : List A) (bs : List B) → (xs ≡ [] → ⊥) → each f xs ≡ some bs → filled bs ≡ true
 each-filled f [] bs n e = absurd (n refl)
 each-filled f (a ∷ xs) bs n e = each-is f a xs bs e (λ b cs p q w. rw (← w) (unfold filled in refl))
 
