@@ -2,19 +2,18 @@
 -- UTC offsets, durations and periods.
 use Prim.Native.Nat.{ℕ, _-_}
 use Prim.Native.Char.{code}
-use mathlib.Core.Path.{_≡_, refl, sym, ap, _∙_}
-use mathlib.Core.Bool.{Bool, true, false, not}
-use mathlib.Core.List.{List, [], _∷_, _++_, map}
-use mathlib.Core.Option.{Option, none, some}
+use mathlib.Core.Path.{_≡_, refl, sym, _∙_}
+use mathlib.Core.Bool.{Bool, true, false}
+use mathlib.Core.List.{List, [], _∷_}
+use mathlib.Core.Option.{Option, some}
 use native.Mathlib.Omega.{arith}
 use borrow.Author.Tests.{ne-eqb}
 use lib.Dec.{eqb}
-use Rattle.octets.specs.Basics.{octets, pick, _and_, all, same}
+use Rattle.octets.specs.Basics.{octets, _and_, all, same}
 use Rattle.octets.specs.Pieces.{split, joined}
-use Rattle.octets.specs.Optional.{map?, both?, or?, isSome, when, holds, given}
+use Rattle.octets.specs.Optional.{map?, or?, isSome, when, holds, given}
 use Rattle.octets.specs.Classes.{isLower, plainOctet, upperOctet, upper}
-use Rattle.octets.specs.Utf8.{clean}
-use Rattle.octets.proofs.Cases.{cases, and-true}
+use Rattle.octets.proofs.Cases.{cases}
 use Rattle.octets.proofs.Classes.{isLower-range, upper-octet-is, upper-octet-other, upper-twice, same-is}
 use Rattle.octets.proofs.Optional.{missing, some-same, when-is, when-true, map-is, both-is}
 use Rattle.octets.proofs.Pieces.{Free, joined-split}
@@ -23,13 +22,13 @@ use Rattle.calendar.specs.Dates.{dateOf, timeOf, dateTimeOf, offsetOf, dateIs, 
 use Rattle.calendar.specs.Durations.{durationOf, durationIs, periodEndOf, periodEndIs, periodEndText}
 use Rattle.calendar.specs.declared.texts.Form.the-variants.{Date, Time, DateTime, Offset}
 use Rattle.calendar.proofs.Readback.{capital, capital-upper, capital-printable, Returned, form-returned, duration-returned, period-end-returned}
-use Rattle.json.specs.Tree.{Json, falsity, truth, num, str, arr, noItems, item, string?, number?, boolean?, array?, listOf, octetsOf, elements}
+use Rattle.json.specs.Tree.{Json, falsity, truth, str, arr, noItems, item, string?, number?, boolean?, array?, listOf, octetsOf, elements}
 use Rattle.values.specs.Sorts.{Sort, plain, binary, boolean, date, dateTime, duration, period, time, utcOffset}
 use Rattle.values.specs.Simple.{binaryIs, booleanOf, booleanText}
 use Rattle.values.specs.Read.{readPlain, readBinary, asString, periodOf, readPeriod}
 use Rattle.values.specs.Write.{isString, isLettered, isTwo, isArray, valueIs, periodText, valueText}
 use Rattle.values.proofs.Neat.{Neat, n-false, n-true, n-str, n-arr, n-none, n-item, clean-textual}
-use Rattle.values.proofs.Lifting.{Item, ItemLaw, CommaLaw, ListLaw}
+use Rattle.values.proofs.Lifting.{ItemLaw, CommaLaw, ListLaw}
 
 -- no comma comes in by uppercase
 free-octet : (c : ℕ) → eqb c (code ",") ≡ false → eqb (upperOctet c) (code ",") ≡ false

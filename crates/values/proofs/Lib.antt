@@ -4,3 +4,4 @@ pub mod FixedLaws
 pub mod NumberLaws
 pub mod TextLaws
 pub mod RecurLaws
+pub mod ValueLaws

@@ -2,17 +2,17 @@
 use Prim.Native.Nat.{ℕ}
 use Prim.Native.Char.{code}
 use mathlib.Core.Path.{_≡_, refl, sym, ap, _∙_}
-use mathlib.Core.Bool.{Bool, true, false, not}
-use mathlib.Core.List.{List, [], _∷_, _++_, map}
-use mathlib.Core.Option.{Option, none, some}
+use mathlib.Core.Bool.{Bool, true, false}
+use mathlib.Core.List.{List, [], _∷_, map}
+use mathlib.Core.Option.{Option, some}
 use Rattle.octets.specs.Basics.{_and_, all, filled, single}
 use Rattle.octets.specs.Pieces.{split, joined}
-use Rattle.octets.specs.Optional.{map?, each}
+use Rattle.octets.specs.Optional.{map?, both?, each}
 use Rattle.octets.specs.Classes.{isControl, plainOctet}
 use Rattle.octets.specs.Utf8.{dueAfter, isStart, utf8, clean}
 use Rattle.octets.proofs.Cases.{and-true, and-true-right, never, All, all-All, All-all}
 use Rattle.octets.proofs.Optional.{map-is, each-none, each-is}
-use Rattle.octets.proofs.Pieces.{Free, split-free, split-filled, joined-split, list-again}
+use Rattle.octets.proofs.Pieces.{Free, split-last, split-free, split-filled, joined-split, list-again}
 use Rattle.octets.proofs.Utf8.{ascii, clean-cut}
 use Rattle.json.specs.Tree.{Json}
 use Rattle.values.specs.Sorts.{Sort, splits}
@@ -41,6 +41,8 @@ ListLaw sort R = ItemLaw sort R × CommaLaw sort R
 -- the same of all values of a property
 pub record Held (sort : Sort) (raw : List ℕ) (vs : List Json) : Type 0 where
   pub again : readValues sort (valuesText sort vs) ≡ some vs
+  -- no value's text runs into another's: each is read as that value alone
+  pub pieces : All (λ j. readValues sort (valueText sort j) ≡ some (j ∷ [])) vs
   pub are : all (valueIs sort) vs ≡ true
   pub one-or-more : filled vs ≡ true
   pub only : splits sort ≡ false → single vs ≡ true
@@ -91,14 +93,15 @@ module _ (sort : Sort) (R : List ℕ → Option Json) (law : ItemLaw sort R) (re
   unfolding valuesText joined
   single-text j = refl
 
-  single-again : (j : Json) → R (valueText sort j) ≡ some j → readValues sort (valuesText sort (j ∷ [])) ≡ some (j ∷ [])
+  single-piece : (j : Json) → R (valueText sort j) ≡ some j → readValues sort (valueText sort j) ≡ some (j ∷ [])
   unfolding alone map?
-  single-again j e = reads (valuesText sort (j ∷ [])) ∙ rw (single-text j, e)
+  single-piece j e = reads (valueText sort j) ∙ rw e
 
   single-held : (raw : List ℕ) (j : Json) → Item sort R raw j → Held sort raw (j ∷ [])
   unfolding all filled single
   single-held raw j h = record {
-    again = single-again j (h .again);
+    again = rw (single-text j) (single-piece j (h .again));
+    pieces = (single-piece j (h .again), tt);
     are = and-true (h .is) refl;
     one-or-more = refl;
     only = λ n. refl;
@@ -113,6 +116,10 @@ module _ (sort : Sort) (R : List ℕ → Option Json) (law : ItemLaw sort R) (re
 -- values between commas
 module _ (sort : Sort) (R : List ℕ → Option Json) (law : ListLaw sort R) (reads : (s : List ℕ) → readValues sort s ≡ listed R s)
     (many : splits sort ≡ true) where
+  one-piece : (j : Json) → R (valueText sort j) ≡ some j → Free (code ",") (valueText sort j) → readValues sort (valueText sort j) ≡ some (j ∷ [])
+  unfolding listed each both?
+  one-piece j e f = reads (valueText sort j) ∙ rw (split-last (code ",") (valueText sort j) f, e)
+
   module _ (raw : List ℕ) (vs : List Json) (e : each R (split (code ",") raw) ≡ some vs) where
     list-is : All (λ j. valueIs sort j ≡ true) vs
     list-is = each-All R (λ s. Unit {0}) (λ j. valueIs sort j ≡ true) (λ s j u q. law .0 s j q .is) (split (code ",") raw) vs (all-units (split (code ",") raw)) e
@@ -134,11 +141,10 @@ module _ (sort : Sort) (R : List ℕ → Option Json) (law : ListLaw sort R) (re
     list-neat : clean raw ≡ true → All (Neat 2) vs
     list-neat c = each-All R (λ s. clean s ≡ true) (Neat 2) (λ s j d q. law .0 s j q .neat d) (split (code ",") raw) vs (pieces c) e
 
-    -- no comma within a value
-    pub list-pieces : All (Free (code ",")) (map (valueText sort) vs)
+    list-pieces : All (λ j. readValues sort (valueText sort j) ≡ some (j ∷ [])) vs
     list-pieces =
-        All-map (Free (code ",")) (valueText sort) vs
-        (each-All R (Free (code ",")) (λ j. Free (code ",") (valueText sort j)) (λ s j f q. law .1 s j f q) (split (code ",") raw) vs (split-free (code ",") raw) e)
+        each-All R (Free (code ",")) (λ j. readValues sort (valueText sort j) ≡ some (j ∷ [])) (λ s j f q. one-piece j (law .0 s j q .again) (law .1 s j f q))
+        (split (code ",") raw) vs (split-free (code ",") raw) e
 
     list-again-held : each R (split (code ",") (joined (code ",") (map (valueText sort) vs))) ≡ some vs
     list-again-held = list-again (code ",") R (valueText sort) (λ s j f q. (law .0 s j q .again, law .1 s j f q)) raw vs e
@@ -156,6 +162,7 @@ module _ (sort : Sort) (R : List ℕ → Option Json) (law : ListLaw sort R) (re
       let f = pieces-read raw vs e in
       record {
         again = pieces-again vs (list-again-held raw vs f);
+        pieces = list-pieces raw vs f;
         are = All-all (valueIs sort) vs (list-is raw vs f);
         one-or-more = each-filled R (split (code ",") raw) vs (split-filled (code ",") raw) f;
         only = λ n. never many n;

@@ -1,18 +1,18 @@
 -- Values that jCal may hold: strings and keys in UTF-8 without control characters but tab and newline, JSON numbers, distinct keys, and at most d
 -- arrays and objects open at once. They are sound, are printed as UTF-8, and what is printed is read back.
-use Prim.Native.Nat.{ℕ, zero, suc, _≤_, max}
+use Prim.Native.Nat.{ℕ, zero, suc, _≤_}
 use Prim.Native.Char.{code}
-use mathlib.Core.Path.{_≡_, refl, sym, ap, _∙_}
-use mathlib.Core.Bool.{Bool, true, false, not}
+use mathlib.Core.Path.{_≡_, refl, _∙_}
+use mathlib.Core.Bool.{true, false}
 use mathlib.Core.List.{List, [], _∷_, _++_}
 use native.Mathlib.Omega.{arith}
 use borrow.Author.Tests.{eqb-true, leb-true}
 use lib.Dec.{eqb, leb}
-use Rattle.octets.specs.Basics.{octets, pick, _and_, _or_, all}
+use Rattle.octets.specs.Basics.{octets, _and_, all}
 use Rattle.octets.specs.Classes.{between, plainOctet, textOctet}
 use Rattle.octets.specs.Utf8.{Due, start, one, two, three, afterE0, afterED, afterF0, afterF4, broken, lead, due, dueAfter, isStart, utf8, clean}
 use Rattle.octets.proofs.Cases.{cases, never, both, and-true, or-first, or-false, apart-not, all-weaker, All}
-use Rattle.octets.proofs.Classes.{between-true, above-between}
+use Rattle.octets.proofs.Classes.{above-between}
 use Rattle.octets.proofs.Utf8.{ascii, broken-stays, utf8-both, utf8-ascii, low-utf8}
 use Rattle.octets.proofs.Transducer.{Runs, Keeps, run-utf8}
 use Rattle.json.specs.Tree.{Json, null, falsity, truth, num, str, arr, obj, Items, noItems, item, Members, noMembers, member, itemsOf}

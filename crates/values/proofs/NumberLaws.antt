@@ -1,31 +1,31 @@
 -- The laws of float and integer values, and of GEO: what is read is a JSON number, is written as it stands in jCal, and is read again.
-use Prim.Native.Nat.{ℕ, suc, _-_}
+use Prim.Native.Nat.{ℕ, _-_}
 use Prim.Native.Char.{code}
-use mathlib.Core.Path.{_≡_, refl, sym, ap, _∙_}
+use mathlib.Core.Path.{_≡_, refl, _∙_}
 use mathlib.Core.Bool.{Bool, true, false, not}
-use mathlib.Core.List.{List, [], _∷_, _++_, map}
+use mathlib.Core.List.{List, [], _∷_}
 use mathlib.Core.Option.{Option, none, some}
 use native.Mathlib.Omega.{arith}
 use borrow.Author.Tests.{eqb-true}
-use lib.Dec.{eqb, leb}
-use lib.ListN.{getD, length, take}
+use lib.Dec.{eqb}
+use lib.ListN.{getD, length}
 use lib.Seq.{take-length}
-use Rattle.octets.specs.Basics.{pick, _and_, _or_, all, filled}
+use Rattle.octets.specs.Basics.{_and_, _or_, all, filled}
 use Rattle.octets.specs.Pieces.{onto, cut, split, joined}
 use Rattle.octets.specs.Optional.{map?, both?, isSome, when, holds, given}
 use Rattle.octets.specs.Classes.{between, isDigit}
-use Rattle.octets.specs.Utf8.{utf8, clean}
+use Rattle.octets.specs.Utf8.{clean}
 use Rattle.octets.specs.Decimal.{digits, valueOf, minus, unsigned, trim, minusIf, integerText}
 use Rattle.octets.specs.Limits.{mostInteger}
-use Rattle.octets.proofs.Cases.{cases, same?, never, both, and-true, either, or-first, or-second, apart, all-weaker, all-append, All-weaker, all-All}
+use Rattle.octets.proofs.Cases.{cases, same?, never, both, and-true, either, or-first, apart, all-weaker, all-append, All-weaker, all-All}
 use Rattle.octets.proofs.Classes.{between-true, within-between}
 use Rattle.octets.proofs.Optional.{missing, when-is, map-is, both-is}
 use Rattle.octets.proofs.Pieces.{Free, split-last, split-joined, split-filled, joined-split}
 use Rattle.octets.proofs.Utf8.{printable-clean}
-use Rattle.octets.proofs.Decimal.{DigitFirst, digits-first, digits-all, trim-first, trim-twice, trim-digits, unsigned-minusIf, minus-minusIf, all-minusIf, integer-minus, integer-unsigned, integer-value, integer-twice}
-use Rattle.json.specs.Tree.{Json, num, str, arr, noItems, item, string?, number?, array?, listOf, octetsOf, elements}
-use Rattle.json.specs.Reads.{Out, ok, bad, then}
-use Rattle.json.specs.Numbers.{Place, start, minus as signed, zero as nought, int, point, frac, isExponent, behindInt, firstDigit, advance, isBeyond, mayEnd, scan, number}
+use Rattle.octets.proofs.Decimal.{DigitFirst, digits-first, digits-all, trim-twice, trim-digits, unsigned-minusIf, minus-minusIf, all-minusIf, integer-minus, integer-unsigned, integer-value, integer-twice}
+use Rattle.json.specs.Tree.{Json, num, arr, noItems, item, string?, number?, array?, listOf, octetsOf, elements}
+use Rattle.json.specs.Reads.{ok}
+use Rattle.json.specs.Numbers.{Place, start, minus as signed, zero as nought, int, point, frac, behindInt, firstDigit, advance, isBeyond, mayEnd, scan, number}
 use Rattle.values.specs.Sorts.{Sort, float, geo, integer}
 use Rattle.values.specs.Simple.{pointed, floatOf, inRange, integerOf}
 use Rattle.values.specs.Read.{asNumber, geoOf, readGeo}

@@ -1,45 +1,43 @@
 -- The law of recurrence rules: the object of a rule has the kinds that jCal takes, is written as the rule in its normal form, and is read again.
-use Prim.Native.Nat.{ℕ, suc, _≤_}
+use Prim.Native.Nat.{ℕ, _≤_}
 use Prim.Native.Char.{code}
 use mathlib.Core.Path.{_≡_, refl, sym, ap, _∙_}
 use mathlib.Core.Bool.{Bool, true, false, not}
-use mathlib.Core.List.{List, [], _∷_, _++_, map}
-use mathlib.Core.Option.{Option, none, some}
+use mathlib.Core.List.{List, [], _∷_, map}
+use mathlib.Core.Option.{none, some}
 use native.Mathlib.Omega.{arith}
-use borrow.Author.Tests.{le-leb, leb-true, eqb-true, not-true}
+use borrow.Author.Tests.{le-leb, leb-true, eqb-true}
 use lib.Dec.{eqb, leb}
 use lib.ListN.{length}
-use Rattle.octets.specs.Basics.{octets, pick, _and_, _or_, all, any, filled, single, same, among, twice}
-use Rattle.octets.specs.Pieces.{split, joined}
-use Rattle.octets.specs.Optional.{map?, then?, isSome, when, guard, holds, given, each}
+use Rattle.octets.specs.Basics.{octets, _and_, _or_, all, any, filled, single, same, among, twice}
+use Rattle.octets.specs.Pieces.{split}
+use Rattle.octets.specs.Optional.{map?, isSome, when, guard, holds, given, each}
 use Rattle.octets.specs.Classes.{between, isDigit, isUpper, isLower, isLetter, lowerNameOctet, isLowerName, upperOctet, lowerOctet, upper, lower}
-use Rattle.octets.specs.Utf8.{clean}
 use Rattle.octets.specs.Decimal.{digits, valueOf, isSign, hasSign, minus, unsigned, trim, minusIf, integerText}
 use Rattle.octets.specs.Limits.{mostInteger}
-use Rattle.octets.proofs.Cases.{cases, never, both, and-true, either, or-first, or-second, alike, All, all-weaker}
+use Rattle.octets.proofs.Cases.{cases, never, both, and-true, either, or-second, alike, All, all-weaker}
 use Rattle.octets.proofs.Classes.{between-true, within-between, same-is, same-itself}
 use Rattle.octets.proofs.Optional.{missing, some-same, when-is, guard-is, map-is, then-is, some-is}
 use Rattle.octets.proofs.Pieces.{split-filled}
 use Rattle.octets.proofs.Utf8.{printable-clean}
 use Rattle.octets.proofs.Decimal.{digits-first, minus-minusIf, unsigned-digits}
 use Rattle.calendar.specs.Dates.{momentOf, momentIs, momentText}
-use Rattle.calendar.specs.Recurrence as rules
-use Rattle.calendar.specs.Recurrence.{Sort, frequency, moment, count, weekday, ordinal, numbers, Key, keys, keyIn, keyNamed, wordOf, untilOf, countOf, numberOf, itemOf, several, Part, part, keyedPart, partOf, names, isRule, partsOf, partText, partsText}
+use Rattle.calendar.specs.Recurrence.{Sort, frequency, moment, count, weekday, ordinal, numbers, Key, keys, keyIn, keyNamed, untilOf, countOf, numberOf, itemOf, several, Part, part, keyedPart, partOf, names, isRule, partsOf, partText, partsText}
 use Rattle.calendar.proofs.Octets.{itemOctet}
-use Rattle.calendar.proofs.Readback.{capital, capital-upper, capital-printable, moment-returned}
+use Rattle.calendar.proofs.Readback.{capital-upper, moment-returned}
 use Rattle.calendar.proofs.Walk.{readPart, readParts, rule-parts, named-found}
 use Rattle.calendar.proofs.Again.{item-again, value-octets, parts-again, text-upper, text-clean}
-use Rattle.json.specs.Tree.{Json, num, str, arr, obj, Items, noItems, item, Members, noMembers, member, string?, number?, array?, object?, itemsOf}
+use Rattle.json.specs.Tree.{Json, num, str, obj, string?, number?, array?, object?, itemsOf}
 use Rattle.tape.specs.Sound.{hasKey, distinctKeys}
 use Rattle.content.specs.Parameters.{plainOr}
 use Rattle.values.specs.Sorts.{recur}
 use Rattle.values.specs.Simple.{inRange, integerOf}
 use Rattle.values.specs.Recur.{itemJson, partMembers, recurOf, wordOctet, isWord, isInteger, isUntil, allItems, someItems, oneOrMore, kindIs, kindsAre, stringText, itemText, itemTexts, valueTexts, memberText, memberTexts, ruleParts, recurIs, recurText}
 use Rattle.values.specs.Write.{valueIs, valueText}
-use Rattle.values.proofs.Neat.{Textual, clean-textual, Neat, n-str, n-arr, n-obj, NeatItems, n-none, n-item, NeatMembers, n-empty, n-member, neat-items}
+use Rattle.values.proofs.Neat.{Textual, clean-textual, Neat, n-str, n-arr, n-obj, NeatMembers, n-empty, n-member, neat-items}
 use Rattle.values.proofs.Lifting.{Item, ItemLaw, each-All, each-filled}
 use Rattle.values.proofs.FixedLaws.{capital-neat}
-use Rattle.values.proofs.NumberLaws.{integer-numeral, Numeral, numeral-neat}
+use Rattle.values.proofs.NumberLaws.{integer-numeral, numeral-neat}
 
 -- The keys: their names come back from lowercase, are names in jCal, and no bound of a number is beyond an integer's.
 unfoldable small : Sort → Bool

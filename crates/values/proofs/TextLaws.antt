@@ -1,6 +1,6 @@
 -- The laws of text values and of REQUEST-STATUS: texts that are read are in UTF-8 without control characters but tab and newline, are written as clean
 -- texts without a bare separator, and are read again.
-use Prim.Native.Nat.{ℕ, _<_}
+use Prim.Native.Nat.{ℕ}
 use Prim.Native.Char.{code}
 use mathlib.Core.Path.{_≡_, refl, sym, ap, _∙_}
 use mathlib.Core.Bool.{Bool, true, false, not}
@@ -8,18 +8,18 @@ use mathlib.Core.List.{List, [], _∷_, _++_, map, append-assoc, append-nil}
 use mathlib.Core.Option.{Option, none, some}
 use native.Mathlib.Omega.{arith}
 use borrow.Author.Tests.{lt-leb, ne-eqb}
-use lib.Dec.{eqb, leb}
-use Rattle.octets.specs.Basics.{octets, pick, _and_, _or_, all, filled, single}
+use lib.Dec.{eqb}
+use Rattle.octets.specs.Basics.{octets, _and_, _or_, all, filled}
 use Rattle.octets.specs.Pieces.{onto, joined}
 use Rattle.octets.specs.Optional.{map?, when, guard, holds, given}
 use Rattle.octets.specs.Classes.{isControl, plainOctet, textOctet}
 use Rattle.octets.specs.Utf8.{utf8, clean}
-use Rattle.octets.proofs.Cases.{cases, same?, never, both, and-true, either, or-first, or-second, apart-not, All, all-All, All-all, All-weaker}
+use Rattle.octets.proofs.Cases.{cases, same?, never, both, and-true, either, or-first, apart-not, All, all-All, All-all, All-weaker}
 use Rattle.octets.proofs.Optional.{missing, some-same, map-is, guard-is}
 use Rattle.octets.proofs.Utf8.{ascii, ascii-high, utf8-joined}
 use Rattle.octets.proofs.Transducer.{Runs, Keeps, run-all, run-utf8}
-use Rattle.json.specs.Tree.{Json, str, arr, Items, string?, number?, array?, itemsOf, listOf, octetsOf, elements}
-use Rattle.values.specs.Sorts.{Sort, text, status, splits}
+use Rattle.json.specs.Tree.{Json, str, arr, string?, number?, array?, itemsOf, listOf, octetsOf, elements}
+use Rattle.values.specs.Sorts.{text, status, splits}
 use Rattle.values.specs.Texts.{Act, add, next, escape, stop, act, escapes, done, textsFrom, texts, fields, textIs, escapedOctet, textText}
 use Rattle.values.specs.Read.{twoOrThree, readStatus, readValues}
 use Rattle.values.specs.Write.{isString, isTwoOrThree, isArray, valueIs, elementsText, valueText, valuesText}
@@ -347,11 +347,19 @@ strings-neat : (d : ℕ) (ts : List (List ℕ)) → All Textual ts → All (Neat
 strings-neat d [] h = tt
 strings-neat d (t ∷ ts) h = (n-str (h .0), strings-neat d ts (h .1))
 
+one-text : (t : List ℕ) → Text t → readValues text (valueText text (str t)) ≡ some (str t ∷ [])
+unfolding readValues texts map?
+one-text t h = rw (string-text t, alone t (texts-back (code ",") (code ";") commas t [] (h, tt)))
+  where
+    alone : (t : List ℕ) → textsFrom (code ",") (code ";") false (joined (code ",") (textText t ∷ [])) ≡ some (t ∷ []) → textsFrom (code ",") (code ";") false (textText t) ≡ some (t ∷ [])
+    alone t e = unfold joined in e
+
 texts-held : (raw : List ℕ) (ts : List (List ℕ)) → texts raw ≡ some ts → Held text raw (map str ts)
 texts-held raw ts q =
     let r = texts-reading commas raw ts (unfold texts in q) in
     record {
       again = rw (values-text ts) (reads ts (r .again));
+      pieces = All-map (λ j. readValues text (valueText text j) ≡ some (j ∷ [])) str ts (All-weaker one-text ts (r .are));
       are = All-all (valueIs text) (map str ts) (All-map (λ j. valueIs text j ≡ true) str ts (All-weaker text-is ts (r .are)));
       one-or-more = filled-map ts (r .one-or-more);
       only = λ n. never text-splits n;
