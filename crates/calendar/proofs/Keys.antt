@@ -19,20 +19,20 @@ pub key-count : length keys ≡ 14
 unfolding keys
 key-count = refl
 
--- k is none of 1 to n
-abbrev pub Apart : ℕ → ℕ → Type 0
-Apart k zero = Unit {0}
-Apart k (suc n) = Apart k n × (k ≡ suc n → ⊥)
+-- k is none of the n numbers from m on, as a `match` tells in its last arm
+abbrev pub Away : ℕ → ℕ → ℕ → Type 0
+Away k m zero = Unit {0}
+Away k m (suc n) = Away k m n × (k ≡ m + n → ⊥)
 
-behind : (k n : ℕ) → Apart k n → 1 ≤ k → n < k
-behind k zero a h = h
-behind k (suc n) a h = let l = behind k n (a .0) h in omega (arith, a .1)
+pub away : (k m n : ℕ) → Away k m n → m ≤ k → m + n ≤ k
+away k m zero a h = omega arith
+away k m (suc n) a h = let l = away k m n (a .0) h in omega (arith, a .1)
 
 -- FREQ has words as values, and so has what is no key
-pub other-sort : (k : ℕ) → Apart k 13 → (keyAt k) .sort ≡ frequency
+pub other-sort : (k : ℕ) → Away k 1 13 → (keyAt k) .sort ≡ frequency
 unfolding keyAt
 other-sort zero a = unfold keys in refl
-other-sort (suc k) a = ap (λ (j : Key). j .sort) (List·getD-eq-default keys (key [] frequency) (rw key-count (behind (suc k) 13 a (omega arith))))
+other-sort (suc k) a = ap (λ (j : Key). j .sort) (List·getD-eq-default keys (key [] frequency) (rw key-count (away (suc k) 1 13 a (omega arith))))
 
 -- the names of the keys, as the code has them
 abbrev pub keyWords : List ℕ

@@ -1,3 +1,4 @@
+pub mod Options
 pub mod Ranges
 pub mod Days
 pub mod Back
@@ -10,7 +11,6 @@ pub mod Phases
 pub mod Periods
 pub mod Readback
 pub mod Worked
-pub mod Options
 pub mod Pieces
 pub mod Words
 pub mod Keys
@@ -20,3 +20,7 @@ pub mod Walk
 pub mod Gathering
 pub mod Listing
 pub mod Showing
+pub mod Real
+pub mod Choices
+pub mod Turns
+pub mod Again

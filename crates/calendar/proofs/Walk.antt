@@ -62,7 +62,7 @@ each-All f P h [] ys e = tt
 each-All f P h (x ∷ xs) ys e = let b = both-is (f x) (each f xs) ys e in (h x (b .head) (b .first), each-All f P h xs (b .tail) (b .rest))
 
 -- Octets of a part's values: what holds of those of each value and of the comma holds of all.
-All-joined : (P : ℕ → Type 0) (sep : ℕ) → P sep → (ls : List (List ℕ)) → All (All P) ls → All P (joined sep ls)
+pub All-joined : (P : ℕ → Type 0) (sep : ℕ) → P sep → (ls : List (List ℕ)) → All (All P) ls → All P (joined sep ls)
 unfolding joined
 All-joined P sep p [] h = tt
 All-joined P sep p (l ∷ []) h = h .0
@@ -144,7 +144,7 @@ unfolding keyNamed keyPlace
 key-unknown n h = key-missing n (key [] frequency) keys (rw key-count h)
 
 -- a key that is found has the name
-named-found : (ks : List Key) (n : List ℕ) (k : Key) → keyIn ks n ≡ some k → k .name ≡ n
+pub named-found : (ks : List Key) (n : List ℕ) (k : Key) → keyIn ks n ≡ some k → k .name ≡ n
 unfolding keyIn
 named-found [] n k e = let z : _≡_ {A = ℕ} 0 1 = cc in absurd (omega arith)
 named-found (j ∷ ks) n k e = cases (same (j .name) n)

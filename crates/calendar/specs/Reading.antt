@@ -16,6 +16,7 @@ use Rattle.calendar.specs.Recurrence.{Sort, itemOf, several, Part}
 use Rattle.calendar.specs.Moments.{readMoment}
 use Rattle.calendar.specs.Rules.{valueNamed, frequencyOf, weekdayOf, endOf}
 use Rattle.calendar.specs.declared.rules.Weekday.the-variants.{Monday}
+use Rattle.calendar.specs.declared.rules.End.{End}
 use Rattle.calendar.specs.declared.rules.End.the-variants.{Count, Until, Open}
 use Rattle.calendar.specs.declared.rules.ByParts.{ByParts}
 use Rattle.calendar.specs.declared.rules.Head.{Head}
@@ -38,12 +39,16 @@ headFrom ps = record {
 unfoldable pub counted : List ℕ → ℕ
 counted v = min (valueOf v) (mostInteger + 1)
 
+-- a last moment
+unfoldable pub lastOf : List ℕ → End
+lastOf v = given Open Until (readMoment v)
+
 -- one part more, with the key at a place and the value v, letters in either case
 unfoldable pub withValue : Head → ℕ → List ℕ → Head
 withValue h k v = record {
   frequency = pick (eqb k 0) (frequencyOf (upper v)) (h .frequency);
   interval = pick (eqb k 3) (counted v) (h .interval);
-  end = pick (eqb k 1) (given Open Until (readMoment v)) (pick (eqb k 2) (Count (counted v)) (h .end));
+  end = pick (eqb k 1) (lastOf v) (pick (eqb k 2) (Count (counted v)) (h .end));
   wkst = pick (eqb k 13) (weekdayOf (upper v)) (h .wkst);
 }
 

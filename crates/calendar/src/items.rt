@@ -52,7 +52,7 @@ fn is_within(s: &[u8], lo: u32, hi: u32) -> bool
 fn is_count(s: &[u8]) -> bool
     ensures { λ r. ⌜ r ≡ isSome (countOf (upper (now (s .entry)))) ⌝ }
 {
-    is_within(s, 1, MOST_INTEGER as u32)
+    is_within(s, 1, MOST_INTEGER)
 }
 
 // A number within bounds, with a sign where it may have one.

@@ -5,9 +5,6 @@ use Rattle.calendar.proofs.Standing.{count-stands}
 use Rattle.calendar.proofs.items.is_count.Statement.{statement}
 use Rattle.calendar.proofs.items.is_count.Tie as tie
 
-cast-is-within : tie.Need-cast-is-within
-cast-is-within c = search needs
-
 is-within-requires : tie.Need-is-within-requires
 is-within-requires c κs = search needs
 
@@ -18,6 +15,5 @@ pub is-count-spec : {M : Type 1} → statement M
 is-count-spec =
     tie.close
     (tie.spec
-    cast-is-within
     is-within-requires
     returns)
