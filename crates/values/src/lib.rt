@@ -1,1 +1,7 @@
-// The fourteen value types, each read from and written to iCalendar and jCal.
+// The fourteen value types: which raw values stand, and how jCal has them.
+mod simple;
+mod sorts;
+mod texts;
+
+pub use sorts::Sort;
+pub use sorts::sort_of;

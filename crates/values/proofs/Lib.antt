@@ -1,0 +1,6 @@
+pub mod Naming
+pub mod Groups
+pub mod Halves
+pub mod Floats
+pub mod Strings
+pub mod TextRuns
