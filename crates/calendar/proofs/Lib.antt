@@ -1,3 +1,4 @@
+pub mod Options
 pub mod Ranges
 pub mod Days
 pub mod Back
@@ -9,3 +10,17 @@ pub mod Hours
 pub mod Phases
 pub mod Periods
 pub mod Readback
+pub mod Worked
+pub mod Pieces
+pub mod Words
+pub mod Keys
+pub mod Standing
+pub mod Octets
+pub mod Walk
+pub mod Gathering
+pub mod Listing
+pub mod Showing
+pub mod Choices
+pub mod Turns
+pub mod Real
+pub mod Again

@@ -17,6 +17,7 @@ use Rattle.octets.proofs.Cases.{cases}
 use Rattle.octets.proofs.Classes.{between-true}
 use Rattle.calendar.specs.Dates.{dateTimeOf}
 use Rattle.calendar.specs.Durations.{forwardIs, periodEndOf}
+use Rattle.calendar.proofs.Options.{some-when}
 
 -- a minus has no case
 upper-minus : (c : ℕ) → eqb (upperOctet c) (code "-") ≡ eqb c (code "-")
@@ -31,11 +32,6 @@ unfolding minus upper
 minus-upper [] = refl
 minus-upper (c ∷ s) = upper-minus c
 
-pub is-some-when : {A : Type 0} (b : Bool) (a : A) → isSome (when b a) ≡ b
-unfolding isSome when
-is-some-when true a = refl
-is-some-when false a = refl
-
 pub is-some-or : {A : Type 0} (x y : Option A) → isSome (or? x y) ≡ (isSome x or isSome y)
 unfolding isSome or?
 is-some-or none y = refl
@@ -43,7 +39,7 @@ is-some-or (some a) y = refl
 
 pub end-is : (u : List ℕ) → isSome (periodEndOf u) ≡ (isSome (dateTimeOf u) or forwardIs u)
 unfolding periodEndOf
-end-is u = is-some-or (dateTimeOf u) (when (forwardIs u) u) ∙ ap (λ b. isSome (dateTimeOf u) or b) (is-some-when (forwardIs u) u)
+end-is u = is-some-or (dateTimeOf u) (when (forwardIs u) u) ∙ ap (λ b. isSome (dateTimeOf u) or b) (some-when (forwardIs u) u)
 
 module _ (u : List ℕ) where
   abbrev written : List ℕ

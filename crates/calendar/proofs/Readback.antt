@@ -23,6 +23,7 @@ use Rattle.calendar.specs.Durations.{Span, start, wrong, span, spanAfter
 use Rattle.calendar.specs.Texts.{formOf, formIs, formText, shape, shaped, numbersIn, taken}
 use Rattle.calendar.specs.declared.texts.Form.{Form}
 use Rattle.calendar.specs.declared.texts.Form.the-variants.{Date, Time, DateTime, Offset}
+use Rattle.calendar.proofs.Options.{when-is, guard-is}
 use Rattle.calendar.proofs.Fixed.{formFor, longFrom, shape-form, form-taken, form-is}
 use Rattle.calendar.proofs.Phases.{no-octet, wrong-stays}
 
@@ -41,7 +42,7 @@ capital-upper (c ∷ s) h = let b = both (capital c) (all capital s) h in rw (st
     stays : (c : ℕ) → capital c ≡ true → upperOctet c ≡ c
     stays c e = let b = between-true 32 95 c e in unfold upperOctet isLower in rw (below-between (code "a") (code "z") c (omega arith))
 
--- what `kept`, `guard`, `when` and `or?` tell
+-- what `kept` and `or?` tell
 record Kept (b : Bool) (x : ℕ) (r : Option (List ℕ)) (t : List ℕ) : Type 0 where
   tail : List ℕ
   passed : b ≡ true
@@ -54,17 +55,7 @@ kept-tells false x r t e = let z : _≡_ {A = ℕ} 0 1 = cc in absurd (omega ari
 kept-tells true x none t e = let z : _≡_ {A = ℕ} 0 1 = cc in absurd (omega arith)
 kept-tells true x (some u) t e = record { tail = u; passed = refl; rest = refl; whole = cc }
 
-when-tells : (b : Bool) (a t : List ℕ) → when b a ≡ some t → (b ≡ true) × (t ≡ a)
-unfolding when
-when-tells true a t e = (refl, cc)
-when-tells false a t e = let z : _≡_ {A = ℕ} 0 1 = cc in absurd (omega arith)
-
-guard-tells : (p : List ℕ → Bool) (r : Option (List ℕ)) (t : List ℕ) → guard p r ≡ some t → (r ≡ some t) × (p t ≡ true)
-unfolding guard
-guard-tells p none t e = let z : _≡_ {A = ℕ} 0 1 = cc in absurd (omega arith)
-guard-tells p (some u) t e = let w = when-tells (p u) u t e in (ap some (sym (w .1)), ap p (w .1) ∙ w .0)
-
-or-tells {ℓ} : {P : Type ℓ} (x y : Option (List ℕ)) (t : List ℕ) → or? x y ≡ some t → (x ≡ some t → P) → (x ≡ none → y ≡ some t → P) → P
+pub or-tells {ℓ} : {P : Type ℓ} (x y : Option (List ℕ)) (t : List ℕ) → or? x y ≡ some t → (x ≡ some t → P) → (x ≡ none → y ≡ some t → P) → P
 unfolding or?
 or-tells none y t e f g = g refl e
 or-tells (some a) y t e f g = f e
@@ -170,7 +161,7 @@ module _ (f : Form) (s t : List ℕ) (e : formOf f s ≡ some t) where
 
   numbered : (extended (shape false f s) s ≡ some t) × (numbersIn f t ≡ true)
   unfolding taken shaped
-  numbered = guard-tells (numbersIn f) (shaped false f s) t (form-taken f s ∙ e)
+  numbered = guard-is (numbersIn f) (shaped false f s) t (form-taken f s ∙ e)
 
   pub form-fitted : Fitted (formFor f longer) s t
   form-fitted = fitted (formFor f longer) s t (rw (shape-form false f s) at (numbered .0))
@@ -239,8 +230,9 @@ duration-capital s h = span-capital start s h
 pub duration-returned : (s t : List ℕ) → durationOf s ≡ some t → Returned durationIs (λ u. u) s t
 unfolding durationOf
 duration-returned s t e =
-    let w = when-tells (durationIs s) s t e in
-    rw (w .1) (record { again = w .0; back = refl; plain = duration-capital s (w .0) })
+    let w = when-is (durationIs s) s t e in
+    let q : t ≡ s = sym (w .1) in
+    rw q (record { again = w .0; back = refl; plain = duration-capital s (w .0) })
 
 -- a date-time begins with a digit, and a duration does not
 first-digit : (b : Bool) (t : List ℕ) → fits (dateTimeForm b) t ≡ true → isDigit (getD t 0 0) ≡ true
@@ -274,6 +266,7 @@ period-end-returned s t e =
     or-tells (dateTimeOf s) (when (forwardIs s) s) t e
     (λ a. let r = form-returned DateTime s t a in record { again = rw (r .again); back = rw (r .again) (r .back); plain = r .plain })
     (λ n a.
-    let w = when-tells (forwardIs s) s t a in
+    let w = when-is (forwardIs s) s t a in
     let d : durationIs s ≡ true = unfold forwardIs in both (not (minus s)) (durationIs s) (w .0) .1 in
-    rw (w .1) (record { again = or-second (dateTimeIs s) (w .0); back = rw (no-date-time s d); plain = duration-capital s d }))
+    let q : t ≡ s = sym (w .1) in
+    rw q (record { again = or-second (dateTimeIs s) (w .0); back = rw (no-date-time s d); plain = duration-capital s d }))

@@ -8,3 +8,5 @@ pub mod Recurrence
 pub mod Moments
 pub mod Rules
 pub mod Answers
+pub mod Walk
+pub mod Reading

@@ -1,14 +1,14 @@
 -- What a recurrence rule says as a whole: its frequency, interval, end, week start, and which parts it has (01, The stop list).
 use Prim.Native.Nat.{ℕ}
 use mathlib.Core.Bool.{Bool}
-use mathlib.Core.List.{List, [], _∷_, map}
+use mathlib.Core.List.{List, [], _∷_}
 use mathlib.Core.Option.{Option, none, some}
 use Rattle.octets.specs.Basics.{octets, pick, same, among}
 use Rattle.octets.specs.Optional.{map?, given}
 use Rattle.octets.specs.Classes.{upper}
 use Rattle.octets.specs.Decimal.{valueOf}
 use Rattle.calendar.specs.Dates.{momentOf}
-use Rattle.calendar.specs.Recurrence.{Key, keys, Part, names, partsOf}
+use Rattle.calendar.specs.Recurrence.{Part, names, partsOf}
 use Rattle.calendar.specs.Moments.{momentFrom}
 use Rattle.calendar.specs.declared.moments.Moment.{Moment}
 use Rattle.calendar.specs.declared.rules.Frequency.{Frequency}
@@ -17,7 +17,10 @@ use Rattle.calendar.specs.declared.rules.Weekday.{Weekday}
 use Rattle.calendar.specs.declared.rules.Weekday.the-variants.{Sunday, Monday, Tuesday, Wednesday, Thursday, Friday, Saturday}
 use Rattle.calendar.specs.declared.rules.End.{End}
 use Rattle.calendar.specs.declared.rules.End.the-variants.{Count, Until, Open}
+use Rattle.calendar.specs.declared.rules.ByParts.{ByParts}
 use Rattle.calendar.specs.declared.rules.Rule.{Rule}
+use Rattle.calendar.specs.declared.rules.RuleRead.{RuleRead}
+use Rattle.calendar.specs.declared.rules.RuleRead.the-variants.{Is, NoRule}
 
 unfoldable pub firstOf : List (List ℕ) → List ℕ
 firstOf [] = []
@@ -47,9 +50,19 @@ unfoldable pub endOf : List Part → End
 endOf ps =
     given (given Open (λ v. Until (untilMoment v)) (valueNamed (octets "UNTIL") ps)) (λ v. Count (valueOf v)) (valueNamed (octets "COUNT") ps)
 
--- for each key of `keys`, whether there is such a part
-unfoldable pub present : List Part → List Bool
-present ps = map (λ (k : Key). among (k .name) (names ps)) keys
+-- which BY parts there are
+unfoldable pub byParts : List Part → ByParts
+byParts ps = record {
+  second = among (octets "BYSECOND") (names ps);
+  minute = among (octets "BYMINUTE") (names ps);
+  hour = among (octets "BYHOUR") (names ps);
+  day = among (octets "BYDAY") (names ps);
+  monthday = among (octets "BYMONTHDAY") (names ps);
+  yearday = among (octets "BYYEARDAY") (names ps);
+  weekno = among (octets "BYWEEKNO") (names ps);
+  month = among (octets "BYMONTH") (names ps);
+  setpos = among (octets "BYSETPOS") (names ps);
+}
 
 -- RFC 5545 3.3.10: without INTERVAL it is 1, without WKST Monday
 unfoldable pub ruleFrom : List Part → Rule
@@ -58,9 +71,14 @@ ruleFrom ps = record {
   interval = given 1 valueOf (valueNamed (octets "INTERVAL") ps);
   end = endOf ps;
   wkst = given Monday weekdayOf (valueNamed (octets "WKST") ps);
-  parts = present ps;
+  by = byParts ps;
 }
 
 -- the rule of a text, letters in either case
 unfoldable pub readRule : List ℕ → Option Rule
 readRule s = map? ruleFrom (partsOf (upper s))
+
+-- what a returned `RuleRead` says
+unfoldable pub ruleSaid : RuleRead → Option Rule
+ruleSaid (Is r) = some r
+ruleSaid NoRule = none

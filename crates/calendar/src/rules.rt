@@ -1,5 +1,20 @@
 // Recurrence rules.
+ghost use mathlib.Core.Path.{_≡_};
+ghost use Prim.Native.Nat.{_<_};
+ghost use Rattle.octets.specs.Optional.{isSome};
+ghost use Rattle.octets.specs.Classes.{upper};
+ghost use Rattle.calendar.specs.Recurrence.{partsOf};
+ghost use Rattle.calendar.specs.Rules.{frequencyOf, weekdayOf, readRule, ruleSaid};
+ghost use Rattle.calendar.specs.Reading.{counted, lastOf, withValue, barred, bySeen, ruleRead};
+use crate::items::values_stand;
 use crate::moments::Moment;
+use crate::moments::MomentRead;
+use crate::moments::read_moment;
+use crate::parts::first_part;
+use crate::parts::sort_of;
+use crate::parts::word_place;
+use octets::MOST_INTEGER;
+use octets::value_of;
 
 pub enum Frequency {
     Secondly,
@@ -28,10 +43,218 @@ pub enum End {
     Open,
 }
 
+// Which BY parts there are.
+pub struct ByParts {
+    pub second: bool,
+    pub minute: bool,
+    pub hour: bool,
+    pub day: bool,
+    pub monthday: bool,
+    pub yearday: bool,
+    pub weekno: bool,
+    pub month: bool,
+    pub setpos: bool,
+}
+
 pub struct Rule {
     pub frequency: Frequency,
     pub interval: u32,
     pub end: End,
     pub wkst: Weekday,
-    pub parts: [bool; 14],
+    pub by: ByParts,
+}
+
+pub enum RuleRead {
+    Is(Rule),
+    NoRule,
+}
+
+// A rule while its parts are read, but for the BY parts.
+struct Head {
+    frequency: Frequency,
+    interval: u32,
+    end: End,
+    wkst: Weekday,
+}
+
+fn frequency_of(s: &[u8]) -> Frequency
+    ensures { λ r. ⌜ r ≡ frequencyOf (upper (now (s .entry))) ⌝ }
+{
+    match word_place(b"SECONDLY,MINUTELY,HOURLY,DAILY,WEEKLY,MONTHLY", s) {
+        0 => Frequency::Secondly,
+        1 => Frequency::Minutely,
+        2 => Frequency::Hourly,
+        3 => Frequency::Daily,
+        4 => Frequency::Weekly,
+        5 => Frequency::Monthly,
+        _ => Frequency::Yearly,
+    }
+}
+
+fn weekday_of(s: &[u8]) -> Weekday
+    ensures { λ r. ⌜ r ≡ weekdayOf (upper (now (s .entry))) ⌝ }
+{
+    match word_place(b"SU,MO,TU,WE,TH,FR", s) {
+        0 => Weekday::Sunday,
+        1 => Weekday::Monday,
+        2 => Weekday::Tuesday,
+        3 => Weekday::Wednesday,
+        4 => Weekday::Thursday,
+        5 => Weekday::Friday,
+        _ => Weekday::Saturday,
+    }
+}
+
+fn count_of(s: &[u8]) -> u32
+    ensures { λ r. ⌜ r ≡ counted (now (s .entry)) ⌝ }
+{
+    value_of(s, MOST_INTEGER) as u32
+}
+
+fn until_of(s: &[u8]) -> End
+    ensures { λ r. ⌜ r ≡ lastOf (now (s .entry)) ⌝ }
+{
+    match read_moment(s) {
+        MomentRead::Is(m) => End::Until(m),
+        MomentRead::NoMoment => End::Open,
+    }
+}
+
+// One part more, with the key at a place and its value.
+fn with_value(head: Head, key: usize, v: &[u8]) -> Head
+    ensures { λ r. ⌜ r ≡ withValue head key (now (v .entry)) ⌝ }
+{
+    let frequency = head.frequency;
+    let end = head.end;
+    let wkst = head.wkst;
+    match key {
+        0 => Head {
+            frequency: frequency_of(v),
+            interval: head.interval,
+            end: end,
+            wkst: wkst,
+        },
+        1 => Head {
+            frequency: frequency,
+            interval: head.interval,
+            end: until_of(v),
+            wkst: wkst,
+        },
+        2 => Head {
+            frequency: frequency,
+            interval: head.interval,
+            end: End::Count(count_of(v)),
+            wkst: wkst,
+        },
+        3 => Head {
+            frequency: frequency,
+            interval: count_of(v),
+            end: end,
+            wkst: wkst,
+        },
+        13 => Head {
+            frequency: frequency,
+            interval: head.interval,
+            end: end,
+            wkst: weekday_of(v),
+        },
+        _ => head,
+    }
+}
+
+// A part with the key at a place may not follow the parts that were seen.
+fn is_barred(seen: [bool; 14], key: usize) -> bool
+    requires { ⌜ key < 14 ⌝ }
+    ensures { λ r. ⌜ r ≡ barred seen key ⌝ }
+{
+    if seen[key] {
+        return true;
+    }
+    match key {
+        1 => seen[2],
+        2 => seen[1],
+        _ => false,
+    }
+}
+
+fn by_seen(seen: [bool; 14]) -> ByParts
+    ensures { λ r. ⌜ r ≡ bySeen seen ⌝ }
+{
+    ByParts {
+        second: seen[4],
+        minute: seen[5],
+        hour: seen[6],
+        day: seen[7],
+        monthday: seen[8],
+        yearday: seen[9],
+        weekno: seen[10],
+        month: seen[11],
+        setpos: seen[12],
+    }
+}
+
+// The rule of parts that are all read.
+fn rule_of(head: Head, seen: [bool; 14]) -> RuleRead
+    ensures { λ r. ⌜ ruleSaid r ≡ ruleRead head seen ⌝ }
+{
+    if !seen[0] {
+        return RuleRead::NoRule;
+    }
+    let frequency = head.frequency;
+    let end = head.end;
+    let wkst = head.wkst;
+    let by = by_seen(seen);
+    RuleRead::Is(Rule {
+        frequency: frequency,
+        interval: head.interval,
+        end: end,
+        wkst: wkst,
+        by: by,
+    })
+}
+
+// The rule that a text says, or that it says none.
+pub fn read_rule(s: &[u8]) -> RuleRead
+    ensures { λ r. ⌜ ruleSaid r ≡ readRule (now (s .entry)) ⌝ }
+{
+    let mut head = Head {
+        frequency: Frequency::Yearly,
+        interval: 1,
+        end: End::Open,
+        wkst: Weekday::Monday,
+    };
+    let mut seen = [false; 14];
+    let mut at = 0;
+    loop {
+        let rest = &s[at..];
+        let part = first_part(rest);
+        let key = part.key;
+        let from = part.from;
+        let to = part.to;
+        if key >= 14 {
+            return RuleRead::NoRule;
+        }
+        if is_barred(seen, key) {
+            return RuleRead::NoRule;
+        }
+        if !values_stand(sort_of(key), &rest[from..to]) {
+            return RuleRead::NoRule;
+        }
+        seen[key] = true;
+        head = with_value(head, key, &rest[from..to]);
+        if to >= rest.len() {
+            return rule_of(head, seen);
+        }
+        at = at + to + 1;
+    }
+}
+
+// A text that says a rule.
+pub fn is_rule(s: &[u8]) -> bool
+    ensures { λ r. ⌜ r ≡ isSome (partsOf (upper (now (s .entry)))) ⌝ }
+{
+    match read_rule(s) {
+        RuleRead::Is(_) => true,
+        RuleRead::NoRule => false,
+    }
 }

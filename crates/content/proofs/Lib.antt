@@ -8,3 +8,12 @@ pub mod WrittenClean
 pub mod Unfolded
 pub mod Physical
 pub mod ParamText
+pub mod Scanning
+pub mod Buffer
+pub mod Unfolding
+pub mod CleanLines
+pub mod Forming
+pub mod Separators
+pub mod Walking
+pub mod Tokens
+pub mod Telling

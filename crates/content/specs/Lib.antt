@@ -6,3 +6,8 @@ pub mod Parameters
 pub mod Write
 pub mod Fold
 pub mod Folding
+pub mod Scan
+pub mod Walk
+pub mod Parts
+pub mod Buffer
+pub mod Kinds

@@ -10,3 +10,21 @@ pub use fold::fold_upper;
 pub use write::begin_param;
 pub use write::next_param_value;
 pub use write::write_param_value;
+
+mod form;
+mod lines;
+mod params;
+mod parts;
+mod scan;
+
+pub use form::all_formed;
+pub use form::is_formed;
+pub use lines::all_clean;
+pub use lines::line_end;
+pub use lines::unfold;
+pub use params::ValueType;
+pub use params::is_encoded;
+pub use params::name_twice;
+pub use params::value_type;
+pub use parts::Parts;
+pub use parts::parts_of;

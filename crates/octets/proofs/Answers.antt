@@ -1,16 +1,39 @@
--- The end of a conversion: what the pen wrote from the front of the buffer is the answer.
+-- What an accepted answer tells of its stages; and the end of a conversion: what the pen wrote from the front of the buffer is the answer.
 use Prim.Native.Nat.{ℕ, _+_, _≤_, _<_}
 use mathlib.Core.Path.{_≡_, refl, sym, ap, _∙_}
-use mathlib.Core.Bool.{true, false}
+use mathlib.Core.Bool.{Bool, true, false}
+use mathlib.Core.Option.{Option, none, some}
 use mathlib.Core.List.{List, _++_}
 use native.Mathlib.Omega.{arith}
 use borrow.Author.Tests.{le-leb, lt-leb, leb-true, leb-false}
 use lib.Dec.{leb}
 use lib.ListN.{length, drop}
 use Rattle.octets.specs.Pen.{Pen, pen, Wrote}
-use Rattle.octets.specs.Answers.{Answer, accepted, Settled, settled, zeroed, answer, finished}
+use Rattle.octets.specs.Answers.{Answer, refused, accepted, then, orElse, unless, Settled, settled, zeroed, answer, finished}
 use Rattle.octets.proofs.Cases.{cases}
 use Rattle.octets.proofs.Pen.{kept, landed, full}
+
+pub not-accepted {ℓ} : {P : Type ℓ} {A : Type 0} {n : ℕ} {a : A} → _≡_ {A = Answer A} (refused n) (accepted a) → P
+not-accepted e = let z : _≡_ {A = ℕ} 0 1 = cc in absurd (omega arith)
+
+pub accepted-same : {A : Type 0} {a b : A} → _≡_ {A = Answer A} (accepted a) (accepted b) → a ≡ b
+accepted-same e = cc
+
+pub then-accepted {ℓ} : {P : Type ℓ} {A B : Type 0} (x : Answer A) (f : A → Answer B) (b : B) → then x f ≡ accepted b
+    → ((a : A) → x ≡ accepted a → f a ≡ accepted b → P) → P
+unfolding then
+then-accepted (refused n) f b e k = not-accepted e
+then-accepted (accepted a) f b e k = k a refl e
+
+pub orElse-accepted : {A : Type 0} (n : ℕ) (o : Option A) (a : A) → orElse n o ≡ accepted a → o ≡ some a
+unfolding orElse
+orElse-accepted n none a e = not-accepted e
+orElse-accepted n (some b) a e = ap some (accepted-same e)
+
+pub unless-accepted : {A : Type 0} (n : ℕ) (t : Bool) (f : Unit {0} → Answer A) (a : A) → unless n t f ≡ accepted a → (t ≡ true) × (f tt ≡ accepted a)
+unfolding unless
+unless-accepted n true f a e = (refl, e)
+unless-accepted n false f a e = not-accepted e
 
 module _ (o t b : List ℕ) (at : ℕ) (w : Wrote (pen o 0) t (pen b at)) where
   fitted : length t ≤ length o → finished at b ≡ answer (accepted t) o

@@ -4,17 +4,17 @@ use mathlib.Core.Path.{_≡_, refl, sym, ap, _∙_}
 use mathlib.Core.Bool.{Bool, true, false}
 use mathlib.Core.List.{List, [], _∷_}
 use native.Mathlib.Omega.{arith}
-use borrow.Author.Tests.{le-leb, lt-leb, lt-ltb, le-ltb, ltb-true, ltb-false, eq-eqb, ne-eqb}
+use borrow.Author.Tests.{le-leb, lt-leb, leb-true, leb-false, lt-ltb, ltb-true, ltb-false, ne-eqb}
 use lib.Dec.{eqb, leb, ltb}
 use lib.ListN.{length, getD, drop}
 use Rattle.octets.specs.Basics.{pick, _and_, all}
 use Rattle.octets.specs.Classes.{between, isControl, plainOctet}
 use Rattle.octets.specs.Utf8.{Due, start, one, two, three, afterE0, afterED, afterF0, afterF4, broken, lead, due, dueAfter, isStart, utf8, clean}
 use Rattle.octets.specs.Characters.{Awaits, Ends}
-use Rattle.octets.proofs.Cases.{cases, and-false-right}
+use Rattle.octets.proofs.Cases.{cases, never, and-false-right}
 use Rattle.octets.proofs.Positions.{here, ended, past-end}
-use Rattle.octets.proofs.Classes.{between-true}
-use Rattle.octets.proofs.Utf8.{ascii, due-cons, broken-stays, utf8-ascii}
+use Rattle.octets.proofs.Classes.{between-true, within-between}
+use Rattle.octets.proofs.Utf8.{ascii, due-cons, broken-stays, utf8-ascii, plain-above}
 
 -- an octet other than 0 is there
 pub seen : (s : List ℕ) (i : ℕ) → 0 < getD s i 0 → i < length s
@@ -143,6 +143,15 @@ lead-three c h k = rw (
 pub lead-is : (k : ℕ) (d : Due) → lead k ≡ d → (c : ℕ) → c ≡ k → lead c ≡ d
 lead-is k d e c f = rw f e
 
+-- what is neither printable nor tab is a control character
+control : (c : ℕ) → between 32 126 c ≡ false → (c ≡ 9 → ⊥) → c ≤ 127 → plainOctet c ≡ false
+unfolding plainOctet isControl
+control c e n k = cases (leb c 31)
+    (λ l. rw l (ne-eqb c 9 n))
+    (λ l. cases (leb c 126)
+    (λ m. never (within-between 32 126 c (leb-false c 31 l) (leb-true c 126 m)) e)
+    (λ m. let f : c ≡ 127 = omega (arith, leb-false c 126 m) in rw f))
+
 -- a character in front of the rest
 module _ (s : List ℕ) (i : ℕ) where
   module _ (c : ℕ) (e : c ≡ getD s i 0) (h : 127 < getD s i 0) where
@@ -183,6 +192,18 @@ module _ (s : List ℕ) (i : ℕ) where
   pub clean-control : i < length s → plainOctet (getD s i 0) ≡ false → clean (drop i s) ≡ false
   unfolding clean all
   clean-control h p = rw (here s i h, p) (and-false-right (utf8 (getD s i 0 ∷ drop (i + 1) s)))
+
+  -- an octet of 127 or less: printable, a tab, or a control character
+  pub clean-printable : between 32 126 (getD s i 0) ≡ true → i < length s → clean (drop i s) ≡ clean (drop (i + 1) s)
+  clean-printable e h =
+      let b = between-true 32 126 (getD s i 0) e in
+      clean-next h (omega arith) (plain-above (getD s i 0) (omega arith) (omega arith))
+
+  pub clean-tab : getD s i 0 ≡ 9 → i < length s → clean (drop i s) ≡ clean (drop (i + 1) s)
+  clean-tab e h = clean-next h (omega arith) (rw e (unfold plainOctet isControl in refl))
+
+  pub clean-other : between 32 126 (getD s i 0) ≡ false → (getD s i 0 ≡ 9 → ⊥) → getD s i 0 ≤ 127 → i < length s → clean (drop i s) ≡ false
+  clean-other e n k h = clean-control h (control (getD s i 0) e n k)
 
   pub clean-end : length s ≤ i → clean (drop i s) ≡ true
   unfolding clean all

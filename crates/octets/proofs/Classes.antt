@@ -5,7 +5,7 @@ use mathlib.Core.Path.{_≡_, refl, sym, ap, _∙_}
 use mathlib.Core.Bool.{Bool, true, false}
 use mathlib.Core.List.{List, [], _∷_, _++_, map}
 use native.Mathlib.Omega.{arith}
-use borrow.Author.Tests.{le-leb, lt-leb, leb-true, leb-false, eq-eqb, ne-eqb}
+use borrow.Author.Tests.{le-leb, lt-leb, leb-true, leb-false, eq-eqb, ne-eqb, eqb-true}
 use lib.Dec.{eqb, leb}
 use lib.ListN.{length, getD, drop}
 use Rattle.octets.specs.Basics.{pick, _and_, _or_, all, filled, same}
@@ -130,3 +130,152 @@ pub upper-twice : (s : List ℕ) → upper (upper s) ≡ upper s
 unfolding upper
 upper-twice [] = refl
 upper-twice (c ∷ s) = rw (upperOctet-twice c) (ap (λ (l : List ℕ). upperOctet c ∷ l) (upper-twice s))
+
+-- upper and lower case, by ranges
+pub lower-octet-is : (c : ℕ) → isUpper c ≡ true → lowerOctet c ≡ c + 32
+unfolding lowerOctet
+lower-octet-is c e = rw e
+
+pub lower-octet-other : (c : ℕ) → isUpper c ≡ false → lowerOctet c ≡ c
+unfolding lowerOctet
+lower-octet-other c e = rw e
+
+pub upper-octet-is : (c : ℕ) → isLower c ≡ true → upperOctet c ≡ c - 32
+unfolding upperOctet
+upper-octet-is c e = rw e
+
+pub upper-octet-other : (c : ℕ) → isLower c ≡ false → upperOctet c ≡ c
+unfolding upperOctet
+upper-octet-other c e = rw e
+
+pub isUpper-range : (c : ℕ) → isUpper c ≡ true → (code "A" ≤ c) × (c ≤ code "Z")
+unfolding isUpper
+isUpper-range c e = between-true (code "A") (code "Z") c e
+
+pub isLower-range : (c : ℕ) → isLower c ≡ true → (code "a" ≤ c) × (c ≤ code "z")
+unfolding isLower
+isLower-range c e = between-true (code "a") (code "z") c e
+
+range-upper : (c : ℕ) → code "A" ≤ c → c ≤ code "Z" → isUpper c ≡ true
+unfolding isUpper
+range-upper c h k = within-between (code "A") (code "Z") c h k
+
+range-lower : (c : ℕ) → code "a" ≤ c → c ≤ code "z" → isLower c ≡ true
+unfolding isLower
+range-lower c h k = within-between (code "a") (code "z") c h k
+
+upper-not-lower : (c : ℕ) → c < code "a" → isLower c ≡ false
+unfolding isLower
+upper-not-lower c h = below-between (code "a") (code "z") c h
+
+lower-not-upper : (c : ℕ) → code "Z" < c → isUpper c ≡ false
+unfolding isUpper
+lower-not-upper c h = above-between (code "A") (code "Z") c h
+
+pub lowerOctet-twice : (c : ℕ) → lowerOctet (lowerOctet c) ≡ lowerOctet c
+lowerOctet-twice c = cases (isUpper c)
+    (λ e. let b = isUpper-range c e in rw (lower-octet-is c e, lower-octet-other (c + 32) (lower-not-upper (c + 32) (omega arith))))
+    (λ e. rw (lower-octet-other c e, lower-octet-other c e))
+
+pub upper-of-lower : (c : ℕ) → upperOctet (lowerOctet c) ≡ upperOctet c
+upper-of-lower c = cases (isUpper c)
+    (λ e.
+    let b = isUpper-range c e in
+    rw (lower-octet-is c e, upper-octet-is (c + 32) (range-lower (c + 32) (omega arith) (omega arith)), upper-octet-other c (upper-not-lower c (omega arith))) (omega arith))
+    (λ e. rw (lower-octet-other c e))
+
+pub lower-of-upper : (c : ℕ) → lowerOctet (upperOctet c) ≡ lowerOctet c
+lower-of-upper c = cases (isLower c)
+    (λ e.
+    let b = isLower-range c e in
+    rw (upper-octet-is c e, lower-octet-is (c - 32) (range-upper (c - 32) (omega arith) (omega arith)), lower-octet-other c (lower-not-upper c (omega arith))) (omega arith))
+    (λ e. rw (upper-octet-other c e))
+
+-- two maps, octet by octet
+pub map-same : (f g h : ℕ → ℕ) → ((c : ℕ) → f (g c) ≡ h c) → (s : List ℕ) → map f (map g s) ≡ map h s
+map-same f g h e [] = refl
+map-same f g h e (c ∷ s) = rw (e c) (ap (λ (l : List ℕ). h c ∷ l) (map-same f g h e s))
+
+pub lower-twice : (s : List ℕ) → lower (lower s) ≡ lower s
+unfolding lower
+lower-twice s = map-same lowerOctet lowerOctet lowerOctet lowerOctet-twice s
+
+pub upper-lower : (s : List ℕ) → upper (lower s) ≡ upper s
+unfolding upper lower
+upper-lower s = map-same upperOctet lowerOctet upperOctet upper-of-lower s
+
+pub lower-upper : (s : List ℕ) → lower (upper s) ≡ lower s
+unfolding upper lower
+lower-upper s = map-same lowerOctet upperOctet lowerOctet lower-of-upper s
+
+-- names without case
+pub name-is : (a b : List ℕ) → sameName a b ≡ true → upper a ≡ upper b
+unfolding sameName
+name-is a b e = same-is (upper a) (upper b) e
+
+pub name-same : (a b : List ℕ) → upper a ≡ upper b → sameName a b ≡ true
+unfolding sameName
+name-same a b e = rw e (same-itself (upper b))
+
+-- names in either case
+name-of-lower : (c : ℕ) → nameOctet c ≡ true → lowerNameOctet (lowerOctet c) ≡ true
+unfolding nameOctet isLetter lowerNameOctet
+name-of-lower c h = cases (isUpper c)
+    (λ e. let b = isUpper-range c e in rw (lower-octet-is c e, range-lower (c + 32) (omega arith) (omega arith)))
+    (λ e. rw (lower-octet-other c e) (rw e at h))
+
+name-of-upper : (c : ℕ) → nameOctet c ≡ true → nameOctet (upperOctet c) ≡ true
+unfolding nameOctet isLetter
+name-of-upper c h = cases (isLower c)
+    (λ e. let b = isLower-range c e in rw (upper-octet-is c e, range-upper (c - 32) (omega arith) (omega arith)))
+    (λ e. rw (upper-octet-other c e) h)
+
+lower-name-octet : (c : ℕ) → lowerNameOctet c ≡ true → nameOctet c ≡ true
+unfolding nameOctet isLetter lowerNameOctet
+lower-name-octet c h = cases (isUpper c) (λ e. rw e) (λ e. rw e h)
+
+below-upper : (c : ℕ) → c < code "A" → isUpper c ≡ false
+unfolding isUpper
+below-upper c h = below-between (code "A") (code "Z") c h
+
+name-not-upper : (c : ℕ) → lowerNameOctet c ≡ true → isUpper c ≡ false
+unfolding lowerNameOctet isDigit
+name-not-upper c h = either (isLower c) (between (code "0") (code "9") c or eqb c (code "-")) h
+    (λ e. lower-not-upper c (omega (arith, isLower-range c e .0)))
+    (λ k. either (between (code "0") (code "9") c) (eqb c (code "-")) k
+    (λ e. below-upper c (omega (arith, between-true (code "0") (code "9") c e .1)))
+    (λ e. below-upper c (omega (arith, eqb-true c (code "-") e))))
+
+lower-stays : (c : ℕ) → lowerNameOctet c ≡ true → lowerOctet c ≡ c
+lower-stays c h = lower-octet-other c (name-not-upper c h)
+
+all-map : (p q : ℕ → Bool) (f : ℕ → ℕ) → ((c : ℕ) → p c ≡ true → q (f c) ≡ true) → (s : List ℕ) → all p s ≡ true → all q (map f s) ≡ true
+unfolding all
+all-map p q f k [] h = refl
+all-map p q f k (c ∷ s) h = let b = both (p c) (all p s) h in and-true (k c (b .0)) (all-map p q f k s (b .1))
+
+filled-map : (f : ℕ → ℕ) (s : List ℕ) → filled (map f s) ≡ filled s
+unfolding filled
+filled-map f [] = refl
+filled-map f (c ∷ s) = refl
+
+pub name-lower : (s : List ℕ) → isName s ≡ true → isLowerName (lower s) ≡ true
+unfolding isName isLowerName lower
+name-lower s h = let b = both (filled s) (all nameOctet s) h in
+    and-true (filled-map lowerOctet s ∙ b .0) (all-map nameOctet lowerNameOctet lowerOctet name-of-lower s (b .1))
+
+pub name-upper : (s : List ℕ) → isName s ≡ true → isName (upper s) ≡ true
+unfolding isName upper
+name-upper s h = let b = both (filled s) (all nameOctet s) h in
+    and-true (filled-map upperOctet s ∙ b .0) (all-map nameOctet nameOctet upperOctet name-of-upper s (b .1))
+
+pub lower-name : (s : List ℕ) → isLowerName s ≡ true → isName s ≡ true
+unfolding isName isLowerName
+lower-name s h = let b = both (filled s) (all lowerNameOctet s) h in
+    and-true (b .0) (all-weaker lowerNameOctet nameOctet lower-name-octet s (b .1))
+
+pub lower-name-stays : (s : List ℕ) → all lowerNameOctet s ≡ true → lower s ≡ s
+unfolding all lower
+lower-name-stays [] h = refl
+lower-name-stays (c ∷ s) h = let b = both (lowerNameOctet c) (all lowerNameOctet s) h in
+    rw (lower-stays c (b .0)) (ap (λ (l : List ℕ). c ∷ l) (lower-name-stays s (b .1)))

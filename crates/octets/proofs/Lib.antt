@@ -1,6 +1,7 @@
 pub mod Cases
 pub mod Positions
 pub mod Limits
+pub mod Optional
 pub mod Pen
 pub mod Answers
 pub mod Classes

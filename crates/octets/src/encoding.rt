@@ -7,7 +7,6 @@ ghost use Rattle.octets.specs.Classes.{between};
 ghost use Rattle.octets.specs.Utf8.{Due, start, one, two, utf8, clean};
 ghost use Rattle.octets.specs.Characters.{Awaits, Ends};
 use crate::names::both;
-use crate::names::is_plain_octet;
 use crate::names::peek;
 use crate::names::within;
 
@@ -134,11 +133,12 @@ fn has_clean_characters(s: &[u8]) -> bool
     let mut i = 0;
     while i < s.len() {
         let c = s[i];
-        if c <= 127 {
-            if !is_plain_octet(c) {
-                return false;
-            }
+        if within(32, 126, c) {
             i += 1;
+        } else if c == b'\t' {
+            i += 1;
+        } else if c <= 127 {
+            return false;
         } else {
             i = character(s, i);
             if i == 0 {

@@ -57,8 +57,9 @@ pub const MOST_ROWS: usize = 64;
 pub const MOST_COLUMNS: usize = 75;
 
 // An integer, a COUNT or an INTERVAL.
-pub const MOST_INTEGER: u64 = 2147483647;
+pub const MOST_INTEGER: u32 = 2147483647;
 
+// The last year of a date.
 pub const LAST_YEAR: u16 = 9999;
 
 // A refusal; the definition `number` gives its number.

@@ -4,8 +4,8 @@ use mathlib.Core.Bool.{Bool, true, false, not}
 use mathlib.Core.List.{List, [], _∷_, _++_, map}
 use mathlib.Core.Option.{Option, none, some}
 use lib.Dec.{eqb, leb}
-use lib.ListN.{length, drop, take}
-use Rattle.octets.specs.Basics.{pick, _and_, any}
+use lib.ListN.{length, drop}
+use Rattle.octets.specs.Basics.{pick, _and_, _or_}
 use Rattle.octets.specs.Optional.{guard, given}
 use Rattle.octets.specs.Answers.{number, Answer, refused, accepted, then, orElse, unless}
 use Rattle.calendar.specs.Moments.{readMoment, moved, notBehind, sameKind}
@@ -17,6 +17,7 @@ use Rattle.calendar.specs.declared.rules.Frequency.{Frequency}
 use Rattle.calendar.specs.declared.rules.Frequency.the-variants.{Secondly, Minutely, Hourly, Daily, Weekly, Monthly, Yearly}
 use Rattle.calendar.specs.declared.rules.End.{End}
 use Rattle.calendar.specs.declared.rules.End.the-variants.{Count, Until, Open}
+use Rattle.calendar.specs.declared.rules.ByParts.{ByParts}
 use Rattle.calendar.specs.declared.rules.Rule.{Rule}
 use Rattle.stoplist.specs.declared.Stop.{Stop}
 use Rattle.stoplist.specs.declared.Listed.{Listed}
@@ -46,9 +47,10 @@ frequencyServed Weekly k = false
 frequencyServed Monthly k = false
 frequencyServed Yearly k = false
 
--- the BY parts stand from the fifth to the thirteenth in the order of `keys`
-unfoldable pub hasBy : List Bool → Bool
-hasBy parts = any (λ b. b) (take 9 (drop 4 parts))
+-- there is a BY part
+unfoldable pub hasBy : ByParts → Bool
+hasBy b =
+    b .second or b .minute or b .hour or b .day or b .monthday or b .yearday or b .weekno or b .month or b .setpos
 
 -- an UNTIL is of the start's kind, and its second is not 60
 unfoldable pub endServed : End → Kind → Bool
@@ -58,7 +60,7 @@ endServed Open k = true
 
 -- number 15
 unfoldable pub served : Rule → Kind → Bool
-served r k = frequencyServed (r .frequency) k and not (hasBy (r .parts)) and endServed (r .end) k
+served r k = frequencyServed (r .frequency) k and not (hasBy (r .by)) and endServed (r .end) k
 
 -- the end allows one moment more, which is m; and what is left of it then
 unfoldable pub allows : End → Moment → Bool

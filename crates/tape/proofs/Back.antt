@@ -2,21 +2,20 @@
 use Prim.Native.Nat.{ℕ, _-_}
 use mathlib.Core.Path.{_≡_, refl, sym, ap, _∙_}
 use mathlib.Core.Bool.{Bool, true, false, not}
-use mathlib.Core.List.{List, [], _∷_, _++_, append-assoc, append-nil}
+use mathlib.Core.List.{List, [], _++_, append-assoc, append-nil}
 use borrow.Author.Tests.{ne-eqb}
 use lib.ListN.{length, take, drop}
 use lib.Seq.{take-append-seam}
-use Rattle.octets.specs.Basics.{pick, _and_}
+use Rattle.octets.specs.Basics.{_and_}
 use Rattle.octets.proofs.Cases.{and-assoc, and-true-right}
 use Rattle.octets.proofs.Positions.{upto}
-use Rattle.json.specs.Tree.{Json, null, falsity, truth, num, str, arr, obj, Items, noItems, item, Members, noMembers, member}
+use Rattle.json.specs.Tree.{Json, str, Items, noItems, item, Members, noMembers, member}
 use Rattle.json.specs.Tape.{tagEnd, serText, ser, serItems, serMembers}
 use Rattle.tape.specs.Sound.{hasLone, distinctKeys, sound, soundItems, soundMembers}
-use Rattle.tape.specs.Decode.{Groups, last, group, top, push, paired, valued, text, inText, onto, groups, view, valueAt}
-use Rattle.tape.specs.Scan.{soundHere, soundAlong, soundTape}
+use Rattle.tape.specs.Decode.{group, push, paired, text, inText, groups, view, valueAt}
+use Rattle.tape.specs.Scan.{soundAlong, soundTape}
 use Rattle.tape.proofs.Fine.{Clean, clean-end, clean, Fine, f-null, f-false, f-true, f-num, f-str, f-arr, f-obj, FineItems, f-none, f-item, FineMembers, f-empty, f-member}
-use Rattle.tape.proofs.Tags.{Shows}
-use Rattle.tape.proofs.Values.{shown}
+use Rattle.tape.proofs.Values.{shown, string-octets}
 
 -- a text and what stands behind it
 text-back : {t : List ℕ} → Clean t → (r : List ℕ) → text (serText t ++ r) ≡ t
@@ -37,7 +36,7 @@ flat (member k j ms) = item (str k) (item j (flat ms))
 flat-paired : (ms : Members) → paired (flat ms) ≡ ms
 unfolding paired
 flat-paired noMembers = refl
-flat-paired (member k j ms) = rw (flat-paired ms)
+flat-paired (member k j ms) = rw (flat-paired ms, string-octets k)
 
 mutual
   unfolding ser groups inText

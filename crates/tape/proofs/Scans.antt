@@ -1,25 +1,25 @@
 -- The scan along a tape, turn by turn: within a string, along an object's keys, and from value to value.
-use Prim.Native.Nat.{ℕ, zero, suc, _+_, _-_, _≤_, _<_}
+use Prim.Native.Nat.{ℕ, suc, _+_, _-_, _≤_, _<_}
 use mathlib.Core.Path.{_≡_, refl, sym, ap, _∙_}
-use mathlib.Core.Bool.{Bool, true, false, not}
+use mathlib.Core.Bool.{true, false}
 use mathlib.Core.List.{List, [], _∷_}
 use native.Mathlib.Omega.{arith}
-use borrow.Author.Tests.{eq-eqb, ne-eqb, le-leb, lt-leb}
+use borrow.Author.Tests.{ne-eqb, le-leb, lt-leb}
 use lib.Dec.{eqb, leb}
 use lib.ListN.{length, take, drop, getD, drop-of-length-le}
 use lib.Seq.{drop-drop}
-use Rattle.octets.specs.Basics.{pick, _and_, _or_, same}
+use Rattle.octets.specs.Basics.{_and_, same}
 use Rattle.octets.proofs.Cases.{cases, and-false-right}
-use Rattle.json.specs.Tree.{Json, Members, noMembers, member}
+use Rattle.json.specs.Tree.{member}
 use Rattle.json.specs.Tape.{tagNumber, tagString, tagObject, tagEnd}
 use Rattle.tape.specs.Sound.{hasLone, hasKey, distinctKeys}
-use Rattle.tape.specs.Decode.{octetsOf, inText, view, tagAt, textAt, valueAt, itemsAt, membersAt, text}
+use Rattle.tape.specs.Decode.{inText, view, tagAt, textAt, valueAt, itemsAt, membersAt, text}
 use Rattle.tape.specs.Promise.{After, Next, TextAt}
 use Rattle.tape.specs.Scan.{soundHere, soundAlong, soundFrom, soundTape, PastString, Scans}
 use Rattle.tape.specs.declared.Text.{Text}
 use Rattle.tape.specs.declared.sounding.Scanned.{Scanned}
 use Rattle.tape.specs.declared.sounding.Scanned.the-variants.{To, Unsound}
-use Rattle.tape.proofs.Tags.{on-or-past, on-tape, read-tag, here, text-here, text-on, text-past, text-within}
+use Rattle.tape.proofs.Tags.{on-or-past, read-tag, here, text-here, text-on, text-past, text-within}
 use Rattle.tape.proofs.Values.{members-end, members-next}
 use Rattle.tape.proofs.Walks.{after-past, after-on}
 

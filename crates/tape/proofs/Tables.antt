@@ -6,17 +6,17 @@ use mathlib.Core.List.{List, [], _∷_}
 use native.Mathlib.Omega.{arith}
 use borrow.Author.Tests.{ne-eqb, eqb-false, not-true, ltb-true, ltb-false}
 use lib.Dec.{eqb, ltb}
-use lib.ListN.{length, take, drop, getD, set, replicate, length-set}
+use lib.ListN.{length, drop, getD, set, replicate, length-set}
 use lib.Seq.{drop-set-lt, drop-set-add, getD-drop, getD-set-same, getD-set-other}
-use Rattle.octets.specs.Basics.{pick, _and_, _or_, same}
+use Rattle.octets.specs.Basics.{same}
 use Rattle.octets.proofs.Cases.{cases, same?, never, both, or-first, or-second, either, neither}
 use Rattle.octets.proofs.Classes.{same-itself, same-is}
 use Rattle.octets.proofs.Positions.{here, ended}
-use Rattle.json.specs.Tree.{Json, Members, noMembers, member}
+use Rattle.json.specs.Tree.{Members, noMembers, member, octetsOf}
 use Rattle.json.specs.Tape.{tagEnd}
 use Rattle.tape.specs.Sound.{hasKey, distinctKeys}
-use Rattle.tape.specs.Decode.{octetsOf, valueAt, tagAt, membersAt}
-use Rattle.tape.specs.Slots.{slotFrom, slotOf, stands, inTable, Blank, FreeAt, Probes}
+use Rattle.tape.specs.Decode.{valueAt, tagAt, membersAt}
+use Rattle.tape.specs.Slots.{slotFrom, slotOf, stands, inTable, Blank, Probes}
 use Rattle.tape.specs.declared.Text.{Text}
 use Rattle.tape.specs.declared.keys.Probed.the-variants.{There, Free, Full}
 use Rattle.tape.proofs.Values.{members-end}

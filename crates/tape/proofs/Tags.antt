@@ -1,8 +1,7 @@
 -- What a place of a tape shows, by the octet that stands there.
-use Prim.Native.Nat.{ℕ, zero, suc, _+_, _-_, _≤_, _<_}
-use mathlib.Core.Path.{_≡_, refl, sym, ap, _∙_}
-use mathlib.Core.Bool.{Bool, true, false}
-use mathlib.Core.Logic.{_⊎_, inl, inr, ⊎-elim}
+use Prim.Native.Nat.{ℕ, suc, _+_, _-_, _≤_, _<_}
+use mathlib.Core.Path.{_≡_, refl, sym, _∙_}
+use mathlib.Core.Bool.{true, false}
 use mathlib.Core.List.{List, [], _∷_}
 use native.Mathlib.Numerals.{add-one}
 use native.Mathlib.Omega.{arith}
@@ -10,11 +9,10 @@ use borrow.Author.Tests.{ne-eqb, ltb-true, ltb-false}
 use lib.Dec.{eqb, ltb}
 use lib.ListN.{length, take, drop, getD, length-drop, drop-of-length-le, List·getD-eq-default}
 use lib.Seq.{drop-cons, drop-drop}
-use Rattle.octets.specs.Basics.{pick, _or_}
-use Rattle.octets.proofs.Cases.{cases, same?}
-use Rattle.json.specs.Tree.{Json, null, falsity, truth, num, str, arr, obj, Items, noItems, item}
+use Rattle.octets.proofs.Cases.{cases}
+use Rattle.json.specs.Tree.{Json, num, str, arr, obj, noItems}
 use Rattle.json.specs.Tape.{tagNumber, tagString, tagArray, tagObject, tagEnd}
-use Rattle.tape.specs.Decode.{Groups, last, group, first, top, pop, push, text, leaf, inText, onto, groups, view, tagAt, textAt, itemsAt, membersAt}
+use Rattle.tape.specs.Decode.{Groups, last, group, top, pop, push, text, leaf, inText, onto, groups, view, tagAt, textAt, itemsAt, membersAt}
 
 -- a place lies on the tape or past it
 pub on-or-past {ℓ} : {P : Type ℓ} (t : List ℕ) (i : ℕ) → (i < length t → P) → (length t ≤ i → P) → P

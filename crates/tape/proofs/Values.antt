@@ -1,19 +1,20 @@
 -- The value at a place, by its tag, and the values and members from a place on.
-use Prim.Native.Nat.{ℕ, zero, suc, _+_, _-_, _≤_, _<_}
+use Prim.Native.Nat.{ℕ, suc, _+_}
 use mathlib.Core.Path.{_≡_, refl, sym, ap, _∙_}
-use mathlib.Core.Bool.{Bool, true, false}
+use mathlib.Core.Bool.{true, false}
 use mathlib.Core.Logic.{_⊎_, inl, inr, ⊎-elim}
 use mathlib.Core.List.{List, [], _∷_}
-use mathlib.Core.Option.{Option, none, some}
+use mathlib.Core.Option.{none, some}
 use native.Mathlib.Omega.{arith}
 use borrow.Author.Tests.{ne-eqb}
 use lib.Dec.{eqb}
-use lib.ListN.{length, drop}
-use Rattle.octets.specs.Basics.{pick}
-use Rattle.octets.proofs.Cases.{cases, same?}
-use Rattle.json.specs.Tree.{Json, null, falsity, truth, num, str, arr, obj, Items, noItems, item, Members, noMembers, member, string?, number?, boolean?, array?, object?}
+use lib.ListN.{drop, getD}
+use lib.Seq.{drop-nil}
+use Rattle.octets.specs.Optional.{given}
+use Rattle.octets.proofs.Cases.{same?}
+use Rattle.json.specs.Tree.{Json, null, falsity, truth, num, str, arr, obj, Items, noItems, item, noMembers, member, string?, number?, boolean?, array?, object?, listOf, octetsOf, elements, members}
 use Rattle.json.specs.Tape.{tagNull, tagFalse, tagTrue, tagNumber, tagString, tagArray, tagObject, tagEnd}
-use Rattle.tape.specs.Decode.{Groups, last, group, first, others, octetsOf, paired, valued, top, pop, push, skip, leaf, inText, onto, groups, view, tagAt, textAt, valueAt, itemsAt, membersAt}
+use Rattle.tape.specs.Decode.{Groups, last, group, first, others, paired, valued, top, pop, push, skip, leaf, onto, view, tagAt, textAt, valueAt, itemsAt, listAt, membersAt}
 use Rattle.tape.specs.Promise.{Next}
 use Rattle.tape.proofs.Tags.{on-or-past, on-tape, past-view, on-view, Shows, at-array, at-object, at-number, at-string, at-other, end-top}
 
@@ -69,12 +70,37 @@ module _ (t : List ℕ) (i : ℕ) where
   pub true-is : tagAt t i ≡ tagTrue → valueAt t i ≡ truth
   true-is e = leaf-is e (λ x. omega arith) (λ x. omega arith) (λ x. omega arith) (λ x. omega arith) (λ x. omega arith)
 
-  -- a number's or a string's octets say which it is
-  pub string-octets : tagAt t i ≡ tagString → valueAt t i ≡ str (octetsOf (valueAt t i))
-  string-octets e = string-is e ∙ sym (ap (λ (j : Json). str (octetsOf j)) (string-is e))
+-- the octets of a number or a string, and what it holds by them
+pub string-octets : (s : List ℕ) → octetsOf (str s) ≡ s
+unfolding octetsOf given string? number?
+string-octets s = refl
 
-  pub number-octets : tagAt t i ≡ tagNumber → valueAt t i ≡ num (octetsOf (valueAt t i))
-  number-octets e = number-is e ∙ sym (ap (λ (j : Json). num (octetsOf j)) (number-is e))
+pub number-octets : (s : List ℕ) → octetsOf (num s) ≡ s
+unfolding octetsOf given string? number?
+number-octets s = refl
+
+module _ (t : List ℕ) (i : ℕ) where
+  pub string-text : tagAt t i ≡ tagString → octetsOf (valueAt t i) ≡ textAt t (i + 1)
+  string-text e = ap octetsOf (string-is t i e) ∙ string-octets _
+
+  pub number-text : tagAt t i ≡ tagNumber → octetsOf (valueAt t i) ≡ textAt t (i + 1)
+  number-text e = ap octetsOf (number-is t i e) ∙ number-octets _
+
+  pub string-some : tagAt t i ≡ tagString → string? (valueAt t i) ≡ some (octetsOf (valueAt t i))
+  unfolding string?
+  string-some e = ap string? (string-is t i e) ∙ ap some (sym (string-text e))
+
+  pub number-some : tagAt t i ≡ tagNumber → number? (valueAt t i) ≡ some (octetsOf (valueAt t i))
+  unfolding number?
+  number-some e = ap number? (number-is t i e) ∙ ap some (sym (number-text e))
+
+  pub false-some : tagAt t i ≡ tagFalse → boolean? (valueAt t i) ≡ some false
+  unfolding boolean?
+  false-some e = ap boolean? (false-is t i e)
+
+  pub true-some : tagAt t i ≡ tagTrue → boolean? (valueAt t i) ≡ some true
+  unfolding boolean?
+  true-some e = ap boolean? (true-is t i e)
 
 -- the tag that a value has; a value that is not null stands under its own
 abbrev pub tagOf : Json → ℕ
@@ -161,14 +187,9 @@ boolean-none (str t) n m = refl
 boolean-none (arr js) n m = refl
 boolean-none (obj ms) n m = refl
 
-no-octets : (j : Json) → ((tagOf j ≡ tagNumber) → ⊥) → ((tagOf j ≡ tagString) → ⊥) → octetsOf j ≡ []
-no-octets null n m = refl
-no-octets falsity n m = refl
-no-octets truth n m = refl
-no-octets (num t) n m = absurd (n refl)
-no-octets (str t) n m = absurd (m refl)
-no-octets (arr js) n m = refl
-no-octets (obj ms) n m = refl
+no-octets : (j : Json) → string? j ≡ none → number? j ≡ none → octetsOf j ≡ []
+unfolding octetsOf given
+no-octets j e f = rw (e, f)
 
 module _ (t : List ℕ) (i : ℕ) where
   -- a tag that is not null's and does not stand here is not the value's
@@ -191,7 +212,15 @@ module _ (t : List ℕ) (i : ℕ) where
   no-boolean n m = boolean-none _ (other-tag tagFalse (λ e. omega arith) n) (other-tag tagTrue (λ e. omega arith) m)
 
   pub no-text : ((tagAt t i ≡ tagNumber) → ⊥) → ((tagAt t i ≡ tagString) → ⊥) → octetsOf (valueAt t i) ≡ []
-  no-text n m = no-octets (valueAt t i) (other-tag tagNumber (λ e. omega arith) n) (other-tag tagString (λ e. omega arith) m)
+  no-text n m = no-octets _ (no-string m) (no-number n)
+
+  pub no-elements : ((tagAt t i ≡ tagArray) → ⊥) → elements (valueAt t i) ≡ []
+  unfolding elements given
+  no-elements n = rw (no-array n)
+
+  pub no-members : ((tagAt t i ≡ tagObject) → ⊥) → members (valueAt t i) ≡ noMembers
+  unfolding members given
+  no-members n = rw (no-object n)
 
 -- the values and the members from a place on
 abbrev Filled : Groups → Type 0
@@ -220,9 +249,17 @@ module _ (t : List ℕ) (i : ℕ) where
   unfolding itemsAt
   items-end e = end-top t i e
 
+  pub list-end : tagAt t i ≡ tagEnd → listAt t i ≡ []
+  unfolding listAt listOf
+  list-end e = rw (items-end e)
+
   pub members-end : tagAt t i ≡ tagEnd → membersAt t i ≡ noMembers
   unfolding membersAt paired
   members-end e = rw (items-end e)
+
+  pub list-first : ((tagAt t i ≡ tagEnd) → ⊥) → listAt t i ≡ valueAt t i ∷ listOf (others (itemsAt t i))
+  unfolding listAt listOf
+  list-first n = ap listOf (items-first n)
 
 -- behind the value at i stand the others
 others-next : {t : List ℕ} {i e : ℕ} → Next t i e → others (itemsAt t i) ≡ itemsAt t e
@@ -231,6 +268,39 @@ others-next {t} {i} x = sym (ap top (x .is) ∙ top-skip (view t i))
 
 pub items-next : {t : List ℕ} {i e : ℕ} → Next t i e → ((tagAt t i ≡ tagEnd) → ⊥) → itemsAt t i ≡ item (valueAt t i) (itemsAt t e)
 items-next {t} {i} x n = items-first t i n ∙ rw (others-next x)
+
+pub list-next : {t : List ℕ} {i e : ℕ} → Next t i e → ((tagAt t i ≡ tagEnd) → ⊥) → listAt t i ≡ valueAt t i ∷ listAt t e
+unfolding listAt listOf
+list-next x n = ap listOf (items-next x n)
+
+-- the values by their number, and those behind some of them, also where there are fewer
+head-of : (js : Items) → getD (listOf js) 0 null ≡ first js
+unfolding listOf
+head-of noItems = refl
+head-of (item j js) = refl
+
+tail-of : (n : ℕ) (js : Items) → getD (listOf js) (suc n) null ≡ getD (listOf (others js)) n null
+unfolding listOf
+tail-of n noItems = refl
+tail-of n (item j js) = refl
+
+behind-of : (n : ℕ) (js : Items) → drop (suc n) (listOf js) ≡ drop n (listOf (others js))
+unfolding listOf
+behind-of n noItems = sym (drop-nil n)
+behind-of n (item j js) = refl
+
+pub list-head : (t : List ℕ) (i : ℕ) → getD (listAt t i) 0 null ≡ valueAt t i
+unfolding listAt itemsAt valueAt
+list-head t i = head-of _
+
+module _ {t : List ℕ} {i e : ℕ} (x : Next t i e) (n : ℕ) where
+  pub list-tail : getD (listAt t i) (suc n) null ≡ getD (listAt t e) n null
+  unfolding listAt
+  list-tail = tail-of n (itemsAt t i) ∙ rw (others-next x)
+
+  pub list-behind : drop (suc n) (listAt t i) ≡ drop n (listAt t e)
+  unfolding listAt
+  list-behind = behind-of n (itemsAt t i) ∙ rw (others-next x)
 
 -- a key stands at i and its value at n; where the value is passed, the other members stand from e on
 valued-is : (js : Items) (k : List ℕ) → valued js k ≡ member k (first js) (paired (others js))

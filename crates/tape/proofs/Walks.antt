@@ -1,20 +1,22 @@
 -- From place to place: behind a value, along a group, and out of it.
-use Prim.Native.Nat.{ℕ, zero, suc, _+_, _-_, _≤_, _<_}
+use Prim.Native.Nat.{ℕ, zero, suc, _+_, _-_, min, _≤_, _<_}
 use mathlib.Core.Path.{_≡_, refl, sym, ap, _∙_}
 use mathlib.Core.Logic.{_⊎_, inl, inr, ⊎-elim}
 use mathlib.Core.List.{List}
+use mathlib.Core.Option.{some}
 use native.Mathlib.Numerals.{add-one}
 use native.Mathlib.Omega.{arith}
 use borrow.Author.Tests.{eqb-true, eqb-false}
 use lib.Dec.{eqb}
-use lib.ListN.{length, drop}
+use lib.ListN.{length, getD}
+use Rattle.octets.specs.Optional.{given}
 use Rattle.octets.proofs.Cases.{cases}
-use Rattle.json.specs.Tree.{Json, arr, obj, Items, noItems, item}
+use Rattle.json.specs.Tree.{Json, null, arr, obj, Items, noItems, array?, object?, octetsOf, elements, element, members}
 use Rattle.json.specs.Tape.{tagNumber, tagString, tagArray, tagObject, tagEnd}
-use Rattle.tape.specs.Decode.{Groups, last, group, others, octetsOf, top, pop, push, skip, leaf, view, tagAt, textAt, valueAt, itemsAt, membersAt}
-use Rattle.tape.specs.Promise.{After, Leaf, Next, Left, TextAt, counted}
+use Rattle.tape.specs.Decode.{Groups, last, group, others, top, pop, skip, view, tagAt, textAt, valueAt, itemsAt, listAt, membersAt}
+use Rattle.tape.specs.Promise.{After, Leaf, Next, Left, TextAt}
 use Rattle.tape.proofs.Tags.{on-tape, past-tag, past-view, Shows, at-array, at-object, at-number, at-string, at-other, end-pop, end-top, text-part, text-within}
-use Rattle.tape.proofs.Values.{skip-push, pop-push, pop-skip, array-is, object-is, number-is, string-is, no-text, items-end, items-next}
+use Rattle.tape.proofs.Values.{skip-push, pop-push, pop-skip, array-is, object-is, number-text, string-text, no-text, list-end, list-next}
 
 -- the tag of a group, of a text
 abbrev pub Opens : List ℕ → ℕ → Type 0
@@ -80,6 +82,26 @@ module _ {t : List ℕ} {i a : ℕ} (x : After t i a) where
   pub object-inside : tagAt t i ≡ tagObject → valueAt t i ≡ obj (membersAt t a)
   unfolding membersAt
   object-inside q = object-is t i q ∙ rw items-after
+
+  pub array-some : tagAt t i ≡ tagArray → array? (valueAt t i) ≡ some (itemsAt t a)
+  unfolding array?
+  array-some q = ap array? (array-inside q)
+
+  pub object-some : tagAt t i ≡ tagObject → object? (valueAt t i) ≡ some (membersAt t a)
+  unfolding object?
+  object-some q = ap object? (object-inside q)
+
+  pub elements-inside : tagAt t i ≡ tagArray → elements (valueAt t i) ≡ listAt t a
+  unfolding elements given listAt
+  elements-inside q = rw (array-some q)
+
+  pub element-inside : tagAt t i ≡ tagArray → (n : ℕ) → element n (valueAt t i) ≡ getD (listAt t a) n null
+  unfolding element
+  element-inside q n = rw (elements-inside q)
+
+  pub members-inside : tagAt t i ≡ tagObject → members (valueAt t i) ≡ membersAt t a
+  unfolding members given
+  members-inside q = rw (object-some q)
 
   pub next-inside : {e : ℕ} → Opens t i → Left t a e → Next t i e
   next-inside {e} o l =
@@ -160,7 +182,7 @@ module _ (t : List ℕ) (i : ℕ) where
   begins-in o = on-tape t i (λ e. ⊎-elim (λ f. omega arith) (λ f. omega arith) o)
 
   begins-octets : Begins t i → octetsOf (valueAt t i) ≡ textAt t (i + 1)
-  begins-octets o = ⊎-elim (λ q. ap octetsOf (number-is t i q)) (λ q. ap octetsOf (string-is t i q)) o
+  begins-octets o = ⊎-elim (number-text t i) (string-text t i) o
 
   pub text-found : {e n : ℕ} → Begins t i → e ≡ i + 1 + length (textAt t (i + 1)) → After t e n → TextAt t i (record { from = i + 1; to = e; next = n })
   text-found {e} {n} o q a = record {
@@ -175,35 +197,20 @@ module _ (t : List ℕ) (i : ℕ) where
       let z : n - n ≡ 0 = omega arith in
       record { part = rw (z, no-text t i (λ e. o (inl e)) (λ e. o (inr e))); order = omega arith; within = x .high; behind = x }
 
--- the number of values, n at most
-counted-none : (n : ℕ) → counted n noItems ≡ 0
-unfolding counted
-counted-none zero = refl
-counted-none (suc n) = refl
-
-counted-item : (n : ℕ) (j : Json) (js : Items) → 1 ≤ n → counted n (item j js) ≡ 1 + counted (n - 1) js
-unfolding counted
-counted-item zero j js h = absurd (omega arith)
-counted-item (suc n) j js h = let e : suc n - 1 ≡ n = omega arith in rw e (omega arith)
-
--- n values were counted up to i; they and what is left to count make the whole
+-- n values were counted up to i; they and what is left make the whole
 pub record Counting (t : List ℕ) (at most i n : ℕ) : Type 0 where
   pub below : n ≤ most
-  pub whole : n + counted (most - n) (itemsAt t i) ≡ counted most (itemsAt t at)
+  pub whole : n + length (listAt t i) ≡ length (listAt t at)
 
 pub counting-start : {t : List ℕ} {at most : ℕ} → Counting t at most at 0
-counting-start {t} {at} {most} = let e : most - 0 ≡ most = omega arith in record { below = omega arith; whole = rw e (omega arith) }
+counting-start = record { below = omega arith; whole = omega arith }
 
 module _ {t : List ℕ} {at most i n : ℕ} (k : Counting t at most i n) where
   pub counting-next : {e : ℕ} → ((tagAt t i ≡ tagEnd) → ⊥) → Next t i e → n < most → Counting t at most e (n + 1)
-  counting-next {e} z x h =
-      let f : most - n - 1 ≡ most - (n + 1) = omega arith in
-      let w : n + (1 + counted (most - n - 1) (itemsAt t e)) ≡ counted most (itemsAt t at) = rw (items-next x z, counted-item (most - n) (valueAt t i) (itemsAt t e) (omega arith)) at (k .whole) in
-      record { below = omega arith; whole = rw (← f) (omega arith) }
+  counting-next {e} z x h = record { below = omega arith; whole = omega (arith, k .whole, ap length (list-next x z)) }
 
-  pub counting-end : tagAt t i ≡ tagEnd → n ≡ counted most (itemsAt t at)
-  counting-end z = let w : n + 0 ≡ counted most (itemsAt t at) = rw (items-end t i z, counted-none (most - n)) at (k .whole) in omega arith
+  pub counting-end : tagAt t i ≡ tagEnd → n ≡ min most (length (listAt t at))
+  counting-end z = omega (arith, k .below, k .whole, ap length (list-end t i z))
 
-  pub counting-full : most ≤ n → n ≡ counted most (itemsAt t at)
-  unfolding counted
-  counting-full h = let e : most - n ≡ 0 = omega arith in let w : n + 0 ≡ counted most (itemsAt t at) = rw e at (k .whole) in omega arith
+  pub counting-full : most ≤ n → n ≡ min most (length (listAt t at))
+  counting-full h = omega (arith, k .below, k .whole)

@@ -6,7 +6,7 @@ use mathlib.Core.List.{List, [], _∷_}
 use lib.Dec.{eqb}
 use lib.ListN.{drop, getD}
 use Rattle.octets.specs.Basics.{pick, _or_}
-use Rattle.json.specs.Tree.{Json, null, falsity, truth, num, str, arr, obj, Items, noItems, item, Members, noMembers, member}
+use Rattle.json.specs.Tree.{Json, null, falsity, truth, num, str, arr, obj, Items, noItems, item, Members, noMembers, member, listOf, octetsOf}
 use Rattle.json.specs.Tape.{tagFalse, tagTrue, tagNumber, tagString, tagArray, tagObject, tagEnd}
 
 -- a group's first value, null where there is none, and the others
@@ -17,16 +17,6 @@ first (item j js) = j
 abbrev pub others : Items → Items
 others noItems = noItems
 others (item j js) = js
-
--- the octets of a number or a string; other values have none
-abbrev pub octetsOf : Json → List ℕ
-octetsOf null = []
-octetsOf falsity = []
-octetsOf truth = []
-octetsOf (num t) = t
-octetsOf (str t) = t
-octetsOf (arr js) = []
-octetsOf (obj ms) = []
 
 -- an object's group holds keys and values in turn; a value that is missing is null
 unfoldable mutual
@@ -107,9 +97,12 @@ textAt t i = text (drop i t)
 unfoldable pub valueAt : List ℕ → ℕ → Json
 valueAt t i = first (top (view t i))
 
--- the values from a place to the end of its group; the same as members of an object
+-- the values from a place to the end of its group, as a list, and as members of an object
 unfoldable pub itemsAt : List ℕ → ℕ → Items
 itemsAt t i = top (view t i)
+
+unfoldable pub listAt : List ℕ → ℕ → List Json
+listAt t i = listOf (itemsAt t i)
 
 unfoldable pub membersAt : List ℕ → ℕ → Members
 membersAt t i = paired (itemsAt t i)

@@ -1,11 +1,11 @@
 -- What the walks over a tape promise of the places that they answer.
-use Prim.Native.Nat.{ℕ, zero, suc, _+_, _-_, _≤_, _<_}
+use Prim.Native.Nat.{ℕ, _+_, _-_, _≤_, _<_}
 use mathlib.Core.Path.{_≡_}
 use mathlib.Core.List.{List}
 use lib.ListN.{length, take, drop}
-use Rattle.json.specs.Tree.{Json, Items, noItems, item}
+use Rattle.json.specs.Tree.{octetsOf}
 use Rattle.json.specs.Tape.{tagArray, tagObject, tagEnd}
-use Rattle.tape.specs.Decode.{octetsOf, pop, skip, view, tagAt, valueAt}
+use Rattle.tape.specs.Decode.{pop, skip, view, tagAt, valueAt}
 use Rattle.tape.specs.declared.Text.{Text}
 
 -- e is one octet behind i, or the end of the tape
@@ -41,9 +41,3 @@ pub record TextAt (t : List ℕ) (i : ℕ) (r : Text) : Type 0 where
   pub order : r .from ≤ r .to
   pub within : r .to ≤ length t
   pub behind : Next t i (r .next)
-
--- the number of values, n at most
-unfoldable pub counted : ℕ → Items → ℕ
-counted zero js = 0
-counted (suc n) noItems = 0
-counted (suc n) (item j js) = suc (counted n js)

@@ -6,7 +6,8 @@ use mathlib.Core.List.{List, [], _∷_}
 use lib.Dec.{eqb}
 use lib.ListN.{length, drop, getD, set}
 use Rattle.octets.specs.Basics.{pick, _or_, same}
-use Rattle.tape.specs.Decode.{octetsOf, valueAt}
+use Rattle.json.specs.Tree.{octetsOf}
+use Rattle.tape.specs.Decode.{valueAt}
 use Rattle.tape.specs.declared.keys.Probed.{Probed}
 use Rattle.tape.specs.declared.keys.Probed.the-variants.{There, Free, Full}
 

@@ -11,7 +11,7 @@ ghost use Rattle.tape.specs.Decode.{membersAt};
 ghost use Rattle.tape.specs.Slots.{slotOf, Blank, Probes};
 
 // Keys that are compared with all behind them.
-const FEW: usize = 16;
+const FEW: usize = 8;
 
 // Slots in a table: one for each answer of `slot_of`, and some more behind them.
 const SLOTS: usize = 16640;

@@ -6,7 +6,7 @@ use super::STRING;
 use super::keys::keys_distinct;
 use super::walking::past_text;
 ghost use mathlib.Core.Path.{_≡_};
-ghost use Prim.Native.Nat.{_+_, _≤_, _<_};
+ghost use Prim.Native.Nat.{_+_, _<_};
 ghost use lib.ListN.{length};
 ghost use Rattle.tape.specs.Scan.{soundTape, PastString, Scans};
 

@@ -6,10 +6,10 @@ use super::OBJECT;
 use super::STRING;
 use super::Text;
 ghost use mathlib.Core.Path.{_≡_};
-ghost use Prim.Native.Nat.{_+_, _≤_, _<_};
+ghost use Prim.Native.Nat.{_+_, min};
 ghost use lib.ListN.{length};
-ghost use Rattle.tape.specs.Decode.{tagAt, textAt, itemsAt};
-ghost use Rattle.tape.specs.Promise.{After, Next, Left, TextAt, Leaf, counted};
+ghost use Rattle.tape.specs.Decode.{tagAt, textAt, listAt};
+ghost use Rattle.tape.specs.Promise.{After, Next, Left, TextAt, Leaf};
 
 // The octet at a place.
 pub fn tag(t: &[u8], at: usize) -> u8
@@ -130,7 +130,7 @@ pub fn text_at(t: &[u8], at: usize) -> Text
 
 // How many values stand from `at` to the end of the group, `most` at most.
 pub fn count(t: &[u8], at: usize, most: usize) -> usize
-    ensures { λ r. ⌜ r ≡ counted most (itemsAt (now (t .entry)) at) ⌝ }
+    ensures { λ r. ⌜ r ≡ min most (length (listAt (now (t .entry)) at)) ⌝ }
 {
     let mut i = at;
     let mut n = 0;

@@ -15,13 +15,13 @@ add-next : tie.Need-add-next
 add-next c = omega (arith, seen (c .before .before .args .s .now) (c .before .before .args .i) (omega arith))
 
 returns : tie.Need-returns
-returns c = begins-not _ _ _ (c .before .peek .ensures) (c .before .before .before .pre) (lead-low _ (omega arith) (c .if1 .taken))
+returns c = begins-not _ _ _ (c .before .peek .ensures) (c .before .before .before .pre) (lead-low _ (omega arith) (omega arith))
 
 last-one-requires : tie.Need-last-one-requires
 last-one-requires c κs = search needs
 
 returns-2 : tie.Need-returns-2
-returns-2 c = begins _ _ _ (c .before .before .before .peek .ensures) (c .before .before .before .before .before .pre) _ _ (lead-one _ (c .before .before .if1 .left) (c .before .if2 .taken)) (c .last-one .ensures _ one-awaits)
+returns-2 c = begins _ _ _ (c .before .before .before .peek .ensures) (c .before .before .before .before .before .pre) _ _ (lead-one _ (omega arith) (omega arith)) (c .last-one .ensures _ one-awaits)
 
 last-two-requires : tie.Need-last-two-requires
 last-two-requires c κs = search needs
@@ -41,7 +41,7 @@ last-two-requires-3 : tie.Need-last-two-requires-3
 last-two-requires-3 c κs = search needs
 
 returns-5 : tie.Need-returns-5
-returns-5 c = begins _ _ _ (c .before .before .before .before .before .before .peek .ensures) (c .before .before .before .before .before .before .before .before .pre) _ _ (lead-two _ (c .before .before .before .before .if2 .left) (c .before .if5 .taken) (c .before .before .before .if3 .left) (c .before .before .if4 .left)) (c .last-two3 .ensures _ two-awaits)
+returns-5 c = begins _ _ _ (c .before .before .before .before .before .before .peek .ensures) (c .before .before .before .before .before .before .before .before .pre) _ _ (lead-two _ (omega arith) (omega arith) (c .before .before .before .if3 .left) (c .before .before .if4 .left)) (c .last-two3 .ensures _ two-awaits)
 
 last-three-requires : tie.Need-last-three-requires
 last-three-requires c κs = search needs
@@ -54,7 +54,7 @@ last-three-requires-2 : tie.Need-last-three-requires-2
 last-three-requires-2 c κs = search needs
 
 returns-7 : tie.Need-returns-7
-returns-7 c = begins _ _ _ (c .before .before .before .before .before .before .before .before .peek .ensures) (c .before .before .before .before .before .before .before .before .before .before .pre) _ _ (lead-three _ (omega arith) (c .before .if7 .taken)) (c .last-three2 .ensures _ three-awaits)
+returns-7 c = begins _ _ _ (c .before .before .before .before .before .before .before .before .peek .ensures) (c .before .before .before .before .before .before .before .before .before .before .pre) _ _ (lead-three _ (omega arith) (omega arith)) (c .last-three2 .ensures _ three-awaits)
 
 last-three-requires-3 : tie.Need-last-three-requires-3
 last-three-requires-3 c κs = search needs

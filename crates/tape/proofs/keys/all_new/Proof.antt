@@ -5,7 +5,7 @@ use native.Mathlib.Omega.{arith}
 use borrow.Author.Needs.{needs}
 use lib.ListN.{length, length-set}
 use Rattle.tape.specs.Slots.{Probes}
-use Rattle.tape.specs.declared.keys.Probed.the-variants.{There, Free, Full}
+use Rattle.tape.specs.declared.keys.Probed.the-variants.{Free}
 use Rattle.tape.proofs.Scans.{Keyed, part, member-on}
 use Rattle.tape.proofs.Tables.{Telling, telling-start, telling-end, telling-there, telling-twice, telling-full, telling-free}
 use Rattle.tape.proofs.keys.all_new.Statement.{statement}

@@ -5,7 +5,7 @@ use native.Mathlib.Omega.{arith}
 use borrow.Author.Needs.{needs}
 use lib.ListN.{length}
 use Rattle.tape.specs.Sound.{hasKey}
-use Rattle.tape.specs.Decode.{tagAt, membersAt}
+use Rattle.tape.specs.Decode.{membersAt}
 use Rattle.tape.proofs.Scans.{Keyed, key-end, key-here, key-next, member-on}
 use Rattle.tape.proofs.keys.has_key.Statement.{statement}
 use Rattle.tape.proofs.keys.has_key.Tie as tie

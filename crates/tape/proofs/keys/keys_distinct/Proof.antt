@@ -13,7 +13,7 @@ abbrev Inv-loop : tie.InvT-loop
 Inv-loop t at i₀ n₀ i n = (n ≤ i) × (distinctKeys (membersAt t i) ≡ distinctKeys (membersAt t at))
 
 abbrev μ-loop : tie.MeasureT-loop
-μ-loop t at i₀ n₀ i n = 16 - n
+μ-loop t at i₀ n₀ i n = 8 - n
 
 loop-holds : tie.Need-loop-holds Inv-loop μ-loop
 loop-holds c = (omega arith, refl)

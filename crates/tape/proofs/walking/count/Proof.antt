@@ -2,7 +2,6 @@
 use Prim.Native.Nat.{_-_}
 use mathlib.Core.Path.{sym, _∙_}
 use borrow.Author.Needs.{needs}
-use native.Mathlib.Omega.{arith}
 use Rattle.tape.proofs.Walks.{Counting, counting-start, counting-next, counting-end, counting-full}
 use Rattle.tape.proofs.walking.count.Statement.{statement}
 use Rattle.tape.proofs.walking.count.Tie as tie

@@ -1,5 +1,4 @@
 -- `tape::walking::past_leaf` meets its contract.
-use mathlib.Core.Path.{sym, _∙_}
 use mathlib.Core.Logic.{inl, inr, ⊎-elim}
 use borrow.Author.Needs.{needs}
 use Rattle.json.specs.Tape.{tagNumber}

@@ -1,5 +1,4 @@
 -- `tape::walking::text_at` meets its contract.
-use mathlib.Core.Path.{sym, _∙_}
 use mathlib.Core.Logic.{inl, inr, ⊎-elim}
 use native.Mathlib.Omega.{arith}
 use borrow.Author.Needs.{needs}

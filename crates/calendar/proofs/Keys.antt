@@ -1,0 +1,59 @@
+-- The table of keys.
+use Prim.Native.Nat.{ℕ, zero, suc, _+_, _-_, _≤_, _<_}
+use Prim.Native.Char.{code}
+use mathlib.Core.Path.{_≡_, refl, sym, ap, _∙_}
+use mathlib.Core.List.{List, [], _∷_, map}
+use native.Mathlib.Omega.{arith}
+use borrow.Author.Tests.{lt-ltb, le-ltb}
+use lib.ListN.{length, take, drop, List·getD-eq-default}
+use lib.Seq.{take-take}
+use Rattle.octets.specs.Basics.{octets, pick}
+use Rattle.octets.specs.Classes.{between, isLower, upperOctet, upper}
+use Rattle.octets.specs.Pieces.{split, cut, onto}
+use Rattle.octets.proofs.Positions.{upto}
+use Rattle.calendar.specs.Recurrence.{frequency, Key, key, keys}
+use Rattle.calendar.specs.Walk.{before, wordsIn, wordPlace, keyPlace, keyAt, partAt, keyed, partIn, firstPart}
+use Rattle.calendar.proofs.Pieces.{before-take}
+
+pub key-count : length keys ≡ 14
+unfolding keys
+key-count = refl
+
+-- k is none of the n numbers from m on, as a `match` tells in its last arm
+abbrev pub Away : ℕ → ℕ → ℕ → Type 0
+Away k m zero = Unit {0}
+Away k m (suc n) = Away k m n × (k ≡ m + n → ⊥)
+
+pub away : (k m n : ℕ) → Away k m n → m ≤ k → m + n ≤ k
+away k m zero a h = omega arith
+away k m (suc n) a h = let l = away k m n (a .0) h in omega (arith, a .1)
+
+-- FREQ has words as values, and so has what is no key
+pub other-sort : (k : ℕ) → Away k 1 13 → (keyAt k) .sort ≡ frequency
+unfolding keyAt
+other-sort zero a = unfold keys in refl
+other-sort (suc k) a = ap (λ (j : Key). j .sort) (List·getD-eq-default keys (key [] frequency) (rw key-count (away (suc k) 1 13 a (omega arith))))
+
+-- the names of the keys, as the code has them
+abbrev pub keyWords : List ℕ
+keyWords = octets "FREQ,UNTIL,COUNT,INTERVAL,BYSECOND,BYMINUTE,BYHOUR,BYDAY,BYMONTHDAY,BYYEARDAY,BYWEEKNO,BYMONTH,BYSETPOS,WKST"
+
+key-words : wordsIn keyWords ≡ map (λ (k : Key). k .name) keys
+unfolding wordsIn keys split cut onto upper upperOctet isLower between
+key-words = refl
+
+-- the part that a text begins with: `to` and n are where the scans ended, and k is the name's place
+module _ (s : List ℕ) (to n k : ℕ) (ends : to ≡ length (before (code ";") s)) (named : n ≡ length (before (code "=") (take (to - 0) (drop 0 s)))) where
+  whole : before (code ";") s ≡ take to s
+  whole = rw ends (before-take (code ";") s)
+
+  name-length : length (before (code "=") (before (code ";") s)) ≡ n
+  name-length = rw (whole, ← (upto s to)) (sym named)
+
+  pub first-keyed : n < to → k ≡ wordPlace (wordsIn keyWords) (upper (take (n - 0) (drop 0 s))) → partAt k n (n + 1) to ≡ firstPart s
+  unfolding firstPart partIn keyed keyPlace
+  first-keyed h e = rw (name-length, ← ends, lt-ltb n to h, whole, take-take n to s (omega arith), e, key-words, upto s n)
+
+  pub first-bare : to ≤ n → partAt 14 n n to ≡ firstPart s
+  unfolding firstPart partIn keyed
+  first-bare h = rw (name-length, ← ends, le-ltb n to h, key-count)

@@ -1,0 +1,149 @@
+-- The octets of a recurrence rule's values: uppercase letters, digits and signs, so no separator.
+use Prim.Native.Nat.{ℕ, zero, suc, _-_}
+use Prim.Native.Char.{code}
+use mathlib.Core.Path.{_≡_, refl, sym, ap, _∙_}
+use mathlib.Core.Bool.{Bool, true, false, not}
+use mathlib.Core.List.{List, [], _∷_, _++_, map}
+use mathlib.Core.Option.{Option, none, some}
+use native.Mathlib.Omega.{arith}
+use borrow.Author.Tests.{eqb-true}
+use lib.Dec.{eqb, leb}
+use lib.ListN.{length, getD, take, drop, take-append-drop}
+use Rattle.octets.specs.Basics.{octets, pick, _and_, _or_, all, any, filled, same, among}
+use Rattle.octets.specs.Optional.{map?, both?, then?, or?, isSome, when, guard, each}
+use Rattle.octets.specs.Classes.{between, isDigit, isUpper}
+use Rattle.octets.specs.Decimal.{digits, valueOf, isSign, hasSign, unsigned, trim, integerText}
+use Rattle.octets.specs.Limits.{mostInteger}
+use Rattle.octets.specs.Pieces.{split, joined}
+use Rattle.octets.proofs.Cases.{cases, both, either, never, and-true, or-first, or-second, apart, all-weaker, all-append, All, All-append, all-All, All-all}
+use Rattle.octets.proofs.Classes.{same-is}
+use Rattle.octets.proofs.Pieces.{Free, joined-split}
+use Rattle.calendar.specs.Forms.{Slot, digit, sign, letter, added, kept, extended, dateForm, clockForm, utc, dateTimeForm}
+use Rattle.calendar.specs.Dates.{dateOf, dateTimeOf, momentOf}
+use Rattle.calendar.proofs.Options.{when-is, guard-is, map-is, then-is}
+use Rattle.calendar.specs.Recurrence.{Sort, frequency, moment, count, weekday, ordinal, numbers, frequencies, weekdays, wordOf, untilOf, countOf, numberOf, ordinalOf, dayOf, itemOf}
+
+unfoldable pub itemOctet : ℕ → Bool
+itemOctet c = isUpper c or isDigit c or isSign c
+
+-- numbers
+digit-octet : (c : ℕ) → isDigit c ≡ true → itemOctet c ≡ true
+unfolding itemOctet
+digit-octet c e = or-second (isUpper c) (or-first (isSign c) e)
+
+sign-octet : (c : ℕ) → isSign c ≡ true → itemOctet c ≡ true
+unfolding itemOctet
+sign-octet c e = or-second (isUpper c) (or-second (isDigit c) e)
+
+digits-octets : (s : List ℕ) → digits s ≡ true → all itemOctet s ≡ true
+unfolding digits
+digits-octets s h = all-weaker isDigit itemOctet digit-octet s (both (filled s) (all isDigit s) h .1)
+
+unsigned-octets : (s : List ℕ) → all itemOctet (unsigned s) ≡ true → all itemOctet s ≡ true
+unfolding unsigned all
+unsigned-octets [] h = refl
+unsigned-octets (c ∷ s) h = cases (isSign c)
+    (λ e. and-true (sign-octet c e) (rw e at h))
+    (λ e. rw e at h)
+
+count-octets : (s v : List ℕ) → countOf s ≡ some v → all itemOctet s ≡ true
+unfolding countOf
+count-octets s v e = digits-octets s (both (digits s) _ (when-is _ (trim s) v e .0) .0)
+
+number-octets : (signed : Bool) (most lo hi : ℕ) (s v : List ℕ) → numberOf signed most lo hi s ≡ some v → all itemOctet s ≡ true
+unfolding numberOf
+number-octets signed most lo hi s v e =
+    let t = both (signed or not (hasSign s)) _ (when-is _ (integerText s) v e .0) in
+    unsigned-octets s (digits-octets (unsigned s) (both (digits (unsigned s)) _ (t .1) .0))
+
+-- words
+among-octets : (s : List ℕ) (ws : List (List ℕ)) → all (all itemOctet) ws ≡ true → among s ws ≡ true → all itemOctet s ≡ true
+unfolding all among any
+among-octets s [] h e = never e refl
+among-octets s (w ∷ ws) h e =
+    let b = both (all itemOctet w) (all (all itemOctet) ws) h in
+    either (same s w) (any (same s) ws) e (λ d. rw (same-is s w d) (b .0)) (λ d. among-octets s ws (b .1) d)
+
+word-octets : (ws : List (List ℕ)) → all (all itemOctet) ws ≡ true → (s v : List ℕ) → wordOf ws s ≡ some v → all itemOctet s ≡ true
+unfolding wordOf
+word-octets ws h s v e = among-octets s ws h (when-is (among s ws) s v e .0)
+
+frequency-octets : all (all itemOctet) frequencies ≡ true
+unfolding all frequencies itemOctet isUpper isDigit isSign between
+frequency-octets = refl
+
+weekday-octets : all (all itemOctet) weekdays ≡ true
+unfolding all weekdays itemOctet isUpper isDigit isSign between
+weekday-octets = refl
+
+-- weekdays with a number
+ordinal-octets : (s v : List ℕ) → ordinalOf s ≡ some v → all itemOctet s ≡ true
+unfolding ordinalOf
+ordinal-octets [] v e = unfold all in refl
+ordinal-octets (c ∷ s) v e = number-octets true 2 1 53 (c ∷ s) v e
+
+day-octets : (s v : List ℕ) → dayOf s ≡ some v → all itemOctet s ≡ true
+unfolding dayOf
+day-octets s v e =
+    let k = length s - 2 in
+    let t = then-is (wordOf weekdays (drop k s)) (λ d. map? (λ n. n ++ d) (ordinalOf (take k s))) v e in
+    let m = map-is (λ n. n ++ t .0) (ordinalOf (take k s)) v (t .2) in
+    let w : all itemOctet (take k s ++ drop k s) ≡ true
+    = all-append itemOctet (take k s) (drop k s) ∙ and-true (ordinal-octets (take k s) (m .0) (m .1)) (word-octets weekdays weekday-octets (drop k s) (t .0) (t .1)) in
+    rw (take-append-drop k s) at w
+
+-- a date or a date-time, by the slots of its form
+abbrev Lettered : List Slot → Type 0
+Lettered [] = Unit {0}
+Lettered (digit ∷ f) = Lettered f
+Lettered (sign ∷ f) = Lettered f
+Lettered (letter l ∷ f) = (itemOctet l ≡ true) × Lettered f
+Lettered (added a ∷ f) = Lettered f
+
+kept-is : (b : Bool) (x : ℕ) (r : Option (List ℕ)) (t : List ℕ) → kept b x r ≡ some t → (b ≡ true) × (u : List ℕ) × (r ≡ some u)
+unfolding kept
+kept-is false x r t e = let z : _≡_ {A = ℕ} 0 1 = cc in absurd (omega arith)
+kept-is true x r t e = let m = map-is (λ s. x ∷ s) r t e in (refl, m .0, m .1)
+
+form-octets : (f : List Slot) (s t : List ℕ) → Lettered f → extended f s ≡ some t → all itemOctet s ≡ true
+unfolding extended all
+form-octets [] [] t l e = refl
+form-octets [] (x ∷ s) t l e = let z : _≡_ {A = ℕ} 0 1 = cc in absurd (omega arith)
+form-octets (digit ∷ f) [] t l e = refl
+form-octets (digit ∷ f) (x ∷ s) t l e = let k = kept-is (isDigit x) x (extended f s) t e in and-true (digit-octet x (k .0)) (form-octets f s (k .1) l (k .2))
+form-octets (sign ∷ f) [] t l e = refl
+form-octets (sign ∷ f) (x ∷ s) t l e = let k = kept-is (isSign x) x (extended f s) t e in and-true (sign-octet x (k .0)) (form-octets f s (k .1) l (k .2))
+form-octets (letter a ∷ f) [] t l e = refl
+form-octets (letter a ∷ f) (x ∷ s) t l e =
+    let k = kept-is (eqb x a) a (extended f s) t e in
+    let q : itemOctet x ≡ true = rw (eqb-true x a (k .0)) (l .0) in
+    and-true q (form-octets f s (k .1) (l .1) (k .2))
+form-octets (added a ∷ f) s t l e = let k = kept-is true a (extended f s) t e in form-octets f s (k .1) l (k .2)
+
+date-lettered : Lettered dateForm
+unfolding dateForm
+date-lettered = tt
+
+dateTime-lettered : (z : Bool) → Lettered (dateTimeForm z)
+unfolding dateTimeForm dateForm clockForm utc itemOctet isUpper between
+dateTime-lettered true = (refl, (refl, tt))
+dateTime-lettered false = (refl, tt)
+
+moment-octets : (s v : List ℕ) → untilOf s ≡ some v → all itemOctet s ≡ true
+unfolding untilOf momentOf
+moment-octets s v e = by (dateOf s) refl (dateTimeOf s) refl (when-is _ s v e .0)
+  where
+    by : (o : Option (List ℕ)) → dateOf s ≡ o → (p : Option (List ℕ)) → dateTimeOf s ≡ p → isSome (or? o p) ≡ true → all itemOctet s ≡ true
+    by none d none m h = unfold or? isSome in never h refl
+    by none d (some t) m h = unfold dateTimeOf in form-octets (dateTimeForm (leb 16 (length s))) s t (dateTime-lettered (leb 16 (length s))) (guard-is _ _ t m .0)
+    by (some t) d p m h = unfold dateOf in form-octets dateForm s t date-lettered (guard-is _ _ t d .0)
+
+-- the octets of a value that is taken
+pub item-octets : (sort : Sort) (s v : List ℕ) → itemOf sort s ≡ some v → all itemOctet s ≡ true
+unfolding itemOf
+item-octets frequency s v e = word-octets frequencies frequency-octets s v e
+item-octets moment s v e = moment-octets s v e
+item-octets count s v e = count-octets s v e
+item-octets weekday s v e = word-octets weekdays weekday-octets s v e
+item-octets ordinal s v e = day-octets s v e
+item-octets (numbers signed most lo hi) s v e = number-octets signed most lo hi s v e

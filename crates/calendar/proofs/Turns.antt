@@ -1,0 +1,141 @@
+-- The turns of the loop that reads a recurrence rule: each reads the part at `at`, and refuses the text, goes on, or ends.
+use Prim.Native.Nat.{ℕ, _+_, _-_, _≤_, _<_}
+use mathlib.Core.Path.{_≡_, refl, sym, ap, _∙_}
+use mathlib.Core.Bool.{Bool, true, false}
+use mathlib.Core.List.{List, [], _∷_, _++_}
+use mathlib.Core.Option.{Option, none, some}
+use native.Mathlib.Omega.{arith}
+use borrow.Author.Tests.{ltb-true, ltb-false, lt-ltb, le-ltb, ne-eqb}
+use lib.Dec.{eqb, ltb}
+use lib.ListN.{length, getD, take, drop, set, length-drop}
+use lib.Seq.{drop-drop}
+use Rattle.octets.specs.Basics.{pick, _and_, _or_, single}
+use Rattle.octets.specs.Optional.{map?, both?, isSome, guard, each}
+use Rattle.octets.specs.Classes.{upper}
+use Rattle.octets.proofs.Cases.{cases, never, or-false-right}
+use Rattle.octets.proofs.Positions.{from}
+use Rattle.calendar.specs.Recurrence.{Key, Part, part, keyedPart, isRule, partsOf}
+use Rattle.calendar.specs.Walk.{keyAt, firstPart}
+use Rattle.calendar.specs.Rules.{ruleFrom, readRule}
+use Rattle.calendar.specs.Reading.{valuesStand, withValue, barred, ruleRead}
+use Rattle.calendar.specs.declared.parts.PartAt.{PartAt}
+use Rattle.calendar.specs.declared.rules.Head.{Head}
+use Rattle.calendar.proofs.Options.{map-is, some-map}
+use Rattle.calendar.proofs.Walk.{readParts, partFound, first-more, first-last, first-from, first-to}
+use Rattle.calendar.proofs.Gathering.{Gathered, gathered-more, gathered-lost, gathered-barred, gathered-all}
+
+-- the values of a part stand where the part can be read
+keyed-stands : (v : List ℕ) (k : Key) → isSome (keyedPart (upper v) k) ≡ valuesStand (k .sort) v
+unfolding keyedPart valuesStand
+keyed-stands v k = some-map (part k) _
+
+some-is : {A : Type 0} (o : Option A) → isSome o ≡ true → (a : A) × (o ≡ some a)
+unfolding isSome
+some-is none e = never e refl
+some-is (some a) e = (a, refl)
+
+none-is : {A : Type 0} (o : Option A) → isSome o ≡ false → o ≡ none
+unfolding isSome
+none-is none e = refl
+none-is (some a) e = never refl e
+
+keyed-name : (v : List ℕ) (k : Key) (p : Part) → keyedPart (upper v) k ≡ some p → p .name ≡ k .name
+unfolding keyedPart
+keyed-name v k p e = let m = map-is (part k) _ p e in rw (← (m .2))
+
+no-rule : (s : List ℕ) → guard isRule (readParts (upper s)) ≡ none → none ≡ readRule s
+unfolding readRule partsOf readParts
+no-rule s e = rw e (unfold map? in refl)
+
+the-rule : (s : List ℕ) → map? ruleFrom (guard isRule (readParts (upper s))) ≡ readRule s
+unfolding readRule partsOf readParts
+the-rule s = refl
+
+module _ (s : List ℕ) (at : ℕ) (q : PartAt) (is : q ≡ firstPart (take (length s - at) (drop at s))) where
+  here : firstPart (drop at s) ≡ q
+  here = sym (rw (from s at) at is)
+
+  pub part-ends : q .to ≤ length s - at
+  part-ends = rw (here, length-drop at s) at (first-to (drop at s))
+
+  pub part-begins : q .from ≤ q .to
+  part-begins = rw here at (first-from (drop at s))
+
+  pub part-inside : q .to < length (take (length s - at) (drop at s)) → q .to < length s - at
+  part-inside h = rw (from s at, length-drop at s) at h
+
+  more : q .to < length (take (length s - at) (drop at s)) → readParts (upper (drop at s)) ≡ both? _∷_ (partFound (drop at s) q) (readParts (upper (drop (at + q .to + 1) s)))
+  more h =
+      let n : at + (q .to + 1) ≡ at + q .to + 1 = omega arith in
+      rw (← n, ← (drop-drop (q .to + 1) at s)) (rw here at (first-more (drop at s) (rw (from s at, ← here) at h)))
+
+  last : length (take (length s - at) (drop at s)) ≤ q .to → readParts (upper (drop at s)) ≡ both? _∷_ (partFound (drop at s) q) (some [])
+  last h = rw here at (first-last (drop at s) (rw (from s at, ← here) at h))
+
+  module _ (seen : List Bool) (head : Head) (g : Gathered (readParts (upper s)) (readParts (upper (drop at s))) seen head) where
+    lost : partFound (drop at s) q ≡ none → none ≡ readRule s
+    unfolding both?
+    lost e = no-rule s (cases (ltb (q .to) (length (take (length s - at) (drop at s))))
+        (λ h. gathered-lost (rw (more (ltb-true (q .to) _ h), e) at g))
+        (λ h. gathered-lost (rw (last (ltb-false (q .to) _ h), e) at g)))
+
+    pub turn-unknown : 14 ≤ q .key → none ≡ readRule s
+    turn-unknown h = lost (rw (le-ltb (q .key) 14 h))
+
+    module _ (h : q .key < 14) where
+      found : partFound (drop at s) q ≡ keyedPart (upper (take (q .to - q .from) (drop (q .from) (take (length s - at) (drop at s))))) (keyAt (q .key))
+      found = rw (lt-ltb (q .key) 14 h, from s at)
+
+      named : (p : Part) → partFound (drop at s) q ≡ some p → p .name ≡ (keyAt (q .key)) .name
+      named p e = keyed-name _ (keyAt (q .key)) p (sym found ∙ e)
+
+      pub turn-barred : barred seen (q .key) ≡ true → none ≡ readRule s
+      turn-barred stop = no-rule s (cases (ltb (q .to) (length (take (length s - at) (drop at s))))
+          (λ l. gathered-barred (partFound (drop at s) q) _ (q .key) h (rw (more (ltb-true (q .to) _ l)) at g) named stop)
+          (λ l. gathered-barred (partFound (drop at s) q) _ (q .key) h (rw (last (ltb-false (q .to) _ l)) at g) named stop))
+
+      pub turn-wrong : valuesStand ((keyAt (q .key)) .sort) (take (q .to - q .from) (drop (q .from) (take (length s - at) (drop at s)))) ≡ false → none ≡ readRule s
+      turn-wrong e = lost (found ∙ none-is _ (keyed-stands _ (keyAt (q .key)) ∙ e))
+
+      module _ (free : barred seen (q .key) ≡ false)
+          (stand : valuesStand ((keyAt (q .key)) .sort) (take (q .to - q .from) (drop (q .from) (take (length s - at) (drop at s)))) ≡ true) where
+        abbrev value : List ℕ
+        value = take (q .to - q .from) (drop (q .from) (take (length s - at) (drop at s)))
+
+        read : (p : Part) × (keyedPart (upper value) (keyAt (q .key)) ≡ some p)
+        read = some-is _ (keyed-stands value (keyAt (q .key)) ∙ stand)
+
+        step : (left : Option (List Part)) → readParts (upper (drop at s)) ≡ both? _∷_ (partFound (drop at s) q) left
+            → Gathered (readParts (upper s)) left (set seen (q .key) true) (withValue head (q .key) value)
+        step left e = gathered-more left (read .0) (q .key) value h (rw (e, found, read .1) at g) (read .1) free
+
+        pub rule-on : q .to < length (take (length s - at) (drop at s))
+            → Gathered (readParts (upper s)) (readParts (upper (drop (at + q .to + 1) s))) (set seen (q .key) true) (withValue head (q .key) value)
+        rule-on l = step _ (more l)
+
+        pub rule-end : length (take (length s - at) (drop at s)) ≤ q .to → ruleRead (withValue head (q .key) value) (set seen (q .key) true) ≡ readRule s
+        rule-end l = sym (gathered-all (step _ (last l))) ∙ the-rule s
+
+-- as the code tests what may follow
+module _ (seen : List Bool) (k : ℕ) where
+  pub barred-seen : getD seen k false ≡ true → true ≡ barred seen k
+  unfolding barred
+  barred-seen e = rw e
+
+  module _ (e : getD seen k false ≡ false) where
+    pub barred-until : k ≡ 1 → getD seen 2 false ≡ barred seen k
+    unfolding barred
+    barred-until z = rw (e, z) (sym (or-false-right (getD seen 2 false)))
+
+    pub barred-count : k ≡ 2 → getD seen 1 false ≡ barred seen k
+    unfolding barred
+    barred-count z = rw (e, z)
+
+    pub barred-not : (k ≡ 1 → ⊥) → (k ≡ 2 → ⊥) → false ≡ barred seen k
+    unfolding barred
+    barred-not m n = rw (e, ne-eqb k 1 m, ne-eqb k 2 n)
+
+-- there is a rule where there are its parts
+pub rule-stands : (s : List ℕ) → isSome (readRule s) ≡ isSome (partsOf (upper s))
+unfolding readRule
+rule-stands s = some-map ruleFrom (partsOf (upper s))

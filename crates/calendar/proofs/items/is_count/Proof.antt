@@ -1,0 +1,19 @@
+-- `calendar::items::is_count` meets its contract.
+use mathlib.Core.Path.{sym, _∙_}
+use borrow.Author.Needs.{needs}
+use Rattle.calendar.proofs.Standing.{count-stands}
+use Rattle.calendar.proofs.items.is_count.Statement.{statement}
+use Rattle.calendar.proofs.items.is_count.Tie as tie
+
+is-within-requires : tie.Need-is-within-requires
+is-within-requires c κs = search needs
+
+returns : tie.Need-returns
+returns c = c .is-within .ensures ∙ sym (count-stands (c .before .before .args .s .now))
+
+pub is-count-spec : {M : Type 1} → statement M
+is-count-spec =
+    tie.close
+    (tie.spec
+    is-within-requires
+    returns)

@@ -1,0 +1,15 @@
+-- `calendar::parts::numbers` meets its contract.
+use mathlib.Core.Path.{refl}
+use Rattle.calendar.specs.Walk.{sortSaid}
+use Rattle.calendar.proofs.parts.numbers.Statement.{statement}
+use Rattle.calendar.proofs.parts.numbers.Tie as tie
+
+returns : tie.Need-returns
+unfolding sortSaid
+returns c = refl
+
+pub numbers-spec : {M : Type 1} → statement M
+numbers-spec =
+    tie.close
+    (tie.spec
+    returns)

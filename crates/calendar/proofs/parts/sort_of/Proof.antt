@@ -1,0 +1,115 @@
+-- `calendar::parts::sort_of` meets its contract: each row as the table has it.
+use mathlib.Core.Path.{sym, _∙_}
+use borrow.Author.Needs.{needs}
+use Rattle.calendar.specs.Recurrence.{keys}
+use Rattle.calendar.specs.Walk.{keyAt, sortSaid}
+use Rattle.calendar.proofs.Keys.{other-sort}
+use Rattle.calendar.proofs.parts.sort_of.Statement.{statement}
+use Rattle.calendar.proofs.parts.sort_of.Tie as tie
+
+numbers-requires : tie.Need-numbers-requires
+numbers-requires c κs = search needs
+
+numbers-requires-2 : tie.Need-numbers-requires-2
+numbers-requires-2 c κs = search needs
+
+numbers-requires-3 : tie.Need-numbers-requires-3
+numbers-requires-3 c κs = search needs
+
+numbers-requires-4 : tie.Need-numbers-requires-4
+numbers-requires-4 c κs = search needs
+
+numbers-requires-5 : tie.Need-numbers-requires-5
+numbers-requires-5 c κs = search needs
+
+numbers-requires-6 : tie.Need-numbers-requires-6
+numbers-requires-6 c κs = search needs
+
+numbers-requires-7 : tie.Need-numbers-requires-7
+numbers-requires-7 c κs = search needs
+
+numbers-requires-8 : tie.Need-numbers-requires-8
+numbers-requires-8 c κs = search needs
+
+returns : tie.Need-returns
+unfolding sortSaid keyAt keys
+returns c = rw (c .match .keys1)
+
+returns-2 : tie.Need-returns-2
+unfolding sortSaid keyAt keys
+returns-2 c = rw (c .match .keys2)
+
+returns-3 : tie.Need-returns-3
+unfolding sortSaid keyAt keys
+returns-3 c = rw (c .match .keys3)
+
+returns-4 : tie.Need-returns-4
+unfolding sortSaid keyAt keys
+returns-4 c = c .numbers .ensures ∙ rw (c .before .match .keys4)
+
+returns-5 : tie.Need-returns-5
+unfolding sortSaid keyAt keys
+returns-5 c = c .numbers2 .ensures ∙ rw (c .before .match .keys5)
+
+returns-6 : tie.Need-returns-6
+unfolding sortSaid keyAt keys
+returns-6 c = c .numbers3 .ensures ∙ rw (c .before .match .keys6)
+
+returns-7 : tie.Need-returns-7
+unfolding sortSaid keyAt keys
+returns-7 c = rw (c .match .keys7)
+
+returns-8 : tie.Need-returns-8
+unfolding sortSaid keyAt keys
+returns-8 c = c .numbers4 .ensures ∙ rw (c .before .match .keys8)
+
+returns-9 : tie.Need-returns-9
+unfolding sortSaid keyAt keys
+returns-9 c = c .numbers5 .ensures ∙ rw (c .before .match .keys9)
+
+returns-10 : tie.Need-returns-10
+unfolding sortSaid keyAt keys
+returns-10 c = c .numbers6 .ensures ∙ rw (c .before .match .keys10)
+
+returns-11 : tie.Need-returns-11
+unfolding sortSaid keyAt keys
+returns-11 c = c .numbers7 .ensures ∙ rw (c .before .match .keys11)
+
+returns-12 : tie.Need-returns-12
+unfolding sortSaid keyAt keys
+returns-12 c = c .numbers8 .ensures ∙ rw (c .before .match .keys12)
+
+returns-13 : tie.Need-returns-13
+unfolding sortSaid keyAt keys
+returns-13 c = rw (c .match .keys13)
+
+returns-14 : tie.Need-returns-14
+unfolding sortSaid
+returns-14 c = sym (other-sort (c .before .args .key) (c .match .rest))
+
+pub sort-of-spec : {M : Type 1} → statement M
+sort-of-spec =
+    tie.close
+    (tie.spec
+    numbers-requires
+    numbers-requires-2
+    numbers-requires-3
+    numbers-requires-4
+    numbers-requires-5
+    numbers-requires-6
+    numbers-requires-7
+    numbers-requires-8
+    returns
+    returns-2
+    returns-3
+    returns-4
+    returns-5
+    returns-6
+    returns-7
+    returns-8
+    returns-9
+    returns-10
+    returns-11
+    returns-12
+    returns-13
+    returns-14)

@@ -1,0 +1,33 @@
+-- `calendar::rules::rule_of` meets its contract.
+use mathlib.Core.Bool.{false}
+use borrow.Author.Needs.{needs}
+use borrow.Author.Tests.{not-true, not-false}
+use lib.ListN.{getD}
+use Rattle.octets.specs.Optional.{when}
+use Rattle.calendar.specs.Reading.{ruleRead}
+use Rattle.calendar.specs.Rules.{ruleSaid}
+use Rattle.calendar.proofs.rules.rule_of.Statement.{statement}
+use Rattle.calendar.proofs.rules.rule_of.Tie as tie
+
+array-read-if1 : tie.Need-array-read-if1
+array-read-if1 c = search needs
+
+returns : tie.Need-returns
+unfolding ruleSaid ruleRead when
+returns c = rw (not-true (getD (c .before .args .t2) 0 false) (c .if1 .taken))
+
+by-seen-requires : tie.Need-by-seen-requires
+by-seen-requires c κs = search needs
+
+returns-2 : tie.Need-returns-2
+unfolding ruleSaid ruleRead when
+returns-2 c = rw (not-false (getD (c .before .before .args .t2) 0 false) (c .before .if1 .left), c .by-seen .ensures)
+
+pub rule-of-spec : {M : Type 1} → statement M
+rule-of-spec =
+    tie.close
+    (tie.spec
+    array-read-if1
+    returns
+    by-seen-requires
+    returns-2)

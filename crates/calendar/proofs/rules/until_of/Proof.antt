@@ -1,0 +1,36 @@
+-- `calendar::rules::until_of` meets its contract.
+use mathlib.Core.Path.{sym, ap, _∙_}
+use borrow.Author.Needs.{needs}
+use Rattle.octets.specs.Optional.{given}
+use Rattle.calendar.specs.Answers.{momentSaid}
+use Rattle.calendar.specs.Reading.{lastOf}
+use Rattle.calendar.specs.declared.rules.End.the-variants.{Until, Open}
+use Rattle.calendar.proofs.rules.until_of.Statement.{statement}
+use Rattle.calendar.proofs.rules.until_of.Tie as tie
+
+read-moment-requires : tie.Need-read-moment-requires
+read-moment-requires c κs = search needs
+
+enum-known-m : tie.Need-enum-known-m
+enum-known-m c = search needs
+
+enum-told : tie.Need-enum-told
+enum-told c = search needs
+
+returns : tie.Need-returns
+unfolding lastOf given
+returns c = ap (given Open Until) (ap momentSaid (sym (c .before .m .given .1)) ∙ c .before .before .before .read-moment .ensures)
+
+returns-2 : tie.Need-returns-2
+unfolding lastOf given
+returns-2 c = ap (given Open Until) (ap momentSaid (sym (c .enum-told .given .1)) ∙ c .before .before .read-moment .ensures)
+
+pub until-of-spec : {M : Type 1} → statement M
+until-of-spec =
+    tie.close
+    (tie.spec
+    read-moment-requires
+    enum-known-m
+    enum-told
+    returns
+    returns-2)

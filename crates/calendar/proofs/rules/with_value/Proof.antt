@@ -1,0 +1,64 @@
+-- `calendar::rules::with_value` meets its contract: one field is new, or none.
+use borrow.Author.Needs.{needs}
+use borrow.Author.Tests.{ne-eqb}
+use Rattle.calendar.specs.Reading.{withValue}
+use Rattle.calendar.proofs.rules.with_value.Statement.{statement}
+use Rattle.calendar.proofs.rules.with_value.Tie as tie
+
+frequency-of-requires : tie.Need-frequency-of-requires
+frequency-of-requires c κs = search needs
+
+until-of-requires : tie.Need-until-of-requires
+until-of-requires c κs = search needs
+
+count-of-requires : tie.Need-count-of-requires
+count-of-requires c κs = search needs
+
+count-of-requires-2 : tie.Need-count-of-requires-2
+count-of-requires-2 c κs = search needs
+
+weekday-of-requires : tie.Need-weekday-of-requires
+weekday-of-requires c κs = search needs
+
+returns : tie.Need-returns
+unfolding withValue
+returns c = rw (c .before .match .keys1, c .frequency-of .ensures)
+
+returns-2 : tie.Need-returns-2
+unfolding withValue
+returns-2 c = rw (c .before .match .keys2, c .until-of .ensures)
+
+returns-3 : tie.Need-returns-3
+unfolding withValue
+returns-3 c = rw (c .before .match .keys3, c .count-of .ensures)
+
+returns-4 : tie.Need-returns-4
+unfolding withValue
+returns-4 c = rw (c .before .match .keys4, c .count-of2 .ensures)
+
+returns-5 : tie.Need-returns-5
+unfolding withValue
+returns-5 c = rw (c .before .match .keys5, c .weekday-of .ensures)
+
+returns-6 : tie.Need-returns-6
+unfolding withValue
+returns-6 c =
+    let k = c .before .before .args .key in
+    let n = c .match .rest in
+    rw (ne-eqb k 0 (n .0 .0 .0 .0 .1), ne-eqb k 1 (n .0 .0 .0 .1), ne-eqb k 2 (n .0 .0 .1), ne-eqb k 3 (n .0 .1), ne-eqb k 13 (n .1))
+
+pub with-value-spec : {M : Type 1} → statement M
+with-value-spec =
+    tie.close
+    (tie.spec
+    frequency-of-requires
+    until-of-requires
+    count-of-requires
+    count-of-requires-2
+    weekday-of-requires
+    returns
+    returns-2
+    returns-3
+    returns-4
+    returns-5
+    returns-6)

@@ -1,0 +1,67 @@
+-- Walking the text of a recurrence rule by places, letters in either case: its parts between semicolons, the place of their keys in `keys`, and
+-- where their values stand.
+use Prim.Native.Nat.{ℕ, suc, _+_, _-_}
+use Prim.Native.Char.{code}
+use mathlib.Core.List.{List, [], _∷_, _++_, map}
+use lib.Dec.{eqb, ltb}
+use lib.ListN.{length, getD, take, drop}
+use Rattle.octets.specs.Basics.{pick, same}
+use Rattle.octets.specs.Pieces.{split}
+use Rattle.octets.specs.Classes.{upper}
+use Rattle.octets.specs.Decimal.{integerText}
+use Rattle.calendar.specs.Recurrence.{Sort, frequency, moment, count, weekday, ordinal, numbers, Key, key, keys}
+use Rattle.calendar.specs.declared.parts.PartAt.{PartAt}
+use Rattle.calendar.specs.declared.parts.ItemSort.{ItemSort}
+use Rattle.calendar.specs.declared.parts.ItemSort.the-variants.{Frequency, Moment, Count, Weekday, Ordinal, Numbers}
+
+-- the octets before the first `sep`, or all of them
+unfoldable pub before : ℕ → List ℕ → List ℕ
+before sep [] = []
+before sep (c ∷ s) = pick (eqb c sep) [] (c ∷ before sep s)
+
+-- the words between commas, in uppercase
+unfoldable pub wordsIn : List ℕ → List (List ℕ)
+wordsIn s = split (code ",") (upper s)
+
+-- the place of a text among words; their number, where it is none of them
+unfoldable pub wordPlace : List (List ℕ) → List ℕ → ℕ
+wordPlace [] n = 0
+wordPlace (w ∷ ws) n = pick (same w n) 0 (suc (wordPlace ws n))
+
+unfoldable pub keyPlace : List ℕ → ℕ
+keyPlace n = wordPlace (map (λ (k : Key). k .name) keys) n
+
+unfoldable pub keyAt : ℕ → Key
+keyAt i = getD keys i (key [] frequency)
+
+-- the sort that a key's values are of, as the code has it
+unfoldable pub sortSaid : ItemSort → Sort
+sortSaid Frequency = frequency
+sortSaid Moment = moment
+sortSaid Count = count
+sortSaid Weekday = weekday
+sortSaid Ordinal = ordinal
+sortSaid (Numbers b) = numbers (b .signed) (b .most) (b .lo) (b .hi)
+
+abbrev pub partAt : ℕ → ℕ → ℕ → ℕ → PartAt
+partAt k n f t = record { key = k; name = n; from = f; to = t }
+
+-- a part whose name has n octets; without an equals sign it has no key
+unfoldable pub keyed : ℕ → List ℕ → PartAt
+keyed n p = pick (ltb n (length p)) (partAt (keyPlace (upper (take n p))) n (n + 1) (length p)) (partAt (length keys) n n (length p))
+
+unfoldable pub partIn : List ℕ → PartAt
+partIn p = keyed (length (before (code "=") p)) p
+
+-- the part that a text begins with
+unfoldable pub firstPart : List ℕ → PartAt
+firstPart s = partIn (before (code ";") s)
+
+-- a value as it is written: in uppercase, a number without plus and leading zeros
+unfoldable pub itemShown : Sort → List ℕ → List ℕ
+itemShown frequency s = upper s
+itemShown moment s = upper s
+itemShown count s = integerText s
+itemShown weekday s = upper s
+itemShown ordinal s = integerText (take (length s - 2) s) ++ upper (drop (length s - 2) s)
+itemShown (numbers signed most lo hi) s = integerText s

@@ -1,0 +1,127 @@
+// The parts of a recurrence rule by places in its text, and of what sort the values of each are.
+ghost use mathlib.Core.Path.{_≡_};
+ghost use lib.ListN.{length};
+ghost use Rattle.octets.specs.Classes.{upper};
+ghost use Rattle.calendar.specs.Recurrence.{numbers};
+ghost use Rattle.calendar.specs.Walk.{before, wordsIn, wordPlace, keyAt, sortSaid, firstPart};
+use octets::same_name;
+
+// A part: its key's place among the keys (14: none), the length of its name, where its values begin, and where it ends.
+pub struct PartAt {
+    pub key: usize,
+    pub name: usize,
+    pub from: usize,
+    pub to: usize,
+}
+
+// Numbers: whether they may have a sign, their most digits, and their bounds without the sign.
+pub struct Bounds {
+    pub signed: bool,
+    pub most: usize,
+    pub lo: u32,
+    pub hi: u32,
+}
+
+// What the values of a part are.
+pub enum ItemSort {
+    Frequency,
+    Moment,
+    Count,
+    Weekday,
+    Ordinal,
+    Numbers(Bounds),
+}
+
+// The place of the first octet `sep`, or the length.
+pub fn find(s: &[u8], sep: u8) -> usize
+    ensures { λ r. ⌜ r ≡ length (before sep (now (s .entry))) ⌝ }
+{
+    let mut i = 0;
+    while i < s.len() {
+        if s[i] == sep {
+            return i;
+        }
+        i += 1;
+    }
+    i
+}
+
+// The place of a name among words between commas, without case; the number of words, where it is none of them.
+pub fn word_place(words: &[u8], s: &[u8]) -> usize
+    ensures { λ r. ⌜ r ≡ wordPlace (wordsIn (now (words .entry))) (upper (now (s .entry))) ⌝ }
+{
+    let mut n = 0;
+    let mut at = 0;
+    loop {
+        let rest = &words[at..];
+        let e = find(rest, b',');
+        if same_name(&rest[0..e], s) {
+            return n;
+        }
+        n += 1;
+        if e >= rest.len() {
+            return n;
+        }
+        at = at + e + 1;
+    }
+}
+
+// The part that a text begins with.
+pub fn first_part(s: &[u8]) -> PartAt
+    ensures { λ r. ⌜ r ≡ firstPart (now (s .entry)) ⌝ }
+{
+    let to = find(s, b';');
+    let name = find(&s[0..to], b'=');
+    if name < to {
+        let key = word_place(
+            b"FREQ,UNTIL,COUNT,INTERVAL,BYSECOND,BYMINUTE,BYHOUR,BYDAY,BYMONTHDAY,BYYEARDAY,BYWEEKNO,BYMONTH,BYSETPOS,WKST",
+            &s[0..name],
+        );
+        PartAt {
+            key: key,
+            name: name,
+            from: name + 1,
+            to: to,
+        }
+    } else {
+        PartAt {
+            key: 14,
+            name: name,
+            from: name,
+            to: to,
+        }
+    }
+}
+
+fn numbers(signed: bool, most: usize, lo: u32, hi: u32) -> ItemSort
+    ensures { λ r. ⌜ sortSaid r ≡ numbers signed most lo hi ⌝ }
+{
+    ItemSort::Numbers(Bounds {
+        signed: signed,
+        most: most,
+        lo: lo,
+        hi: hi,
+    })
+}
+
+// What the values of the part with a key are.
+pub fn sort_of(key: usize) -> ItemSort
+    ensures { λ r. ⌜ sortSaid r ≡ (keyAt key) .sort ⌝ }
+{
+    match key {
+        1 => ItemSort::Moment,
+        2 => ItemSort::Count,
+        3 => ItemSort::Count,
+        4 => numbers(false, 2, 0, 60),
+        5 => numbers(false, 2, 0, 59),
+        6 => numbers(false, 2, 0, 23),
+        7 => ItemSort::Ordinal,
+        8 => numbers(true, 2, 1, 31),
+        9 => numbers(true, 3, 1, 366),
+        10 => numbers(true, 2, 1, 53),
+        11 => numbers(false, 2, 1, 12),
+        12 => numbers(true, 3, 1, 366),
+        13 => ItemSort::Weekday,
+        _ => ItemSort::Frequency,
+    }
+}

@@ -1,0 +1,168 @@
+-- Scans by places: a loop that looks for the first octet of a kind, where it ends, and what it passed.
+use Prim.Native.Nat.{ℕ, zero, suc, _+_, _-_, _≤_, _<_}
+use mathlib.Core.Path.{_≡_, refl, sym, ap, _∙_}
+use mathlib.Core.Bool.{Bool, true, false, not}
+use mathlib.Core.List.{List, [], _∷_, _++_}
+use native.Mathlib.Omega.{arith}
+use lib.ListN.{length, getD, take, drop, length-drop}
+use lib.Seq.{take-all, drop-drop, getD-drop}
+use Rattle.octets.specs.Basics.{pick, _and_}
+use Rattle.octets.proofs.Cases.{All, never}
+use Rattle.octets.proofs.Positions.{here, ended}
+use Rattle.content.specs.Line.{quoteAfter}
+use Rattle.content.specs.Scan.{until, untilBare}
+
+-- a choice between nothing and an octet with more
+le-by : (b : Bool) (c : ℕ) (l s : List ℕ) → length l ≤ length s → length (pick b [] (c ∷ l)) ≤ suc (length s)
+le-by true c l s h = omega arith
+le-by false c l s h = omega arith
+
+take-by : (b : Bool) (c : ℕ) (l s : List ℕ) → l ≡ take (length l) s → pick b [] (c ∷ l) ≡ take (length (pick b [] (c ∷ l))) (c ∷ s)
+take-by true c l s h = refl
+take-by false c l s h = ap (λ (t : List ℕ). c ∷ t) h
+
+module _ (stop : ℕ → Bool) where
+  pub until-le : (s : List ℕ) → length (until stop s) ≤ length s
+  unfolding until
+  until-le [] = omega arith
+  until-le (c ∷ s) = le-by (stop c) c (until stop s) s (until-le s)
+
+  pub until-take : (s : List ℕ) → until stop s ≡ take (length (until stop s)) s
+  unfolding until
+  until-take [] = refl
+  until-take (c ∷ s) = take-by (stop c) c (until stop s) s (until-take s)
+
+  -- no octet that was passed is of the kind
+  free-by : (b : Bool) (c : ℕ) (l : List ℕ) → stop c ≡ b → All (λ x. stop x ≡ false) l → All (λ x. stop x ≡ false) (pick b [] (c ∷ l))
+  free-by true c l e h = tt
+  free-by false c l e h = (e, h)
+
+  pub until-free : (s : List ℕ) → All (λ x. stop x ≡ false) (until stop s)
+  unfolding until
+  until-free [] = tt
+  until-free (c ∷ s) = free-by (stop c) c (until stop s) refl (until-free s)
+
+  -- an octet of the kind stands behind, or there is none
+  split-by : (b : Bool) (c : ℕ) (l s : List ℕ) → stop c ≡ b
+      → (length l < length s → (s ≡ l ++ getD s (length l) 0 ∷ drop (suc (length l)) s) × (stop (getD s (length l) 0) ≡ true))
+      → length (pick b [] (c ∷ l)) < suc (length s)
+      → (c ∷ s ≡ pick b [] (c ∷ l) ++ getD (c ∷ s) (length (pick b [] (c ∷ l))) 0 ∷ drop (length (pick b [] (c ∷ l))) s) × (stop (getD (c ∷ s) (length (pick b [] (c ∷ l))) 0) ≡ true)
+  split-by true c l s e f h = (refl, e)
+  split-by false c l s e f h = let g = f (omega arith) in (ap (λ (t : List ℕ). c ∷ t) (g .0), g .1)
+
+  pub until-split : (s : List ℕ) → length (until stop s) < length s
+      → (s ≡ until stop s ++ getD s (length (until stop s)) 0 ∷ drop (suc (length (until stop s))) s) × (stop (getD s (length (until stop s)) 0) ≡ true)
+  unfolding until
+  until-split [] h = absurd (omega arith)
+  until-split (c ∷ s) h = split-by (stop c) c (until stop s) s refl (until-split s) h
+
+  pub until-whole : (s : List ℕ) → length s ≤ length (until stop s) → until stop s ≡ s
+  until-whole s h = until-take s ∙ take-all (length (until stop s)) s h
+
+  -- a loop at i
+  module _ (s : List ℕ) (i : ℕ) where
+    pub until-none : length s ≤ i → length (until stop (drop i s)) ≡ 0
+    unfolding until
+    until-none h = rw (ended s i h)
+
+    pub until-here : i < length s → stop (getD s i 0) ≡ true → length (until stop (drop i s)) ≡ 0
+    unfolding until
+    until-here h e = rw (here s i h, e)
+
+    pub until-on : i < length s → stop (getD s i 0) ≡ false → length (until stop (drop i s)) ≡ suc (length (until stop (drop (i + 1) s)))
+    unfolding until
+    until-on h e = rw (here s i h, e)
+
+  -- the scan from i ends at e
+  module _ (s : List ℕ) (i e : ℕ) (q : e ≡ i + length (until stop (drop i s))) where
+    pub scan-low : i ≤ e
+    scan-low = omega arith
+
+    pub scan-high : i ≤ length s → e ≤ length s
+    scan-high h = omega (arith, until-le (drop i s), length-drop i s)
+
+    pub scan-is : take (e - i) (drop i s) ≡ until stop (drop i s)
+    scan-is =
+        let w : e - i ≡ length (until stop (drop i s)) = omega arith in
+        rw w (sym (until-take (drop i s)))
+
+    scan-octet : getD (drop i s) (length (until stop (drop i s))) 0 ≡ getD s e 0
+    scan-octet = getD-drop i s (length (until stop (drop i s))) 0 ∙ rw (← q)
+
+    pub scan-rest : drop (suc (length (until stop (drop i s)))) (drop i s) ≡ drop (e + 1) s
+    scan-rest =
+        let n : i + suc (length (until stop (drop i s))) ≡ e + 1 = omega arith in
+        drop-drop (suc (length (until stop (drop i s)))) i s ∙ rw n
+
+    scan-inner : e < length s → length (until stop (drop i s)) < length (drop i s)
+    scan-inner h = rw (length-drop i s) (omega arith)
+
+    pub scan-stop : e < length s → stop (getD s e 0) ≡ true
+    scan-stop h = rw scan-octet at (until-split (drop i s) (scan-inner h) .1)
+
+    pub scan-split : e < length s → drop i s ≡ until stop (drop i s) ++ getD s e 0 ∷ drop (e + 1) s
+    scan-split h = rw (scan-octet, scan-rest) at (until-split (drop i s) (scan-inner h) .0)
+
+    pub scan-whole : length s ≤ e → until stop (drop i s) ≡ drop i s
+    scan-whole h = until-whole (drop i s) (rw (length-drop i s) (omega arith))
+
+-- outside quotes
+module _ (stop : ℕ → Bool) where
+  pub bare-le : (q : Bool) (s : List ℕ) → length (untilBare stop q s) ≤ length s
+  unfolding untilBare
+  bare-le q [] = omega arith
+  bare-le q (c ∷ s) = le-by (not q and stop c) c (untilBare stop (quoteAfter q c) s) s (bare-le (quoteAfter q c) s)
+
+  pub bare-take : (q : Bool) (s : List ℕ) → untilBare stop q s ≡ take (length (untilBare stop q s)) s
+  unfolding untilBare
+  bare-take q [] = refl
+  bare-take q (c ∷ s) = take-by (not q and stop c) c (untilBare stop (quoteAfter q c) s) s (bare-take (quoteAfter q c) s)
+
+  -- the scan ends at an octet of the kind
+  ends-by : (b : Bool) (q : Bool) (c : ℕ) (l s : List ℕ) → (not q and stop c) ≡ b → (length l < length s → stop (getD s (length l) 0) ≡ true)
+      → length (pick b [] (c ∷ l)) < suc (length s) → stop (getD (c ∷ s) (length (pick b [] (c ∷ l))) 0) ≡ true
+  ends-by true true c l s e f h = never e refl
+  ends-by true false c l s e f h = e
+  ends-by false q c l s e f h = f (omega arith)
+
+  bare-ends : (q : Bool) (s : List ℕ) → length (untilBare stop q s) < length s → stop (getD s (length (untilBare stop q s)) 0) ≡ true
+  unfolding untilBare
+  bare-ends q [] h = absurd (omega arith)
+  bare-ends q (c ∷ s) h = ends-by (not q and stop c) q c (untilBare stop (quoteAfter q c) s) s refl (bare-ends (quoteAfter q c) s) h
+
+  -- a loop at i
+  module _ (s : List ℕ) (i : ℕ) (q : Bool) where
+    pub bare-none : length s ≤ i → length (untilBare stop q (drop i s)) ≡ 0
+    unfolding untilBare
+    bare-none h = rw (ended s i h)
+
+    pub bare-here : i < length s → (not q and stop (getD s i 0)) ≡ true → length (untilBare stop q (drop i s)) ≡ 0
+    unfolding untilBare
+    bare-here h e = rw (here s i h, e)
+
+    pub bare-on : i < length s → (not q and stop (getD s i 0)) ≡ false
+        → length (untilBare stop q (drop i s)) ≡ suc (length (untilBare stop (quoteAfter q (getD s i 0)) (drop (i + 1) s)))
+    unfolding untilBare
+    bare-on h e = rw (here s i h, e)
+
+  -- the scan from i ends at e
+  module _ (s : List ℕ) (i e : ℕ) (q : e ≡ i + length (untilBare stop false (drop i s))) where
+    pub bare-low : i ≤ e
+    bare-low = omega arith
+
+    pub bare-high : i ≤ length s → e ≤ length s
+    bare-high h = omega (arith, bare-le false (drop i s), length-drop i s)
+
+    pub bare-is : take (e - i) (drop i s) ≡ untilBare stop false (drop i s)
+    bare-is =
+        let w : e - i ≡ length (untilBare stop false (drop i s)) = omega arith in
+        rw w (sym (bare-take false (drop i s)))
+
+    pub bare-rest : drop (length (untilBare stop false (drop i s))) (drop i s) ≡ drop e s
+    bare-rest = drop-drop (length (untilBare stop false (drop i s))) i s ∙ rw (← q)
+
+    pub bare-stop : e < length s → stop (getD s e 0) ≡ true
+    bare-stop h =
+        let n : length (untilBare stop false (drop i s)) < length (drop i s) = rw (length-drop i s) (omega arith) in
+        let o : getD (drop i s) (length (untilBare stop false (drop i s))) 0 ≡ getD s e 0 = getD-drop i s (length (untilBare stop false (drop i s))) 0 ∙ rw (← q) in
+        rw o at (bare-ends false (drop i s) n)

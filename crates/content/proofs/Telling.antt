@@ -1,0 +1,177 @@
+-- What VALUE and ENCODING say, by places.
+use Prim.Native.Nat.{ℕ, suc, _+_, _-_, _≤_, _<_}
+use Prim.Native.Char.{code}
+use mathlib.Core.Path.{_≡_, refl, sym, ap, _∙_}
+use mathlib.Core.Bool.{Bool, true, false, not}
+use mathlib.Core.List.{List, [], _∷_, map}
+use mathlib.Core.Option.{Option, none, some}
+use native.Mathlib.Omega.{arith}
+use borrow.Author.Tests.{eqb-true, leb-true, leb-false}
+use lib.Dec.{eqb, leb}
+use lib.ListN.{length, getD, take, drop}
+use lib.Seq.{take-all}
+use Rattle.octets.specs.Basics.{octets, pick, _and_, _or_, all, any, same, filled, single}
+use Rattle.octets.specs.Pieces.{cut}
+use Rattle.octets.specs.Classes.{between, isDigit, isUpper, isLower, isLetter, nameOctet, isName, lowerOctet, upperOctet, upper, lower, sameName}
+use Rattle.octets.specs.Answers.{Answer, refused, accepted}
+use Rattle.octets.proofs.Cases.{cases, never}
+use Rattle.octets.proofs.Positions.{here, ended, upto}
+use Rattle.content.specs.Line.{Param, quoteAfter, bare, before, pieces, unquote, paramValue}
+use Rattle.content.specs.Carets.{decoded}
+use Rattle.content.specs.Scan.{untilBare}
+use Rattle.content.specs.Parts.{others, paramsIn, paramAt, CutParam, Inner}
+use Rattle.content.specs.Parameters.{called, token, valueType, isBase64, encodes, isEncoded}
+use Rattle.content.specs.Kinds.{kindOf, Tells}
+use Rattle.content.specs.declared.parts.ParamParts.{ParamParts}
+use Rattle.content.specs.declared.parts.Span.{Span}
+use Rattle.content.specs.declared.params.ValueType.{ValueType}
+use Rattle.content.specs.declared.params.ValueType.the-variants.{Absent, Named, Faulty}
+use Rattle.content.proofs.Scanning.{bare-rest, bare-stop}
+use Rattle.content.proofs.Separators.{oneOf, twice-one, before-is, sep-before, pieces-first}
+use Rattle.content.proofs.Walking.{same-lower, Stands, no-params, param-here}
+use Rattle.content.proofs.Tokens.{decoded-name, name-decoded, word-decoded}
+
+-- the values of a parameter are one where no comma separates them
+module _ (t : List ℕ) (c : ℕ) (q : c ≡ 0 + length (untilBare (oneOf (code ",") (code ",")) false (drop 0 t))) where
+  pieces-at : pieces (code ",") false t ≡ before (code ",") false t ∷ others (pieces (code ",") false (drop c t))
+  pieces-at = pieces-first (code ",") false t ∙ rw (← before-is (code ",") false t, bare-rest (oneOf (code ",") (code ",")) t 0 c q)
+
+  pub single-one : length t ≤ c → single (pieces (code ",") false t) ≡ true
+  unfolding single filled pieces others
+  single-one h = rw (pieces-at, ended t c h)
+
+  comma : c < length t → getD t c 0 ≡ code ","
+  comma h = eqb-true (getD t c 0) (code ",") (rw (twice-one (eqb (getD t c 0) (code ","))) at (bare-stop (oneOf (code ",") (code ",")) t 0 c q h))
+
+  pub single-not : c < length t → single (pieces (code ",") false t) ≡ false
+  single-not h = rw (pieces-at, here t c h, comma h) (unfold pieces bare cut others in more (drop (c + 1) t))
+    where
+      more : (r : List ℕ) → single (before (code ",") false t ∷ pieces (code ",") (quoteAfter false (code ",")) r) ≡ false
+      more r = rw (pieces-first (code ",") (quoteAfter false (code ",")) r) (unfold single filled in refl)
+
+  pub single-told : single (pieces (code ",") false t) ≡ leb (length t) c
+  single-told = cases (leb (length t) c)
+      (λ e. single-one (leb-true (length t) c e) ∙ sym e)
+      (λ e. single-not (leb-false (length t) c e) ∙ sym e)
+
+  one-at : single (pieces (code ",") false t) ≡ true → pieces (code ",") false t ≡ t ∷ []
+  unfolding pieces others
+  one-at h =
+      let l : length t ≤ c = leb-true (length t) c (sym single-told ∙ h) in
+      let w : before (code ",") false t ≡ t = sep-before (code ",") t 0 c q ∙ upto t c ∙ take-all c t l in
+      pieces-at ∙ rw (ended t c l, w)
+
+pub one-value : (t : List ℕ) → single (pieces (code ",") false t) ≡ true → pieces (code ",") false t ≡ t ∷ []
+one-value t h = one-at t (0 + length (untilBare (oneOf (code ",") (code ",")) false (drop 0 t))) refl h
+
+-- several values
+token-by : (vs : List (List ℕ)) → single vs ≡ false → token vs ≡ refused 7
+unfolding token single filled
+token-by [] h = refl
+token-by (v ∷ []) h = never refl h
+token-by (v ∷ w ∷ vs) h = refl
+
+single-map : (vs : List (List ℕ)) → single (map paramValue vs) ≡ single vs
+unfolding single filled
+single-map [] = refl
+single-map (v ∷ []) = refl
+single-map (v ∷ w ∷ vs) = refl
+
+base64-by : (vs : List (List ℕ)) → single vs ≡ false → isBase64 vs ≡ false
+unfolding isBase64 single filled
+base64-by [] h = refl
+base64-by (v ∷ []) h = never refl h
+base64-by (v ∷ w ∷ vs) h = refl
+
+-- a word in the case of its definition
+pub called-is : (w x : List ℕ) → lower w ≡ w → sameName x w ≡ same (lower x) w
+called-is w x e = same-lower x w ∙ rw e
+
+-- the values from v to e, and the first without its quotes
+module _ (s : List ℕ) (v e : ℕ) where
+  pub tells-several : single (pieces (code ",") false (take (e - v) (drop v s))) ≡ false → Tells s (token (map paramValue (pieces (code ",") false (take (e - v) (drop v s))))) Faulty
+  unfolding kindOf
+  tells-several h = record { is = sym (token-by _ (single-map _ ∙ h)); within = tt }
+
+  pub base64-several : single (pieces (code ",") false (take (e - v) (drop v s))) ≡ false → isBase64 (map paramValue (pieces (code ",") false (take (e - v) (drop v s)))) ≡ false
+  base64-several h = base64-by _ (single-map _ ∙ h)
+
+  module _ (h : single (pieces (code ",") false (take (e - v) (drop v s))) ≡ true) (p : Span) (k : Inner s v e p) where
+    value : map paramValue (pieces (code ",") false (take (e - v) (drop v s))) ≡ decoded (take (p .end - p .from) (drop (p .from) s)) ∷ []
+    unfolding paramValue
+    value = rw (one-value (take (e - v) (drop v s)) h, k .is)
+
+    pub tells-no-name : isName (take (p .end - p .from) (drop (p .from) s)) ≡ false → Tells s (token (map paramValue (pieces (code ",") false (take (e - v) (drop v s))))) Faulty
+    unfolding kindOf token
+    tells-no-name n = record { is = rw (value, name-decoded (take (p .end - p .from) (drop (p .from) s)), n); within = tt }
+
+    module _ (n : isName (take (p .end - p .from) (drop (p .from) s)) ≡ true) where
+      token-is : token (map paramValue (pieces (code ",") false (take (e - v) (drop v s))))
+          ≡ pick (not (same (lower (take (p .end - p .from) (drop (p .from) s))) (octets "unknown"))) (accepted (some (lower (take (p .end - p .from) (drop (p .from) s))))) (refused 7)
+      unfolding token
+      token-is = rw (value, decoded-name (take (p .end - p .from) (drop (p .from) s)) n, n)
+
+      pub tells-unknown : sameName (take (p .end - p .from) (drop (p .from) s)) (octets "unknown") ≡ true → Tells s (token (map paramValue (pieces (code ",") false (take (e - v) (drop v s))))) Faulty
+      unfolding kindOf
+      tells-unknown u = record { is = sym (token-is ∙ rw (sym (called-is (octets "unknown") _ (unfold lower lowerOctet isUpper between in refl)) ∙ u)); within = tt }
+
+      pub tells-named : e ≤ length s → sameName (take (p .end - p .from) (drop (p .from) s)) (octets "unknown") ≡ false
+          → Tells s (token (map paramValue (pieces (code ",") false (take (e - v) (drop v s))))) (Named (p .from) (p .end))
+      unfolding kindOf
+      tells-named l u = record {
+        is = sym (token-is ∙ rw (sym (called-is (octets "unknown") _ (unfold lower lowerOctet isUpper between in refl)) ∙ u));
+        within = (k .order, omega (arith, k .high));
+      }
+
+    pub base64-one : sameName (take (p .end - p .from) (drop (p .from) s)) (octets "BASE64") ≡ isBase64 (map paramValue (pieces (code ",") false (take (e - v) (drop v s))))
+    unfolding isBase64 sameName
+    base64-one = rw (value, word-decoded (octets "BASE64") (take (p .end - p .from) (drop (p .from) s)) all-names, upper-base64)
+      where
+        all-names : all nameOctet (octets "BASE64") ≡ true
+        all-names = unfold all nameOctet isLetter isUpper isLower isDigit between in refl
+
+        upper-base64 : upper (octets "BASE64") ≡ octets "BASE64"
+        upper-base64 = unfold upper upperOctet isLower between in refl
+
+-- the walk for VALUE
+pub tells : {s : List ℕ} {a b : Answer (Option (List ℕ))} {k : ValueType} → a ≡ b → Tells s b k → Tells s a k
+tells e t = rw e t
+
+module _ (s : List ℕ) (e : ℕ) where
+  pub type-none : length s ≤ e → Tells s (valueType (paramsIn (drop e s))) Absent
+  unfolding valueType kindOf
+  type-none h = record { is = rw (no-params s e h); within = tt }
+
+  module _ (st : Stands s e) (h : e < length s) (p : ParamParts) (k : CutParam s (e + 1) p) where
+    pub type-here : sameName (take (p .name - (e + 1)) (drop (e + 1) s)) (octets "value") ≡ true
+        → valueType (paramsIn (drop e s)) ≡ token (map paramValue (pieces (code ",") false (take (p .end - p .values) (drop (p .values) s))))
+    unfolding valueType called paramAt
+    type-here t = rw (param-here s e st h p k, sym (called-is (octets "value") (take (p .name - (e + 1)) (drop (e + 1) s)) (unfold lower lowerOctet isUpper between in refl)) ∙ t)
+
+    pub type-on : sameName (take (p .name - (e + 1)) (drop (e + 1) s)) (octets "value") ≡ false
+        → valueType (paramsIn (drop e s)) ≡ valueType (paramsIn (drop (p .end) s))
+    unfolding valueType called paramAt
+    type-on t = rw (param-here s e st h p k, sym (called-is (octets "value") (take (p .name - (e + 1)) (drop (e + 1) s)) (unfold lower lowerOctet isUpper between in refl)) ∙ t)
+
+-- the walk for ENCODING
+module _ (s : List ℕ) (e : ℕ) where
+  pub encoded-none : length s ≤ e → isEncoded (paramsIn (drop e s)) ≡ false
+  unfolding isEncoded any
+  encoded-none h = rw (no-params s e h)
+
+  module _ (st : Stands s e) (h : e < length s) (p : ParamParts) (k : CutParam s (e + 1) p) where
+    encoded-turn : isEncoded (paramsIn (drop e s)) ≡ ((sameName (take (p .name - (e + 1)) (drop (e + 1) s)) (octets "encoding")
+        and isBase64 (map paramValue (pieces (code ",") false (take (p .end - p .values) (drop (p .values) s))))) or isEncoded (paramsIn (drop (p .end) s)))
+    unfolding isEncoded any encodes called paramAt
+    encoded-turn = rw (param-here s e st h p k, called-is (octets "encoding") (take (p .name - (e + 1)) (drop (e + 1) s)) (unfold lower lowerOctet isUpper between in refl))
+
+    pub encoded-here : sameName (take (p .name - (e + 1)) (drop (e + 1) s)) (octets "encoding") ≡ true
+        → isBase64 (map paramValue (pieces (code ",") false (take (p .end - p .values) (drop (p .values) s)))) ≡ true → isEncoded (paramsIn (drop e s)) ≡ true
+    encoded-here t b = encoded-turn ∙ rw (t, b)
+
+    pub encoded-not : sameName (take (p .name - (e + 1)) (drop (e + 1) s)) (octets "encoding") ≡ true
+        → isBase64 (map paramValue (pieces (code ",") false (take (p .end - p .values) (drop (p .values) s)))) ≡ false → isEncoded (paramsIn (drop e s)) ≡ isEncoded (paramsIn (drop (p .end) s))
+    encoded-not t b = encoded-turn ∙ rw (t, b)
+
+    pub encoded-on : sameName (take (p .name - (e + 1)) (drop (e + 1) s)) (octets "encoding") ≡ false → isEncoded (paramsIn (drop e s)) ≡ isEncoded (paramsIn (drop (p .end) s))
+    encoded-on t = encoded-turn ∙ rw t

@@ -1,0 +1,296 @@
+-- Unfolding by runs: what stands before an LF goes into its line, but for a CR right before it; the LF ends the line or folds it.
+use Prim.Native.Nat.{ℕ, zero, suc, _+_, _-_, _≤_, _<_}
+use Prim.Native.Char.{code}
+use mathlib.Core.Path.{_≡_, refl, sym, ap, _∙_}
+use mathlib.Core.Bool.{Bool, true, false}
+use mathlib.Core.List.{List, [], _∷_, _++_, append-nil, append-assoc}
+use native.Mathlib.Omega.{arith}
+use borrow.Author.Tests.{eqb-true, ltb-true, ltb-false}
+use lib.Dec.{eqb, ltb}
+use lib.ListN.{length, getD, take, drop, length-drop}
+use lib.Seq.{drop-drop}
+use Rattle.octets.specs.Basics.{pick, _and_, _or_, filled}
+use Rattle.octets.specs.Pieces.{onto}
+use Rattle.octets.specs.Pen.{pen, Wrote}
+use Rattle.octets.proofs.Cases.{cases, All, and-false-right, or-false-right, or-true-right}
+use Rattle.octets.proofs.Pen.{kept, landed}
+use Rattle.octets.proofs.Pieces.{Free}
+use Rattle.octets.proofs.Positions.{here, ended, part-more, part-length, first-of}
+use Rattle.content.specs.Lines.{endingOf, isBlank, Mark, octet, ending, fold, markOf, marked, linesFrom, linesOf, laidOut}
+use Rattle.content.specs.Scan.{until}
+use Rattle.content.specs.Buffer.{isLf, linesIn}
+use Rattle.content.proofs.Scanning.{until-free, scan-low, scan-is, scan-stop, scan-split, scan-whole}
+use Rattle.content.proofs.Buffer.{lines-again}
+
+-- octets in front of the first line
+ontoAll : List ℕ → List (List ℕ) → List (List ℕ)
+ontoAll [] ls = ls
+ontoAll (c ∷ s) ls = onto c (ontoAll s ls)
+
+-- without a last CR
+withoutCr : List ℕ → List ℕ
+withoutCr [] = []
+withoutCr (c ∷ []) = pick (eqb c (code "\r")) [] (c ∷ [])
+withoutCr (c ∷ d ∷ s) = c ∷ withoutCr (d ∷ s)
+
+-- what an LF makes of the lines behind it: it folds where a blank follows, and ends a line elsewhere
+behindLf : List ℕ → List (List ℕ)
+behindLf t = pick (isBlank (getD t 0 0)) (linesFrom 1 t) ([] ∷ linesFrom 0 t)
+
+-- an octet that begins no ending
+plain-mark : (c : ℕ) (s : List ℕ) → eqb c (code "\n") ≡ false → (eqb c (code "\r") and eqb (getD s 0 0) (code "\n")) ≡ false → markOf (c ∷ s) ≡ octet
+unfolding markOf endingOf
+plain-mark c s e f = rw (e, f)
+
+lines-past : (t : List ℕ) → linesFrom 1 t ≡ linesFrom 0 (drop 1 t)
+unfolding linesFrom
+lines-past [] = refl
+lines-past (c ∷ t) = refl
+
+-- an LF, and a CR before it
+lf-by : (b : Bool) (t : List ℕ) → marked (pick b (fold 1) (ending 0)) (code "\n") (λ k. linesFrom k t) ≡ pick b (linesFrom 1 t) ([] ∷ linesFrom 0 t)
+unfolding marked
+lf-by true t = refl
+lf-by false t = refl
+
+run-none : (t : List ℕ) → linesFrom 0 (code "\n" ∷ t) ≡ behindLf t
+unfolding linesFrom markOf endingOf behindLf
+run-none t = lf-by (isBlank (getD t 0 0)) t
+
+crlf-by : (c : ℕ) (b : Bool) (t : List ℕ) → marked (pick b (fold 2) (ending 1)) c (λ k. linesFrom k (code "\n" ∷ t)) ≡ pick b (linesFrom 1 t) ([] ∷ linesFrom 0 t)
+unfolding marked linesFrom
+crlf-by c true t = refl
+crlf-by c false t = refl
+
+run-cr : (c : ℕ) (t : List ℕ) → eqb c (code "\n") ≡ false → eqb c (code "\r") ≡ true → linesFrom 0 (c ∷ code "\n" ∷ t) ≡ behindLf t
+unfolding linesFrom markOf endingOf behindLf
+run-cr c t e f = rw (e, f) (crlf-by c (isBlank (getD t 0 0)) t)
+
+run-octet : (c : ℕ) (s : List ℕ) → markOf (c ∷ s) ≡ octet → linesFrom 0 (c ∷ s) ≡ onto c (linesFrom 0 s)
+unfolding linesFrom marked
+run-octet c s e = rw e
+
+run-one : (c : ℕ) (t : List ℕ) → eqb c (code "\n") ≡ false → linesFrom 0 (c ∷ code "\n" ∷ t) ≡ ontoAll (withoutCr (c ∷ [])) (behindLf t)
+unfolding withoutCr ontoAll
+run-one c t e = cases (eqb c (code "\r"))
+    (λ f. rw f (run-cr c t e f))
+    (λ f. rw f (run-octet c (code "\n" ∷ t) (plain-mark c (code "\n" ∷ t) e (rw f)) ∙ ap (onto c) (run-none t)))
+
+-- a run of octets up to an LF
+run-lf : (f t : List ℕ) → Free (code "\n") f → linesFrom 0 (f ++ code "\n" ∷ t) ≡ ontoAll (withoutCr f) (behindLf t)
+unfolding withoutCr ontoAll
+run-lf [] t n = run-none t
+run-lf (c ∷ []) t n = run-one c t (n .0)
+run-lf (c ∷ d ∷ f) t n =
+    run-octet c (d ∷ f ++ code "\n" ∷ t) (plain-mark c (d ∷ f ++ code "\n" ∷ t) (n .0) (rw (n .1 .0) (and-false-right (eqb c (code "\r")))))
+    ∙ ap (onto c) (run-lf (d ∷ f) t (n .1))
+
+-- a run of octets up to the end of the text
+not-lf : (s : List ℕ) → Free (code "\n") s → eqb (getD s 0 0) (code "\n") ≡ false
+not-lf [] n = refl
+not-lf (c ∷ s) n = n .0
+
+run-end : (s : List ℕ) → Free (code "\n") s → linesFrom 0 s ≡ ontoAll s []
+unfolding linesFrom ontoAll
+run-end [] n = refl
+run-end (c ∷ s) n =
+    run-octet c s (plain-mark c s (n .0) (rw (not-lf s (n .1)) (and-false-right (eqb c (code "\r")))))
+    ∙ ap (onto c) (run-end s (n .1))
+
+-- the lines laid out, where the line before them is begun or not: one that is begun is ended at the end of the text
+unfoldable pub laidFrom : Bool → List (List ℕ) → List ℕ
+laidFrom true [] = code "\n" ∷ []
+laidFrom false [] = []
+laidFrom b (l ∷ ls) = laidOut (l ∷ ls)
+
+pub laid-fresh : (ls : List (List ℕ)) → laidFrom false ls ≡ laidOut ls
+unfolding laidFrom laidOut
+laid-fresh [] = refl
+laid-fresh (l ∷ ls) = refl
+
+laid-one : (b : Bool) (c : ℕ) (ls : List (List ℕ)) → laidFrom b (onto c ls) ≡ c ∷ laidFrom true ls
+unfolding laidFrom laidOut onto
+laid-one b c [] = refl
+laid-one b c (l ∷ ls) = refl
+
+laid-all : (b : Bool) (xs : List ℕ) (ls : List (List ℕ)) → laidFrom b (ontoAll xs ls) ≡ xs ++ laidFrom (b or filled xs) ls
+unfolding ontoAll filled
+laid-all b [] ls = rw (or-false-right b)
+laid-all b (x ∷ xs) ls = rw (or-true-right b) (laid-one b x (ontoAll xs ls) ∙ ap (λ (r : List ℕ). x ∷ r) (laid-all true xs ls))
+
+laid-lf : (b : Bool) (ls : List (List ℕ)) → laidFrom b ([] ∷ ls) ≡ code "\n" ∷ laidFrom false ls
+unfolding laidFrom laidOut
+laid-lf b [] = refl
+laid-lf b (l ∷ ls) = refl
+
+-- without its last CR, by places
+without-last : (xs : List ℕ) (c : ℕ) → withoutCr (xs ++ c ∷ []) ≡ xs ++ pick (eqb c (code "\r")) [] (c ∷ [])
+unfolding withoutCr
+without-last [] c = refl
+without-last (x ∷ []) c = refl
+without-last (x ∷ y ∷ xs) c = ap (λ (r : List ℕ). x ∷ r) (without-last (y ∷ xs) c)
+
+-- where the octets of a line end that run from i to the LF at e
+abbrev pub trimTo : List ℕ → ℕ → ℕ → ℕ
+trimTo s i e = pick (ltb i e and eqb (getD s (e - 1) 0) (code "\r")) (e - 1) e
+
+module _ (s : List ℕ) (i e : ℕ) (h : i ≤ e) (l : e ≤ length s) where
+  last-of : i < e → take (e - i) (drop i s) ≡ take (e - 1 - i) (drop i s) ++ getD s (e - 1) 0 ∷ []
+  last-of g =
+      let n : e - 1 + 1 ≡ e = omega arith in
+      rw n at (part-more s i (e - 1) (omega arith) (omega arith))
+
+  trim-cr : i < e → eqb (getD s (e - 1) 0) (code "\r") ≡ true → withoutCr (take (e - i) (drop i s)) ≡ take (e - 1 - i) (drop i s)
+  trim-cr g c = rw (last-of g, without-last, c) (append-nil _)
+
+  trim-not : i < e → eqb (getD s (e - 1) 0) (code "\r") ≡ false → withoutCr (take (e - i) (drop i s)) ≡ take (e - i) (drop i s)
+  trim-not g c = rw (last-of g, without-last, c)
+
+  trim-empty : e ≤ i → withoutCr (take (e - i) (drop i s)) ≡ take (e - i) (drop i s)
+  unfolding withoutCr
+  trim-empty g = let n : e - i ≡ 0 = omega arith in rw n
+
+  trim-is : withoutCr (take (e - i) (drop i s)) ≡ take (trimTo s i e - i) (drop i s)
+  trim-is = cases (ltb i e)
+      (λ g. rw g (cases (eqb (getD s (e - 1) 0) (code "\r"))
+      (λ c. rw c (trim-cr (ltb-true i e g) c))
+      (λ c. rw c (trim-not (ltb-true i e g) c))))
+      (λ g. rw g (trim-empty (ltb-false i e g)))
+
+  trim-low : i ≤ trimTo s i e
+  trim-low = cases (ltb i e)
+      (λ g. rw g (cases (eqb (getD s (e - 1) 0) (code "\r")) (λ c. rw c (omega (arith, ltb-true i e g))) (λ c. rw c h)))
+      (λ g. rw g h)
+
+  trim-high : trimTo s i e ≤ e
+  trim-high = cases (ltb i e)
+      (λ g. rw g (cases (eqb (getD s (e - 1) 0) (code "\r")) (λ c. rw c (omega arith)) (λ c. rw c (omega arith))))
+      (λ g. rw g (omega arith))
+
+  pub trim-within : (k : ℕ) → k ≡ trimTo s i e → (i ≤ k) × (k ≤ e)
+  trim-within k t = (rw t trim-low, rw t trim-high)
+
+-- a part from i to k is filled where i is below k
+part-filled : (s : List ℕ) (i k : ℕ) → i ≤ k → k ≤ length s → filled (take (k - i) (drop i s)) ≡ ltb i k
+unfolding filled
+part-filled s i k h l = cases (ltb i k)
+    (λ g. rw g (some (take (k - i) (drop i s)) (rw (part-length s i k h l) (omega (arith, ltb-true i k g)))))
+    (λ g. let n : k - i ≡ 0 = omega (arith, ltb-false i k g) in rw (g, n))
+  where
+    some : (t : List ℕ) → 0 < length t → filled t ≡ true
+    some [] g = absurd (omega arith)
+    some (c ∷ t) g = refl
+
+-- One turn: the run from i to e goes into its line. What stands behind the LF, or at the end of the text?
+module _ (s : List ℕ) (b : Bool) (i e : ℕ) (q : e ≡ i + length (until isLf (drop i s))) where
+  pub turn-last : i < length s → length s ≤ e → laidFrom b (linesFrom 0 (drop i s)) ≡ take (e - i) (drop i s) ++ code "\n" ∷ []
+  unfolding laidFrom filled
+  turn-last h l =
+      let w : until isLf (drop i s) ≡ drop i s = scan-whole isLf s i e q l in
+      let f : filled (drop i s) ≡ true = rw (here s i h) in
+      rw (scan-is isLf s i e q, w) (ap (laidFrom b) (run-end (drop i s) (rw w at (until-free isLf (drop i s)))) ∙ laid-all b (drop i s) [] ∙ rw (f, or-true-right b))
+
+  behind-run : e < length s → linesFrom 0 (drop i s) ≡ ontoAll (take (trimTo s i e - i) (drop i s)) (behindLf (drop (e + 1) s))
+  behind-run l =
+      let c : getD s e 0 ≡ code "\n" = eqb-true (getD s e 0) (code "\n") (scan-stop isLf s i e q l) in
+      ap (linesFrom 0) (scan-split isLf s i e q l)
+      ∙ rw (c, run-lf (until isLf (drop i s)) (drop (e + 1) s) (until-free isLf (drop i s)), ← scan-is isLf s i e q, trim-is s i e (scan-low isLf s i e q) (omega arith))
+
+  -- the run's octets in front of what an LF makes
+  run-on : e < length s → laidFrom b (linesFrom 0 (drop i s))
+      ≡ take (trimTo s i e - i) (drop i s) ++ laidFrom (b or ltb i (trimTo s i e)) (behindLf (drop (e + 1) s))
+  run-on l =
+      let g = scan-low isLf s i e q in
+      let n : trimTo s i e ≤ length s = omega (arith, trim-high s i e g (omega arith)) in
+      let w : e ≤ length s = omega arith in
+      ap (laidFrom b) (behind-run l) ∙ laid-all b _ _ ∙ rw (part-filled s i (trimTo s i e) (trim-low s i e g w) n)
+
+  pub turn-fold : (k : ℕ) → k ≡ trimTo s i e → e < length s → isBlank (getD s (e + 1) 0) ≡ true
+      → laidFrom b (linesFrom 0 (drop i s)) ≡ take (k - i) (drop i s) ++ laidFrom (b or ltb i k) (linesFrom 0 (drop (e + 2) s))
+  unfolding behindLf
+  turn-fold k t l f =
+      let n : e + 1 + 1 ≡ e + 2 = omega arith in
+      let d : drop 1 (drop (e + 1) s) ≡ drop (e + 2) s = drop-drop 1 (e + 1) s ∙ rw n in
+      run-on l ∙ rw (t, first-of s (e + 1), f, lines-past, d)
+
+  pub turn-end : (k : ℕ) → k ≡ trimTo s i e → e < length s → isBlank (getD s (e + 1) 0) ≡ false
+      → laidFrom b (linesFrom 0 (drop i s)) ≡ (take (k - i) (drop i s) ++ code "\n" ∷ []) ++ laidFrom false (linesFrom 0 (drop (e + 1) s))
+  unfolding behindLf
+  turn-end k t l f = run-on l ∙ rw (t, append-assoc, first-of s (e + 1), f, laid-lf)
+
+pub turn-none : (s : List ℕ) (b : Bool) (i : ℕ) → length s ≤ i → laidFrom b (linesFrom 0 (drop i s)) ≡ pick b (code "\n" ∷ []) []
+unfolding laidFrom linesFrom
+turn-none s true i h = rw (ended s i h)
+turn-none s false i h = rw (ended s i h)
+
+pub laid-start : (s : List ℕ) → laidFrom false (linesFrom 0 (drop 0 s)) ≡ laidOut (linesOf s)
+unfolding linesOf
+laid-start s = laid-fresh (linesFrom 0 s)
+
+-- no LF in a line of a text
+free-onto : (c : ℕ) (ls : List (List ℕ)) → eqb c (code "\n") ≡ false → All (Free (code "\n")) ls → All (Free (code "\n")) (onto c ls)
+unfolding onto
+free-onto c [] e h = ((e, tt), tt)
+free-onto c (l ∷ ls) e h = ((e, h .0), h .1)
+
+lf-mark : (c : ℕ) (s : List ℕ) → eqb c (code "\n") ≡ true → markOf (c ∷ s) ≡ pick (isBlank (getD s 0 0)) (fold 1) (ending 0)
+unfolding markOf endingOf
+lf-mark c s e = rw e
+
+free-marked : (m : Mark) (c : ℕ) (s : List ℕ) → (m ≡ octet → eqb c (code "\n") ≡ false) → ((k : ℕ) → All (Free (code "\n")) (linesFrom k s))
+    → All (Free (code "\n")) (marked m c (λ k. linesFrom k s))
+unfolding marked
+free-marked octet c s f h = free-onto c (linesFrom 0 s) (f refl) (h 0)
+free-marked (ending k) c s f h = (tt, h k)
+free-marked (fold k) c s f h = h k
+
+no-octet : (b : Bool) → pick b (fold 1) (ending 0) ≡ octet → ⊥
+no-octet true e = let z : _≡_ {A = ℕ} 0 1 = cc in omega arith
+no-octet false e = let z : _≡_ {A = ℕ} 0 1 = cc in omega arith
+
+octet-free : (c : ℕ) (s : List ℕ) → markOf (c ∷ s) ≡ octet → eqb c (code "\n") ≡ false
+octet-free c s q = cases (eqb c (code "\n")) (λ e. absurd (no-octet (isBlank (getD s 0 0)) (sym (lf-mark c s e) ∙ q))) (λ e. e)
+
+free-from : (k : ℕ) (s : List ℕ) → All (Free (code "\n")) (linesFrom k s)
+unfolding linesFrom
+free-from k [] = tt
+free-from (suc k) (c ∷ s) = free-from k s
+free-from zero (c ∷ s) = free-marked (markOf (c ∷ s)) c s (octet-free c s) (λ k. free-from k s)
+
+pub lines-free : (s : List ℕ) → All (Free (code "\n")) (linesOf s)
+unfolding linesOf
+lines-free s = free-from 0 s
+
+-- the lines laid out are at most an octet longer than the text
+short-by : (m : Mark) (b : Bool) (c : ℕ) (s : List ℕ) → ((a : Bool) (k : ℕ) → length (laidFrom a (linesFrom k s)) ≤ length s + 1)
+    → length (laidFrom b (marked m c (λ k. linesFrom k s))) ≤ suc (length s) + 1
+unfolding marked
+short-by octet b c s h = rw (laid-one b c (linesFrom 0 s)) (omega (arith, h true 0))
+short-by (ending k) b c s h = rw (laid-lf b (linesFrom k s)) (omega (arith, h false k))
+short-by (fold k) b c s h = omega (arith, h b k)
+
+short : (b : Bool) (k : ℕ) (s : List ℕ) → length (laidFrom b (linesFrom k s)) ≤ length s + 1
+unfolding linesFrom laidFrom
+short true k [] = omega arith
+short false k [] = omega arith
+short b (suc k) (c ∷ s) = omega (arith, short b k s)
+short b zero (c ∷ s) = short-by (markOf (c ∷ s)) b c s (λ a k. short a k s)
+
+pub laid-short : (s : List ℕ) → length (laidOut (linesOf s)) ≤ length s + 1
+unfolding linesOf
+laid-short s = rw (← laid-fresh (linesFrom 0 s)) (short false 0 s)
+
+-- what `unfold` leaves in a buffer that is longer than the text
+pub record Unfolded (s b : List ℕ) (r : ℕ) : Type 0 where
+  pub within : r ≤ length b
+  pub laid : take r b ≡ laidOut (linesOf s)
+  pub lines : linesIn (take r b) ≡ linesOf s
+
+pub unfolded : (s o b : List ℕ) (r : ℕ) → length s < length o → Wrote (pen o 0) (laidOut (linesOf s)) (pen b r) → Unfolded s b r
+unfolded s o b r h w =
+    let l = landed o (laidOut (linesOf s)) b r (omega (arith, laid-short s)) w in
+    record {
+      within = omega (arith, l .count, kept w, laid-short s);
+      laid = l .front;
+      lines = ap linesIn (l .front) ∙ lines-again (linesOf s) (lines-free s);
+    }

@@ -1,0 +1,121 @@
+-- A walk over the parameters of a line: each stands behind a semicolon.
+use Prim.Native.Nat.{ℕ, suc, _+_, _-_, _≤_, _<_}
+use Prim.Native.Char.{code}
+use mathlib.Core.Path.{_≡_, refl, sym, ap, _∙_}
+use mathlib.Core.Bool.{Bool, true, false}
+use mathlib.Core.List.{List, [], _∷_, map}
+use native.Mathlib.Omega.{arith}
+use borrow.Author.Tests.{eqb-true}
+use lib.Dec.{eqb}
+use lib.ListN.{length, getD, take, drop}
+use Rattle.octets.specs.Basics.{pick, _or_, any, same, among, twice}
+use Rattle.octets.specs.Pieces.{cut}
+use Rattle.octets.specs.Classes.{isUpper, isLower, upperOctet, lowerOctet, upper, lower, sameName}
+use Rattle.octets.proofs.Cases.{cases, alike}
+use Rattle.octets.proofs.Classes.{between-true, within-between, above-between, below-between, same-is, same-itself}
+use Rattle.octets.proofs.Positions.{here, ended}
+use Rattle.content.specs.Line.{Param, quoteAfter, bare, pieces, paramOf}
+use Rattle.content.specs.Scan.{untilBare}
+use Rattle.content.specs.Parts.{others, nameOf, paramsIn, paramAt, CutParam}
+use Rattle.content.specs.Parameters.{nameTwice}
+use Rattle.content.specs.declared.parts.ParamParts.{ParamParts}
+use Rattle.content.proofs.Scanning.{bare-high, bare-rest, bare-stop}
+use Rattle.content.proofs.Separators.{oneOf, twice-one, before-is, pieces-first}
+
+-- Names compare alike in either case.
+upper-lower : (c : ℕ) → upperOctet (lowerOctet c) ≡ upperOctet c
+unfolding upperOctet lowerOctet
+upper-lower c = cases (isUpper c)
+    (λ u.
+    let b = between-true (code "A") (code "Z") c (unfold isUpper in u) in
+    let l : isLower (c + 32) ≡ true = unfold isLower in within-between (code "a") (code "z") (c + 32) (omega arith) (omega arith) in
+    let n : isLower c ≡ false = unfold isLower in below-between (code "a") (code "z") c (omega arith) in
+    let d : c + 32 - 32 ≡ c = omega arith in
+    rw (u, l, n, d))
+    (λ u. rw u)
+
+lower-upper : (c : ℕ) → lowerOctet (upperOctet c) ≡ lowerOctet c
+unfolding upperOctet lowerOctet
+lower-upper c = cases (isLower c)
+    (λ u.
+    let b = between-true (code "a") (code "z") c (unfold isLower in u) in
+    let l : isUpper (c - 32) ≡ true = unfold isUpper in within-between (code "A") (code "Z") (c - 32) (omega arith) (omega arith) in
+    let n : isUpper c ≡ false = unfold isUpper in above-between (code "A") (code "Z") c (omega arith) in
+    let d : c - 32 + 32 ≡ c = omega arith in
+    rw (u, l, n, d))
+    (λ u. rw u)
+
+through : (f g : ℕ → ℕ) → ((c : ℕ) → f (g c) ≡ f c) → (s : List ℕ) → map f (map g s) ≡ map f s
+through f g e [] = refl
+through f g e (c ∷ s) = rw (e c, through f g e s)
+
+pub same-lower : (a b : List ℕ) → sameName a b ≡ same (lower a) (lower b)
+unfolding sameName upper lower
+same-lower a b = alike (same (map upperOctet a) (map upperOctet b)) (same (map lowerOctet a) (map lowerOctet b))
+    (λ e. let k : map lowerOctet a ≡ map lowerOctet b = sym (through lowerOctet upperOctet lower-upper a) ∙ ap (map lowerOctet) (same-is _ _ e) ∙ through lowerOctet upperOctet lower-upper b in
+    rw k (same-itself (map lowerOctet b)))
+    (λ e. let k : map upperOctet a ≡ map upperOctet b = sym (through upperOctet lowerOctet upper-lower a) ∙ ap (map upperOctet) (same-is _ _ e) ∙ through upperOctet lowerOctet upper-lower b in
+    rw k (same-itself (map upperOctet b)))
+
+-- a parameter, or the end, stands at e: behind a bare semicolon
+pub record Stands (s : List ℕ) (e : ℕ) : Type 0 where
+  pub semicolon : e < length s → getD s e 0 ≡ code ";"
+
+-- the first parameter from i on
+module _ (s : List ℕ) (i e : ℕ) (q : e ≡ i + length (untilBare (oneOf (code ";") (code ";")) false (drop i s))) where
+  pub first-stands : Stands s e
+  first-stands = record {
+    semicolon = λ h. eqb-true (getD s e 0) (code ";") (rw (twice-one (eqb (getD s e 0) (code ";"))) at (bare-stop (oneOf (code ";") (code ";")) s i e q h));
+  }
+
+  pub first-params : paramsIn (drop i s) ≡ paramsIn (drop e s)
+  unfolding paramsIn others
+  first-params = rw (pieces-first (code ";") false (drop i s), ← before-is (code ";") false (drop i s), bare-rest (oneOf (code ";") (code ";")) s i e q)
+
+pub no-params : (s : List ℕ) (e : ℕ) → length s ≤ e → paramsIn (drop e s) ≡ []
+unfolding paramsIn pieces others
+no-params s e h = rw (ended s e h)
+
+-- the parameter behind the semicolon at e
+module _ (s : List ℕ) (e : ℕ) (st : Stands s e) (h : e < length s) where
+  past : paramsIn (drop e s) ≡ map paramOf (pieces (code ";") false (drop (e + 1) s))
+  unfolding paramsIn pieces others bare quoteAfter cut
+  past = rw (here s e h, st .semicolon h)
+
+  pub param-here : (p : ParamParts) → CutParam s (e + 1) p → paramsIn (drop e s) ≡ paramAt s (e + 1) p ∷ paramsIn (drop (p .end) s)
+  param-here p k = past ∙ k .params
+
+pub param-next : (s : List ℕ) (i : ℕ) (p : ParamParts) → CutParam s i p → Stands s (p .end)
+param-next s i p k = record { semicolon = k .next }
+
+-- a name among those of the parameters
+module _ (name : List ℕ) (s : List ℕ) (e : ℕ) where
+  pub among-none : length s ≤ e → among name (map nameOf (paramsIn (drop e s))) ≡ false
+  unfolding among any
+  among-none h = rw (no-params s e h)
+
+  module _ (st : Stands s e) (h : e < length s) (p : ParamParts) (k : CutParam s (e + 1) p) where
+    among-turn : among name (map nameOf (paramsIn (drop e s))) ≡ (same name (lower (take (p .name - (e + 1)) (drop (e + 1) s))) or among name (map nameOf (paramsIn (drop (p .end) s))))
+    unfolding among any paramAt
+    among-turn = rw (param-here s e st h p k)
+
+    pub among-here : same name (lower (take (p .name - (e + 1)) (drop (e + 1) s))) ≡ true → among name (map nameOf (paramsIn (drop e s))) ≡ true
+    among-here t = among-turn ∙ rw t
+
+    pub among-on : same name (lower (take (p .name - (e + 1)) (drop (e + 1) s))) ≡ false → among name (map nameOf (paramsIn (drop e s))) ≡ among name (map nameOf (paramsIn (drop (p .end) s)))
+    among-on t = among-turn ∙ rw t
+
+-- a name twice
+module _ (s : List ℕ) (e : ℕ) where
+  pub twice-none : length s ≤ e → nameTwice (paramsIn (drop e s)) ≡ false
+  unfolding nameTwice twice
+  twice-none h = rw (no-params s e h)
+
+  module _ (st : Stands s e) (h : e < length s) (p : ParamParts) (k : CutParam s (e + 1) p) where
+    pub twice-here : among (lower (take (p .name - (e + 1)) (drop (e + 1) s))) (map nameOf (paramsIn (drop (p .end) s))) ≡ true → nameTwice (paramsIn (drop e s)) ≡ true
+    unfolding nameTwice twice paramAt
+    twice-here t = rw (param-here s e st h p k, t)
+
+    pub twice-on : among (lower (take (p .name - (e + 1)) (drop (e + 1) s))) (map nameOf (paramsIn (drop (p .end) s))) ≡ false → nameTwice (paramsIn (drop e s)) ≡ nameTwice (paramsIn (drop (p .end) s))
+    unfolding nameTwice twice paramAt
+    twice-on t = rw (param-here s e st h p k, t)

@@ -1,0 +1,71 @@
+-- `content::form::all_formed` meets its contract.
+use borrow.Author.Tests.{not-true, not-false}
+use lib.ListN.{length, drop}
+use native.Mathlib.Omega.{arith}
+use mathlib.Core.Path.{_≡_, refl, sym, _∙_}
+use Prim.Native.Nat.{_-_}
+use borrow.Author.Needs.{needs}
+use Rattle.content.specs.Buffer.{isLf, linesIn}
+use Rattle.content.specs.Form.{formed}
+use Rattle.octets.specs.Basics.{all}
+use Rattle.content.proofs.Buffer.{all-none, all-on, all-off}
+use Rattle.content.proofs.Scanning.{scan-low, scan-high}
+use Rattle.content.proofs.form.all_formed.Statement.{statement}
+use Rattle.content.proofs.form.all_formed.Tie as tie
+
+abbrev Inv-loop : tie.InvT-loop
+Inv-loop buf i₀ i = all formed (linesIn buf) ≡ all formed (linesIn (drop i buf))
+
+abbrev μ-loop : tie.MeasureT-loop
+μ-loop buf i₀ i = length buf - i
+
+loop-holds : tie.Need-loop-holds Inv-loop μ-loop
+loop-holds c = refl
+
+line-end-requires : tie.Need-line-end-requires Inv-loop μ-loop
+line-end-requires c κs = search needs
+
+sub-is-formed : tie.Need-sub-is-formed Inv-loop μ-loop
+sub-is-formed c = search needs
+
+part-is-formed-start : tie.Need-part-is-formed-start Inv-loop μ-loop
+part-is-formed-start c = search needs
+
+part-is-formed-end : tie.Need-part-is-formed-end Inv-loop μ-loop
+part-is-formed-end c = scan-high isLf (c .before .before .before .before .args .buf .now) (c .before .before .loop .i) _ (c .line-end .ensures) (omega arith)
+
+is-formed-requires : tie.Need-is-formed-requires Inv-loop μ-loop
+is-formed-requires c κs = search needs
+
+returns : tie.Need-returns Inv-loop μ-loop
+returns c = sym (c .before .before .before .before .before .loop .inv ∙ all-off formed (c .before .before .before .before .before .before .before .args .buf .now) (c .before .before .before .before .before .loop .i) (c .before .before .before .line-end .result) (c .before .before .before .line-end .ensures) (c .before .before .before .before .loop-test .taken) (sym (c .before .is-formed .ensures) ∙ not-true _ (c .if1 .taken)))
+
+add-i : tie.Need-add-i Inv-loop μ-loop
+add-i c = omega (arith, scan-high isLf (c .before .before .before .before .before .before .before .args .buf .now) (c .before .before .before .before .before .loop .i) _ (c .before .before .before .line-end .ensures) (omega arith))
+
+loop-less : tie.Need-loop-less Inv-loop μ-loop
+loop-less c = omega (arith, scan-high isLf (c .before .before .before .before .before .before .before .args .buf .now) (c .before .before .before .before .before .loop .i) _ (c .before .before .before .line-end .ensures) (omega arith))
+
+loop-again : tie.Need-loop-again Inv-loop μ-loop
+loop-again c = c .before .before .before .before .before .loop .inv ∙ all-on formed (c .before .before .before .before .before .before .before .args .buf .now) (c .before .before .before .before .before .loop .i) (c .before .before .before .line-end .result) (c .before .before .before .line-end .ensures) (c .before .before .before .before .loop-test .taken) (sym (c .before .is-formed .ensures) ∙ not-false _ (c .if1 .left))
+
+returns-2 : tie.Need-returns-2 Inv-loop μ-loop
+returns-2 c = sym (c .before .loop .inv ∙ all-none formed (c .before .before .before .args .buf .now) (c .before .loop .i) (c .loop-test .left))
+
+pub all-formed-spec : {M : Type 1} → statement M
+all-formed-spec =
+    tie.close
+    (tie.spec
+    Inv-loop
+    μ-loop
+    loop-holds
+    line-end-requires
+    sub-is-formed
+    part-is-formed-start
+    part-is-formed-end
+    is-formed-requires
+    returns
+    add-i
+    loop-less
+    loop-again
+    returns-2)

@@ -1,0 +1,56 @@
+-- `content::form::name_end` meets its contract.
+use Rattle.content.proofs.Forming.{offName}
+use Rattle.content.proofs.Scanning.{until-none, until-here, until-on}
+use Rattle.content.specs.Scan.{until}
+use lib.ListN.{length, drop}
+use native.Mathlib.Omega.{arith}
+use mathlib.Core.Path.{_≡_, refl, sym, _∙_}
+use Prim.Native.Nat.{_+_, _-_}
+use borrow.Author.Needs.{needs}
+use Rattle.content.proofs.form.name_end.Statement.{statement}
+use Rattle.content.proofs.form.name_end.Tie as tie
+
+abbrev Inv-loop : tie.InvT-loop
+Inv-loop s at i₀ i = i + length (until offName (drop i s)) ≡ at + length (until offName (drop at s))
+
+abbrev μ-loop : tie.MeasureT-loop
+μ-loop s at i₀ i = length s - i
+
+loop-holds : tie.Need-loop-holds Inv-loop μ-loop
+loop-holds c = refl
+
+shared-slice-read-is-name-octet : tie.Need-shared-slice-read-is-name-octet Inv-loop μ-loop
+shared-slice-read-is-name-octet c = search needs
+
+is-name-octet-requires : tie.Need-is-name-octet-requires Inv-loop μ-loop
+is-name-octet-requires c κs = search needs
+
+returns : tie.Need-returns Inv-loop μ-loop
+returns c = omega (arith, until-here offName (c .before .before .before .before .before .before .args .s .now) (c .before .before .before .before .loop .i) (c .before .before .before .loop-test .taken) (rw (← c .before .is-name-octet .ensures, c .if1 .taken)))
+
+add-i : tie.Need-add-i Inv-loop μ-loop
+add-i c = search needs
+
+loop-less : tie.Need-loop-less Inv-loop μ-loop
+loop-less c = search needs
+
+loop-again : tie.Need-loop-again Inv-loop μ-loop
+loop-again c = omega (arith, until-on offName (c .before .before .before .before .before .before .args .s .now) (c .before .before .before .before .loop .i) (c .before .before .before .loop-test .taken) (rw (← c .before .is-name-octet .ensures, c .if1 .left)))
+
+returns-2 : tie.Need-returns-2 Inv-loop μ-loop
+returns-2 c = omega (arith, until-none offName (c .before .before .before .args .s .now) (c .before .loop .i) (c .loop-test .left))
+
+pub name-end-spec : {M : Type 1} → statement M
+name-end-spec =
+    tie.close
+    (tie.spec
+    Inv-loop
+    μ-loop
+    loop-holds
+    shared-slice-read-is-name-octet
+    is-name-octet-requires
+    returns
+    add-i
+    loop-less
+    loop-again
+    returns-2)

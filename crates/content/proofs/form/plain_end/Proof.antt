@@ -1,0 +1,56 @@
+-- `content::form::plain_end` meets its contract.
+use Rattle.content.proofs.Scanning.{until-none, until-here, until-on}
+use Rattle.content.specs.Walk.{endsPlain}
+use Rattle.content.specs.Scan.{until}
+use lib.ListN.{length, drop}
+use native.Mathlib.Omega.{arith}
+use mathlib.Core.Path.{_≡_, refl, sym, _∙_}
+use Prim.Native.Nat.{_+_, _-_}
+use borrow.Author.Needs.{needs}
+use Rattle.content.proofs.form.plain_end.Statement.{statement}
+use Rattle.content.proofs.form.plain_end.Tie as tie
+
+abbrev Inv-loop : tie.InvT-loop
+Inv-loop s at i₀ i = i + length (until endsPlain (drop i s)) ≡ at + length (until endsPlain (drop at s))
+
+abbrev μ-loop : tie.MeasureT-loop
+μ-loop s at i₀ i = length s - i
+
+loop-holds : tie.Need-loop-holds Inv-loop μ-loop
+loop-holds c = refl
+
+shared-slice-read-ends-plain : tie.Need-shared-slice-read-ends-plain Inv-loop μ-loop
+shared-slice-read-ends-plain c = search needs
+
+ends-plain-requires : tie.Need-ends-plain-requires Inv-loop μ-loop
+ends-plain-requires c κs = search needs
+
+returns : tie.Need-returns Inv-loop μ-loop
+returns c = omega (arith, until-here endsPlain (c .before .before .before .before .before .before .args .s .now) (c .before .before .before .before .loop .i) (c .before .before .before .loop-test .taken) (sym (c .before .ends-plain .ensures) ∙ c .if1 .taken))
+
+add-i : tie.Need-add-i Inv-loop μ-loop
+add-i c = search needs
+
+loop-less : tie.Need-loop-less Inv-loop μ-loop
+loop-less c = search needs
+
+loop-again : tie.Need-loop-again Inv-loop μ-loop
+loop-again c = omega (arith, until-on endsPlain (c .before .before .before .before .before .before .args .s .now) (c .before .before .before .before .loop .i) (c .before .before .before .loop-test .taken) (sym (c .before .ends-plain .ensures) ∙ c .if1 .left))
+
+returns-2 : tie.Need-returns-2 Inv-loop μ-loop
+returns-2 c = omega (arith, until-none endsPlain (c .before .before .before .args .s .now) (c .before .loop .i) (c .loop-test .left))
+
+pub plain-end-spec : {M : Type 1} → statement M
+plain-end-spec =
+    tie.close
+    (tie.spec
+    Inv-loop
+    μ-loop
+    loop-holds
+    shared-slice-read-ends-plain
+    ends-plain-requires
+    returns
+    add-i
+    loop-less
+    loop-again
+    returns-2)

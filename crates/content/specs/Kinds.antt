@@ -1,0 +1,25 @@
+-- What the answer to "which type does VALUE name" says: its bounds in the parameters stand for the type's name.
+use Prim.Native.Nat.{ℕ, _-_, _≤_}
+use mathlib.Core.Path.{_≡_}
+use mathlib.Core.List.{List}
+use mathlib.Core.Option.{Option, none, some}
+use lib.ListN.{length, take, drop}
+use Rattle.octets.specs.Classes.{lower}
+use Rattle.octets.specs.Answers.{Answer, refused, accepted}
+use Rattle.content.specs.declared.params.ValueType.{ValueType}
+use Rattle.content.specs.declared.params.ValueType.the-variants.{Absent, Named, Faulty}
+
+unfoldable pub kindOf : List ℕ → ValueType → Answer (Option (List ℕ))
+kindOf s Absent = accepted none
+kindOf s (Named from end) = accepted (some (lower (take (end - from) (drop from s))))
+kindOf s Faulty = refused 7
+
+-- the bounds lie within n octets
+abbrev pub Bounded : ℕ → ValueType → Type 0
+Bounded n Absent = Unit {0}
+Bounded n (Named from end) = (from ≤ end) × (end ≤ n)
+Bounded n Faulty = Unit {0}
+
+pub record Tells (s : List ℕ) (a : Answer (Option (List ℕ))) (k : ValueType) : Type 0 where
+  pub is : kindOf s k ≡ a
+  pub within : Bounded (length s) k

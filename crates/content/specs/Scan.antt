@@ -1,0 +1,15 @@
+-- What stands before the first octet of a kind; and the same outside quotes, as separators are looked for in a content line.
+use Prim.Native.Nat.{ℕ}
+use mathlib.Core.Bool.{Bool, not}
+use mathlib.Core.List.{List, [], _∷_}
+use Rattle.octets.specs.Basics.{pick, _and_}
+use Rattle.content.specs.Line.{quoteAfter}
+
+unfoldable pub until : (ℕ → Bool) → List ℕ → List ℕ
+until stop [] = []
+until stop (c ∷ s) = pick (stop c) [] (c ∷ until stop s)
+
+-- q says that the first octet is in quotes
+unfoldable pub untilBare : (ℕ → Bool) → Bool → List ℕ → List ℕ
+untilBare stop q [] = []
+untilBare stop q (c ∷ s) = pick (not q and stop c) [] (c ∷ untilBare stop (quoteAfter q c) s)

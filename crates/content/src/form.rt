@@ -1,0 +1,135 @@
+// The form of content lines: name, parameters, colon, value.
+ghost use mathlib.Core.Path.{_≡_};
+ghost use mathlib.Core.Bool.{not};
+ghost use Prim.Native.Nat.{_+_, _≤_};
+ghost use lib.ListN.{length, drop};
+ghost use Rattle.octets.specs.Basics.{all};
+ghost use Rattle.octets.specs.Classes.{nameOctet};
+ghost use Rattle.content.specs.Form.{placeAfter, isValue, paramStart, valueStart, unquoted, formed};
+ghost use Rattle.content.specs.Scan.{until};
+ghost use Rattle.content.specs.Walk.{endsPlain, Passes};
+ghost use Rattle.content.specs.Buffer.{linesIn};
+use crate::lines::line_end;
+use crate::scan::find;
+use octets::is_name_octet;
+use octets::peek;
+
+// The end of the name at `at`.
+fn name_end(s: &[u8], at: usize) -> usize
+    ensures { λ r. ⌜ r ≡ at + length (until (λ c. not (nameOctet c)) (drop at (now (s .entry)))) ⌝ }
+{
+    let mut i = at;
+    while i < s.len() {
+        if !is_name_octet(s[i]) {
+            return i;
+        }
+        i += 1;
+    }
+    i
+}
+
+fn ends_plain(c: u8) -> bool
+    ensures { λ r. ⌜ r ≡ endsPlain c ⌝ }
+{
+    if c == b',' {
+        return true;
+    }
+    if c == b';' {
+        return true;
+    }
+    if c == b':' {
+        return true;
+    }
+    c == b'"'
+}
+
+// The end of the parameter value at `at`, which has no quotes around it.
+fn plain_end(s: &[u8], at: usize) -> usize
+    ensures { λ r. ⌜ r ≡ at + length (until endsPlain (drop at (now (s .entry)))) ⌝ }
+{
+    let mut i = at;
+    while i < s.len() {
+        if ends_plain(s[i]) {
+            return i;
+        }
+        i += 1;
+    }
+    i
+}
+
+// The end of the parameter value at `at`, with its quotes.
+fn value_end(s: &[u8], at: usize) -> usize
+    requires { ⌜ at ≤ length (now s) ⌝ }
+    ensures { λ r. ⌜ Passes (now (s .entry)) valueStart at unquoted r ⌝ }
+{
+    if peek(s, at) != b'"' {
+        return plain_end(s, at);
+    }
+    let e = find(s, at + 1, b'"');
+    if e < s.len() { e + 1 } else { e }
+}
+
+// The end of the first value of the parameter at `at`; the end of the line where it lacks its form.
+fn param_end(s: &[u8], at: usize) -> usize
+    requires { ⌜ at ≤ length (now s) ⌝ }
+    ensures { λ r. ⌜ Passes (now (s .entry)) paramStart at unquoted r ⌝ }
+{
+    let n = name_end(s, at);
+    if n == at {
+        return s.len();
+    }
+    if peek(s, n) != b'=' {
+        return s.len();
+    }
+    value_end(s, n + 1)
+}
+
+// The form of a line behind its name or behind a parameter value.
+fn tail_formed(s: &[u8], at: usize) -> bool
+    requires { ⌜ at ≤ length (now s) ⌝ }
+    ensures { λ r. ⌜ r ≡ isValue (placeAfter unquoted (drop at (now (s .entry)))) ⌝ }
+{
+    let mut i = at;
+    while i < s.len() {
+        match s[i] {
+            b':' => return true,
+            b',' => {
+                i = value_end(s, i + 1);
+            }
+            b';' => {
+                i = param_end(s, i + 1);
+            }
+            _ => return false,
+        }
+    }
+    false
+}
+
+// Test 4 of one line.
+pub fn is_formed(line: &[u8]) -> bool
+    ensures { λ r. ⌜ r ≡ formed (now (line .entry)) ⌝ }
+{
+    let n = name_end(line, 0);
+    if n == 0 {
+        return false;
+    }
+    if peek(line, n) == b',' {
+        return false;
+    }
+    tail_formed(line, n)
+}
+
+// Test 4 of every line in a buffer.
+pub fn all_formed(buf: &[u8]) -> bool
+    ensures { λ r. ⌜ r ≡ all formed (linesIn (now (buf .entry))) ⌝ }
+{
+    let mut i = 0;
+    while i < buf.len() {
+        let e = line_end(buf, i);
+        if !is_formed(&buf[i..e]) {
+            return false;
+        }
+        i = e + 1;
+    }
+    true
+}
