@@ -2,5 +2,3 @@ pub mod Naming
 pub mod Groups
 pub mod Halves
 pub mod Floats
-pub mod Strings
-pub mod TextRuns

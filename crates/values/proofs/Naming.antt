@@ -1,6 +1,5 @@
 -- Names in either case, and the sort of a value by the type's code.
-use Prim.Native.Nat.{ℕ, _+_, _-_, _≤_, _<_}
-use Prim.Native.Char.{code}
+use Prim.Native.Nat.{ℕ, _+_, _≤_}
 use mathlib.Core.Path.{_≡_, refl, sym, ap, _∙_}
 use mathlib.Core.Bool.{Bool, true, false}
 use mathlib.Core.List.{List, [], _∷_}
@@ -8,31 +7,15 @@ use native.Mathlib.Omega.{arith}
 use borrow.Author.Tests.{eq-eqb, ne-eqb, eqb-true}
 use lib.Dec.{eqb}
 use Rattle.octets.specs.Basics.{octets, pick, same}
-use Rattle.octets.specs.Classes.{between, isUpper, isLower, upperOctet, lowerOctet, upper, lower, sameName}
-use Rattle.octets.proofs.Cases.{cases, alike}
-use Rattle.octets.proofs.Classes.{between-true, within-between, above-between, below-between}
+use Rattle.octets.specs.Classes.{between, isUpper, upperOctet, lowerOctet, upper, lower, sameName}
+use Rattle.octets.proofs.Cases.{alike}
+use Rattle.octets.proofs.Classes.{upper-of-lower, lower-of-upper}
 use Rattle.values.specs.Sorts.{Sort, plain, sortOf}
-
-raised : (c : ℕ) → upperOctet (lowerOctet c) ≡ upperOctet c
-unfolding upperOctet lowerOctet isUpper isLower
-raised c = cases (between (code "A") (code "Z") c)
-    (λ e. let b = between-true (code "A") (code "Z") c e in
-    let n : c + 32 - 32 ≡ c = omega arith in
-    rw (e, within-between (code "a") (code "z") (c + 32) (omega arith) (omega arith), below-between (code "a") (code "z") c (omega arith), n))
-    (λ e. rw e)
-
-lowered : (c : ℕ) → lowerOctet (upperOctet c) ≡ lowerOctet c
-unfolding upperOctet lowerOctet isUpper isLower
-lowered c = cases (between (code "a") (code "z") c)
-    (λ e. let b = between-true (code "a") (code "z") c e in
-    let n : c - 32 + 32 ≡ c = omega arith in
-    rw (e, within-between (code "A") (code "Z") (c - 32) (omega arith) (omega arith), above-between (code "A") (code "Z") c (omega arith), n))
-    (λ e. rw e)
 
 octet-case : (c d : ℕ) → eqb (lowerOctet c) (lowerOctet d) ≡ eqb (upperOctet c) (upperOctet d)
 octet-case c d = alike (eqb (lowerOctet c) (lowerOctet d)) (eqb (upperOctet c) (upperOctet d))
-    (λ e. eq-eqb _ _ (sym (raised c) ∙ ap upperOctet (eqb-true _ _ e) ∙ raised d))
-    (λ e. eq-eqb _ _ (sym (lowered c) ∙ ap lowerOctet (eqb-true _ _ e) ∙ lowered d))
+    (λ e. eq-eqb _ _ (sym (upper-of-lower c) ∙ ap upperOctet (eqb-true _ _ e) ∙ upper-of-lower d))
+    (λ e. eq-eqb _ _ (sym (lower-of-upper c) ∙ ap lowerOctet (eqb-true _ _ e) ∙ lower-of-upper d))
 
 -- names are the same in lowercase as in uppercase
 pub same-case : (a b : List ℕ) → same (lower a) (lower b) ≡ sameName a b

@@ -17,7 +17,7 @@ use Rattle.calendar.specs.Dates.{dateOf, timeOf, dateTimeOf, offsetOf, momentOf
 use Rattle.calendar.specs.Recurrence.{Sort as Kind, frequency, moment, count, weekday, ordinal, numbers}
 use Rattle.calendar.specs.Walk.{before, keyAt, firstPart, itemShown}
 use Rattle.json.specs.Tree.{Json}
-use Rattle.json.specs.Print.{escaped, printString, printKey, print}
+use Rattle.json.specs.Print.{escaped, printString, print}
 use Rattle.values.specs.Sorts.{Sort, plain, binary, boolean, date, dateTime, duration, float, geo, integer, period, recur, text, status, time, utcOffset, splits}
 use Rattle.values.specs.Read.{readValues}
 use Rattle.values.specs.Single.{isText}
@@ -98,9 +98,12 @@ unfoldable pub itemsShown : Kind → List ℕ → List ℕ
 itemsShown k v =
     pick (ltb (length (before (code ",") v)) (length v)) (code "[" ∷ (listShown (itemJsonShown k) (code ",") v ++ octets "]")) (itemJsonShown k v)
 
+unfoldable pub keyShown : List ℕ → List ℕ
+keyShown n = code "\"" ∷ (lower n ++ octets "\":")
+
 unfoldable pub partShown : List ℕ → List ℕ
 partShown p =
-    printKey (lower (take ((firstPart p) .name) p))
+    keyShown (take ((firstPart p) .name) p)
     ++ itemsShown ((keyAt ((firstPart p) .key)) .sort) (take ((firstPart p) .to - (firstPart p) .from) (drop ((firstPart p) .from) p))
 
 unfoldable pub recurShown : List ℕ → List ℕ

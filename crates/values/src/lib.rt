@@ -1,7 +1,6 @@
-// The fourteen value types: which raw values stand, and how jCal has them.
-mod simple;
+// The fourteen value types: the sorts of values, and those that are neither dates, recurrence rules nor texts.
+pub mod simple;
 mod sorts;
-mod texts;
 
 pub use sorts::Sort;
 pub use sorts::sort_of;

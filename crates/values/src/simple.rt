@@ -120,7 +120,7 @@ impl Group {
 }
 
 // Base64 in whole groups of four, with padding only at the end.
-pub(crate) fn is_binary(s: &[u8]) -> bool
+pub fn is_binary(s: &[u8]) -> bool
     ensures { λ r. ⌜ r ≡ binaryIs (now (s .entry)) ⌝ }
 {
     let mut g = Group::Whole;
@@ -132,7 +132,7 @@ pub(crate) fn is_binary(s: &[u8]) -> bool
     g.is_whole()
 }
 
-pub(crate) fn is_boolean(s: &[u8]) -> bool
+pub fn is_boolean(s: &[u8]) -> bool
     ensures { λ r. ⌜ r ≡ isSome (booleanOf (upper (now (s .entry)))) ⌝ }
 {
     if same_name(s, b"TRUE") {
@@ -141,7 +141,7 @@ pub(crate) fn is_boolean(s: &[u8]) -> bool
     same_name(s, b"FALSE")
 }
 
-pub(crate) fn put_boolean(out: &mut [u8], at: usize, s: &[u8]) -> usize
+pub fn put_boolean(out: &mut [u8], at: usize, s: &[u8]) -> usize
     ensures { λ r. ⌜ Wrote (pen (now (out .entry)) at) (booleanShown (now (s .entry))) (pen (now (out .exit)) r) ⌝ }
 {
     if same_name(s, b"TRUE") {
@@ -151,14 +151,14 @@ pub(crate) fn put_boolean(out: &mut [u8], at: usize, s: &[u8]) -> usize
 }
 
 // Where what lies behind a separator at e begins.
-fn past(s: &[u8], e: usize) -> usize
+pub fn past(s: &[u8], e: usize) -> usize
     ensures { λ r. ⌜ (r ≤ length (now (s .entry))) × (drop r (now (s .entry)) ≡ drop (e + 1) (now (s .entry))) ⌝ }
 {
     if e < s.len() { e + 1 } else { s.len() }
 }
 
 // A sign, digits, and optionally a point with digits.
-pub(crate) fn is_float(s: &[u8]) -> bool
+pub fn is_float(s: &[u8]) -> bool
     ensures { λ r. ⌜ r ≡ isSome (floatOf (now (s .entry))) ⌝ }
 {
     let sign = sign_length(s);
@@ -175,7 +175,7 @@ pub(crate) fn is_float(s: &[u8]) -> bool
 }
 
 // Writes a float without plus and leading zeros.
-pub(crate) fn put_float(out: &mut [u8], at: usize, s: &[u8]) -> usize
+pub fn put_float(out: &mut [u8], at: usize, s: &[u8]) -> usize
     ensures { λ r. ⌜ Wrote (pen (now (out .entry)) at) (floatShown (now (s .entry))) (pen (now (out .exit)) r) ⌝ }
 {
     let sign = sign_length(s);
@@ -192,12 +192,12 @@ pub(crate) fn put_float(out: &mut [u8], at: usize, s: &[u8]) -> usize
 fn most_of(s: &[u8]) -> u32
     ensures { λ r. ⌜ ((n : ℕ) → inRange (minus (now (s .entry))) n ≡ leb n r) × (r ≤ 2147483648) ⌝ }
 {
-    let most = MOST_INTEGER as u32;
+    let most = MOST_INTEGER;
     if peek(s, 0) == b'-' { most + 1 } else { most }
 }
 
 // A sign and digits, with a value from -2147483648 to 2147483647.
-pub(crate) fn is_integer(s: &[u8]) -> bool
+pub fn is_integer(s: &[u8]) -> bool
     ensures { λ r. ⌜ r ≡ isSome (integerOf (now (s .entry))) ⌝ }
 {
     let sign = sign_length(s);
@@ -223,7 +223,7 @@ fn is_pair(s: &[u8], sep: u8) -> bool
 }
 
 // Two floats.
-pub(crate) fn is_geo(s: &[u8]) -> bool
+pub fn is_geo(s: &[u8]) -> bool
     ensures { λ r. ⌜ r ≡ isSome (readGeo (now (s .entry))) ⌝ }
 {
     if !is_pair(s, b';') {
@@ -238,7 +238,7 @@ pub(crate) fn is_geo(s: &[u8]) -> bool
 }
 
 // Writes an array of two floats.
-pub(crate) fn put_geo(out: &mut [u8], at: usize, s: &[u8]) -> usize
+pub fn put_geo(out: &mut [u8], at: usize, s: &[u8]) -> usize
     ensures { λ r. ⌜ Wrote (pen (now (out .entry)) at) (geoShown (now (s .entry))) (pen (now (out .exit)) r) ⌝ }
 {
     let e = find(s, b';');
@@ -251,7 +251,7 @@ pub(crate) fn put_geo(out: &mut [u8], at: usize, s: &[u8]) -> usize
 }
 
 // A start, and an end or a duration without minus.
-pub(crate) fn is_period(s: &[u8]) -> bool
+pub fn is_period(s: &[u8]) -> bool
     ensures { λ r. ⌜ r ≡ isSome (readPeriod (now (s .entry))) ⌝ }
 {
     if !is_pair(s, b'/') {

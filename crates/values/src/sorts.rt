@@ -79,7 +79,7 @@ fn text_sort(name: &[u8]) -> Sort
 
 impl Sort {
     // Its values are texts, which split at bare commas.
-    pub(crate) fn is_text(self) -> bool
+    pub fn is_text(self) -> bool
         ensures { λ r. ⌜ r ≡ isText (sortSaid self) ⌝ }
     {
         match self {
@@ -102,7 +102,7 @@ impl Sort {
     }
 
     // Its values split at commas.
-    pub(crate) fn splits(self) -> bool
+    pub fn splits(self) -> bool
         ensures { λ r. ⌜ r ≡ splits (sortSaid self) ⌝ }
     {
         match self {

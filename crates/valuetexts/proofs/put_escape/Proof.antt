@@ -1,9 +1,9 @@
--- `values::texts::put_escape` meets its contract.
+-- `valuetexts::put_escape` meets its contract.
 use borrow.Author.Needs.{needs}
 use Rattle.octets.proofs.Pen.{nothing, as-text}
-use Rattle.values.proofs.Strings.{escape-none, escape-small, escape-large, escape-other}
-use Rattle.values.proofs.texts.put_escape.Statement.{statement}
-use Rattle.values.proofs.texts.put_escape.Tie as tie
+use Rattle.valuetexts.proofs.Strings.{escape-none, escape-small, escape-large, escape-other}
+use Rattle.valuetexts.proofs.put_escape.Statement.{statement}
+use Rattle.valuetexts.proofs.put_escape.Tie as tie
 
 returns : tie.Need-returns
 returns c = as-text nothing (escape-none _ _ (c .if1 .taken))

@@ -1,4 +1,4 @@
--- `values::texts::count_texts` meets its contract.
+-- `valuetexts::count_between` meets its contract.
 use Prim.Native.Nat.{_+_, _-_, _≤_}
 use mathlib.Core.Path.{_≡_, refl, sym, ap, _∙_}
 use mathlib.Core.Bool.{false}
@@ -6,11 +6,11 @@ use native.Mathlib.Omega.{arith}
 use lib.ListN.{length, drop}
 use borrow.Author.Tests.{not-true, not-false}
 use borrow.Author.Needs.{needs}
 use Rattle.values.specs.Steps.{isEscape, tally, counted}
 use Rattle.values.specs.Texts.{textsFrom}
-use Rattle.values.proofs.TextRuns.{count-run, count-end, count-escape, count-wrong, count-next, count-other, count-control, count-octet}
-use Rattle.values.proofs.texts.count_texts.Statement.{statement}
-use Rattle.values.proofs.texts.count_texts.Tie as tie
+use Rattle.valuetexts.proofs.TextRuns.{count-run, count-end, count-escape, count-wrong, count-next, count-other, count-control, count-octet}
+use Rattle.valuetexts.proofs.count_between.Statement.{statement}
+use Rattle.valuetexts.proofs.count_between.Tie as tie
 
 abbrev Inv-loop : tie.InvT-loop
 Inv-loop s sep other n₀ i₀ n i = (i ≤ length s + 1) × (n ≤ i) × (counted (textsFrom sep other false s) ≡ tally n (textsFrom sep other false (drop i s)))
@@ -46,8 +46,8 @@ loop-again-3 c = (omega (arith, c .before .before .before .before .before .befor
 returns-5 : tie.Need-returns-5 Inv-loop μ-loop
 returns-5 c = sym (c .before .loop .inv .2 ∙ count-end _ _ (c .before .before .before .pre .0) (c .before .before .before .pre .1) _ _ _ (c .loop-test .left))
 
-pub count-texts-spec : {M : Type 1} → statement M
-count-texts-spec =
+pub count-between-spec : {M : Type 1} → statement M
+count-between-spec =
     tie.close
     (tie.spec
     Inv-loop

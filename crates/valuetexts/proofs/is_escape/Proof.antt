@@ -1,8 +1,8 @@
--- `values::texts::is_escape` meets its contract.
+-- `valuetexts::is_escape` meets its contract.
 use borrow.Author.Tests.{ne-eqb}
 use Rattle.values.specs.Steps.{isEscape}
-use Rattle.values.proofs.texts.is_escape.Statement.{statement}
-use Rattle.values.proofs.texts.is_escape.Tie as tie
+use Rattle.valuetexts.proofs.is_escape.Statement.{statement}
+use Rattle.valuetexts.proofs.is_escape.Tie as tie
 
 returns : tie.Need-returns
 unfolding isEscape

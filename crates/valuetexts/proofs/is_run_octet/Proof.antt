@@ -1,10 +1,10 @@
--- `values::texts::is_run_octet` meets its contract.
+-- `valuetexts::is_run_octet` meets its contract.
 use mathlib.Core.Path.{sym}
 use borrow.Author.Tests.{ne-eqb}
 use Rattle.octets.proofs.Cases.{and-true-right}
 use Rattle.values.specs.Shown.{runOctet}
-use Rattle.values.proofs.texts.is_run_octet.Statement.{statement}
-use Rattle.values.proofs.texts.is_run_octet.Tie as tie
+use Rattle.valuetexts.proofs.is_run_octet.Statement.{statement}
+use Rattle.valuetexts.proofs.is_run_octet.Tie as tie
 
 returns : tie.Need-returns
 unfolding runOctet

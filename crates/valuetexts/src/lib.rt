@@ -1,4 +1,4 @@
-// Text values: escapes, and the separators between texts. Octets that stand as they are go run by run.
+// Text values: escapes, and the separators between texts. Octets that are written as they stand go run by run.
 ghost use mathlib.Core.Path.{_≡_};
 ghost use mathlib.Core.Bool.{false};
 ghost use Prim.Native.Nat.{_≤_};
@@ -7,9 +7,10 @@ ghost use Rattle.octets.specs.Classes.{upper};
 ghost use Rattle.octets.specs.Pen.{pen, Wrote};
 ghost use Rattle.json.specs.Print.{escaped, printString};
 ghost use Rattle.json.specs.Promise.{Run};
-ghost use Rattle.values.specs.Texts.{textsFrom};
+ghost use Prim.Native.Char.{code};
+ghost use Rattle.values.specs.Texts.{textsFrom, texts, fields};
 ghost use Rattle.values.specs.Shown.{runOctet, escapeShown, textsShown};
 ghost use Rattle.values.specs.Steps.{counted, isEscape};
 use octets::is_plain_octet;
 use octets::peek;
 use octets::put;
@@ -59,7 +60,7 @@ fn is_escape(c: u8) -> bool
 }
 
 // How many texts stand between the bare separators; 0 where one is no text.
-pub(crate) fn count_texts(s: &[u8], sep: u8, other: u8) -> usize
+fn count_between(s: &[u8], sep: u8, other: u8) -> usize
     requires { ⌜ (runOctet sep ≡ false) × (runOctet other ≡ false) ⌝ }
     ensures { λ r. ⌜ r ≡ counted (textsFrom sep other false (now (s .entry))) ⌝ }
 {
@@ -120,7 +121,7 @@ fn put_escape(out: &mut [u8], at: usize, s: &[u8], i: usize) -> usize
 }
 
 // Writes texts as strings with a comma between them.
-pub(crate) fn put_texts(out: &mut [u8], at: usize, s: &[u8], sep: u8) -> usize
+fn put_between(out: &mut [u8], at: usize, s: &[u8], sep: u8) -> usize
     requires { ⌜ runOctet sep ≡ false ⌝ }
     ensures { λ r. ⌜ Wrote (pen (now (out .entry)) at) (textsShown sep (now (s .entry))) (pen (now (out .exit)) r) ⌝ }
 {
@@ -147,8 +148,36 @@ pub(crate) fn put_texts(out: &mut [u8], at: usize, s: &[u8], sep: u8) -> usize
     put(out, p, b'"')
 }
 
+// How many texts stand between the bare commas; 0 where one is no text.
+pub fn count_texts(s: &[u8]) -> usize
+    ensures { λ r. ⌜ r ≡ counted (texts (now (s .entry))) ⌝ }
+{
+    count_between(s, b',', b';')
+}
+
+// How many texts stand between the bare semicolons; 0 where one is no text.
+pub fn count_fields(s: &[u8]) -> usize
+    ensures { λ r. ⌜ r ≡ counted (fields (now (s .entry))) ⌝ }
+{
+    count_between(s, b';', b',')
+}
+
+// Writes the texts between the bare commas.
+pub fn put_texts(out: &mut [u8], at: usize, s: &[u8]) -> usize
+    ensures { λ r. ⌜ Wrote (pen (now (out .entry)) at) (textsShown (code ",") (now (s .entry))) (pen (now (out .exit)) r) ⌝ }
+{
+    put_between(out, at, s, b',')
+}
+
+// Writes the texts between the bare semicolons.
+pub fn put_fields(out: &mut [u8], at: usize, s: &[u8]) -> usize
+    ensures { λ r. ⌜ Wrote (pen (now (out .entry)) at) (textsShown (code ";") (now (s .entry))) (pen (now (out .exit)) r) ⌝ }
+{
+    put_between(out, at, s, b';')
+}
+
 // Writes a string in uppercase.
-pub(crate) fn put_upper_string(out: &mut [u8], at: usize, s: &[u8]) -> usize
+pub fn put_upper_string(out: &mut [u8], at: usize, s: &[u8]) -> usize
     ensures { λ r. ⌜ Wrote (pen (now (out .entry)) at) (printString (upper (now (s .entry)))) (pen (now (out .exit)) r) ⌝ }
 {
     let mut p = put(out, at, b'"');

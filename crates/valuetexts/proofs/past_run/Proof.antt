@@ -1,13 +1,13 @@
--- `values::texts::past_run` meets its contract.
+-- `valuetexts::past_run` meets its contract.
 use Prim.Native.Nat.{_-_}
 use mathlib.Core.Path.{sym, _∙_}
 use lib.ListN.{length}
 use borrow.Author.Tests.{not-true, not-false}
 use borrow.Author.Needs.{needs}
 use Rattle.json.proofs.Runs.{Passed, passed-none, passed-more, run-over, run-end}
 use Rattle.values.specs.Shown.{runOctet}
-use Rattle.values.proofs.texts.past_run.Statement.{statement}
-use Rattle.values.proofs.texts.past_run.Tie as tie
+use Rattle.valuetexts.proofs.past_run.Statement.{statement}
+use Rattle.valuetexts.proofs.past_run.Tie as tie
 
 abbrev Inv-loop : tie.InvT-loop
 Inv-loop s at i₀ i = Passed runOctet s at i

@@ -1,4 +1,4 @@
--- `values::texts::put_upper_string` meets its contract.
+-- `valuetexts::put_upper_string` meets its contract.
 use Prim.Native.Nat.{_≤_, _-_}
 use mathlib.Core.Path.{_≡_, refl}
 use native.Mathlib.Omega.{arith}
@@ -8,9 +8,9 @@ use Rattle.octets.proofs.Pen.{then, Leads, leads-start, leads-on, leads-last}
 use Rattle.octets.specs.Classes.{upper}
 use Rattle.octets.specs.Pen.{pen}
 use Rattle.json.specs.Print.{quoted, printString}
-use Rattle.values.proofs.Strings.{upper-on, upper-end}
-use Rattle.values.proofs.texts.put_upper_string.Statement.{statement}
-use Rattle.values.proofs.texts.put_upper_string.Tie as tie
+use Rattle.valuetexts.proofs.Strings.{upper-on, upper-end}
+use Rattle.valuetexts.proofs.put_upper_string.Statement.{statement}
+use Rattle.valuetexts.proofs.put_upper_string.Tie as tie
 
 abbrev Inv-loop : tie.InvT-loop
 Inv-loop out₀ at s p₀ i₀ out p i = (i ≤ length s) × (length out ≡ length out₀) × Leads (pen out₀ p₀) (quoted (upper s)) (pen out p) (quoted (upper (drop i s)))

@@ -1,4 +1,4 @@
--- `values::texts::put_texts` meets its contract.
+-- `valuetexts::put_between` meets its contract.
 use Prim.Native.Nat.{_+_, _-_, _≤_}
 use mathlib.Core.Path.{_≡_, refl}
 use mathlib.Core.Bool.{false}
@@ -8,10 +8,10 @@ use borrow.Author.Needs.{needs}
 use Rattle.octets.proofs.Pen.{then, Leads, leads-start, leads-on, leads-last}
 use Rattle.octets.specs.Pen.{pen}
 use Rattle.octets.specs.Basics.{octets}
 use Rattle.values.specs.Shown.{textsFromShown, textsShown}
-use Rattle.values.proofs.TextRuns.{shown-run, shown-end, shown-escape, shown-next, shown-other}
-use Rattle.values.proofs.texts.put_texts.Statement.{statement}
-use Rattle.values.proofs.texts.put_texts.Tie as tie
+use Rattle.valuetexts.proofs.TextRuns.{shown-run, shown-end, shown-escape, shown-next, shown-other}
+use Rattle.valuetexts.proofs.put_between.Statement.{statement}
+use Rattle.valuetexts.proofs.put_between.Tie as tie
 
 abbrev Inv-loop : tie.InvT-loop
 Inv-loop out₀ at s sep p₀ i₀ t10 out p i = (i ≤ length s + 1) × (length out ≡ length out₀) × (t10 ≡ octets "\",\"") × Leads (pen out₀ p₀) (textsFromShown sep false s) (pen out p) (textsFromShown sep false (drop i s))
@@ -39,8 +39,8 @@ returns-2 : tie.Need-returns-2 Inv-loop μ-loop
 unfolding textsShown
 returns-2 c = then (c .before .before .before .before .before .before .before .before .put .ensures) (leads-last (c .before .before .before .before .before .loop .inv .3) (c .before .before .put3 .ensures) (shown-end _ (c .before .before .before .before .before .before .before .before .before .before .before .before .pre) (c .before .before .before .before .before .before .before .before .before .before .before .before .args .s .now) _ (c .before .before .before .before .loop-test .left)))
 
-pub put-texts-spec : {M : Type 1} → statement M
-put-texts-spec =
+pub put-between-spec : {M : Type 1} → statement M
+put-between-spec =
     tie.close
     (tie.spec
     Inv-loop

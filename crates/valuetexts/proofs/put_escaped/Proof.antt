@@ -1,12 +1,12 @@
--- `values::texts::put_escaped` meets its contract.
+-- `valuetexts::put_escaped` meets its contract.
 use mathlib.Core.Path.{_≡_}
 use mathlib.Core.List.{[], _∷_}
 use borrow.Author.Needs.{needs}
 use borrow.Author.Tests.{ne-eqb}
 use Rattle.octets.proofs.Pen.{as-text}
 use Rattle.json.specs.Print.{escaped}
-use Rattle.values.proofs.texts.put_escaped.Statement.{statement}
-use Rattle.values.proofs.texts.put_escaped.Tie as tie
+use Rattle.valuetexts.proofs.put_escaped.Statement.{statement}
+use Rattle.valuetexts.proofs.put_escaped.Tie as tie
 
 returns : tie.Need-returns
 unfolding escaped
