@@ -5,3 +5,7 @@ pub mod NumberLaws
 pub mod TextLaws
 pub mod RecurLaws
 pub mod ValueLaws
+pub mod Naming
+pub mod Groups
+pub mod Halves
+pub mod Floats
