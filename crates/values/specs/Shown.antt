@@ -50,6 +50,12 @@ textsFromShown sep e (c ∷ s) = octetShown sep e c ++ textsFromShown sep (opens
 unfoldable pub textsShown : ℕ → List ℕ → List ℕ
 textsShown sep s = code "\"" ∷ textsFromShown sep false s
 
+abbrev pub commaTexts : List ℕ → List ℕ
+commaTexts s = textsShown (code ",") s
+
+abbrev pub semicolonTexts : List ℕ → List ℕ
+semicolonTexts s = textsShown (code ";") s
+
 -- what stands behind a backslash
 unfoldable pub escapeShown : List ℕ → List ℕ
 escapeShown [] = []

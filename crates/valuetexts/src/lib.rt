@@ -7,9 +7,8 @@ ghost use Rattle.octets.specs.Classes.{upper};
 ghost use Rattle.octets.specs.Pen.{pen, Wrote};
 ghost use Rattle.json.specs.Print.{escaped, printString};
 ghost use Rattle.json.specs.Promise.{Run};
-ghost use Prim.Native.Char.{code};
 ghost use Rattle.values.specs.Texts.{textsFrom, texts, fields};
-ghost use Rattle.values.specs.Shown.{runOctet, escapeShown, textsShown};
+ghost use Rattle.values.specs.Shown.{runOctet, escapeShown, textsShown, commaTexts, semicolonTexts};
 ghost use Rattle.values.specs.Steps.{counted, isEscape};
 use octets::is_plain_octet;
 use octets::peek;
@@ -164,14 +163,14 @@ pub fn count_fields(s: &[u8]) -> usize
 
 // Writes the texts between the bare commas.
 pub fn put_texts(out: &mut [u8], at: usize, s: &[u8]) -> usize
-    ensures { λ r. ⌜ Wrote (pen (now (out .entry)) at) (textsShown (code ",") (now (s .entry))) (pen (now (out .exit)) r) ⌝ }
+    ensures { λ r. ⌜ Wrote (pen (now (out .entry)) at) (commaTexts (now (s .entry))) (pen (now (out .exit)) r) ⌝ }
 {
     put_between(out, at, s, b',')
 }
 
 // Writes the texts between the bare semicolons.
 pub fn put_fields(out: &mut [u8], at: usize, s: &[u8]) -> usize
-    ensures { λ r. ⌜ Wrote (pen (now (out .entry)) at) (textsShown (code ";") (now (s .entry))) (pen (now (out .exit)) r) ⌝ }
+    ensures { λ r. ⌜ Wrote (pen (now (out .entry)) at) (semicolonTexts (now (s .entry))) (pen (now (out .exit)) r) ⌝ }
 {
     put_between(out, at, s, b';')
 }

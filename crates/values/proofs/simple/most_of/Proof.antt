@@ -13,4 +13,4 @@ returns-2 : tie.Need-returns-2
 returns-2 c = (most-plus _ (λ e. c .if1 .left (c .before .peek .ensures ∙ e)), omega arith)
 
 pub most-of-spec : {M : Type 1} → statement M
-most-of-spec = tie.close (tie.spec (λ c. search needs) (λ c κs. search needs) (λ c. search needs) returns returns-2)
+most-of-spec = tie.close (tie.spec (λ c κs. search needs) (λ c. search needs) returns returns-2)
