@@ -111,7 +111,7 @@ pub record Framed (f : List ℕ) : Type 0 where
   pub high : length f ≤ 34
   pub laid : laidRow row ≡ (length f - 2) ∷ f
 
-one-or-many : (c m : ℕ) → (eqb m 0 or (eqb m 1 and splits c)) ≡ true → pick (eqb m 1) 1 0 ≡ m
+pub one-or-many : (c m : ℕ) → (eqb m 0 or (eqb m 1 and splits c)) ≡ true → pick (eqb m 1) 1 0 ≡ m
 one-or-many c m h = same? m 0
     (λ e. rw e)
     (λ e. let q : m ≡ 1 = eqb-true m 1 (both (eqb m 1) (splits c) (rw e at h) .0) in rw q)

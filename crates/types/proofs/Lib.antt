@@ -8,3 +8,4 @@ pub mod Laying
 pub mod Joining
 pub mod Progress
 pub mod Reading
+pub mod Tables

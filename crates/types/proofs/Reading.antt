@@ -17,6 +17,7 @@ use Rattle.octets.specs.Limits.{mostRows}
 use Rattle.octets.specs.Pen.{Pen, pen, wrote, Wrote}
 use Rattle.octets.specs.Answers.{Answer, refused, accepted, then, orElse, number, Settled, settled, zeroed, answer, outcome, finished}
 use Rattle.octets.specs.declared.Refusal.{Refusal}
+use Rattle.octets.specs.declared.Refusal.the-variants.{TextTooLong, RowsMalformed, NotClean, NotContentLine, NotPaired, TooDeep, BadParameter, BadEncoding, BadValue, NoRoom, NotJson, NotJcal, BadStart, BadRule, NotServed}
 use Rattle.octets.specs.declared.Converted.{Converted}
 use Rattle.octets.specs.declared.Converted.the-variants.{Written, Refused}
 use Rattle.octets.proofs.Cases.{both}
@@ -54,6 +55,24 @@ file-fits hex es e =
     let g = guard-is mayJoin (then? (endedLines (split (code "\n") hex)) (each rowOf)) es e in
     let f = leb-true (length es) mostRows (both (leb (length es) mostRows) (not (twice (namesOf (defaults ++ es)))) (g .1) .0) in
     then-is (endedLines (split (code "\n") hex)) (each rowOf) es (g .0) (λ ls _ k. omega (arith, rows-size ls es k))
+
+-- a refusal has a number
+refusal-number : (w : Refusal) → number w ≡ 0 → ⊥
+refusal-number TextTooLong e = omega arith
+refusal-number RowsMalformed e = omega arith
+refusal-number NotClean e = omega arith
+refusal-number NotContentLine e = omega arith
+refusal-number NotPaired e = omega arith
+refusal-number TooDeep e = omega arith
+refusal-number BadParameter e = omega arith
+refusal-number BadEncoding e = omega arith
+refusal-number BadValue e = omega arith
+refusal-number NoRoom e = omega arith
+refusal-number NotJson e = omega arith
+refusal-number NotJcal e = omega arith
+refusal-number BadStart e = omega arith
+refusal-number BadRule e = omega arith
+refusal-number NotServed e = omega arith
 
 -- the rows of a file, laid out
 module _ (hex : List ℕ) where
@@ -94,3 +113,53 @@ module _ (hex o : List ℕ) where
       pub written : (n : ℕ) → penBehind (Upto n) b ≡ map? (λ es. wrote (pen o 0) (laid es)) (guard mayJoin (rowsOf hex)) → outcome (Written n) b ≡ readRows hex o
       unfolding penBehind
       written n e = map-is (λ es. wrote (pen o 0) (laid es)) (guard mayJoin (rowsOf hex)) (pen b n) (sym e) (λ es q w. laid-out n es q (record { is = sym w }))
+
+-- what is laid out stands for the file's table
+pub table-laid : (hex : List ℕ) → tableOf hex ≡ then (laidOf hex) (λ s. accepted (tableIn s))
+unfolding tableOf laidOf tableIn
+table-laid hex = by (guard mayJoin (rowsOf hex))
+  where
+    by : (o : Option Table) → orElse 2 (map? (λ es. defaults ++ es) o) ≡ then (orElse 2 (map? laid o)) (λ s. accepted (defaults ++ rowsIn s))
+    by none = unfold orElse map? then in refl
+    by (some es) = unfold orElse map? then in rw (rows-again es)
+
+-- what the answer tells of the table, where the buffer has room for any file
+pub record Read-table (hex b : List ℕ) (n : ℕ) : Type 0 where
+  pub table : tableOf hex ≡ accepted (tableIn (take n b))
+  pub within : n ≤ length b
+
+module _ (hex o b : List ℕ) (h : roomForRows ≤ length o) where
+  room : readRows hex o ≡ answer (laidOf hex) o
+  room = enough hex o (omega (arith, room-is))
+
+  read-none : guard mayJoin (rowsOf hex) ≡ none → readRows hex o ≡ settled 2 0 (replicate (length o) 0)
+  unfolding answer zeroed
+  read-none q = room ∙ rw (none-laid hex q)
+
+  read-some : (es : Table) → guard mayJoin (rowsOf hex) ≡ some es → readRows hex o ≡ settled 0 (length (laid es)) (laid es ++ drop (length (laid es)) o)
+  unfolding answer
+  read-some es q = let f = file-fits hex es q in room ∙ rw (some-laid hex es q, le-leb (length (laid es)) (length o) (omega arith))
+
+  pub rows-written : (n : ℕ) → outcome (Written n) b ≡ readRows hex o → Read-table hex b n
+  unfolding outcome then
+  rows-written n e = by (guard mayJoin (rowsOf hex)) refl
+    where
+      laid-there : (es : Table) → guard mayJoin (rowsOf hex) ≡ some es → settled 0 n b ≡ settled 0 (length (laid es)) (laid es ++ drop (length (laid es)) o) → Read-table hex b n
+      laid-there es q k =
+          let l : n ≡ length (laid es) = ap (λ (s : Settled). s .length) k in
+          let c : b ≡ laid es ++ drop (length (laid es)) o = ap (λ (s : Settled). s .buffer) k in
+          record
+            { table = table-laid hex ∙ rw (some-laid hex es q, c, l, take-append-seam (laid es) (drop (length (laid es)) o))
+            ; within = rw (c, l, length-append) (omega arith)
+            }
+      by : (g : Option Table) → guard mayJoin (rowsOf hex) ≡ g → Read-table hex b n
+      by none q = let z : _≡_ {A = ℕ} 0 2 = ap (λ (s : Settled). s .number) (e ∙ read-none q) in absurd (omega arith)
+      by (some es) q = laid-there es q (e ∙ read-some es q)
+
+  pub rows-refused : (w : Refusal) → outcome (Refused w) b ≡ readRows hex o → (tableOf hex ≡ refused 2) × (number w ≡ 2)
+  unfolding outcome then
+  rows-refused w e = by (guard mayJoin (rowsOf hex)) refl
+    where
+      by : (g : Option Table) → guard mayJoin (rowsOf hex) ≡ g → (tableOf hex ≡ refused 2) × (number w ≡ 2)
+      by none q = (table-laid hex ∙ rw (none-laid hex q), ap (λ (s : Settled). s .number) (e ∙ read-none q))
+      by (some es) q = absurd (refusal-number w (ap (λ (s : Settled). s .number) (e ∙ read-some es q)))
