@@ -1,5 +1,6 @@
 // The conversion of iCalendar to jCal.
 mod events;
+mod names;
 mod nesting;
 
 pub use nesting::test_structure;
