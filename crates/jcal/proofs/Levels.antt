@@ -1,0 +1,185 @@
+-- The component that the lines from a place on make, line by line.
+use Prim.Native.Nat.{ℕ, zero, suc, max, _+_, _≤_, _<_}
+use mathlib.Core.Path.{_≡_, refl, sym, ap, _∙_}
+use mathlib.Core.Bool.{Bool, true, false}
+use mathlib.Core.List.{List, [], _∷_, _++_, map, append-assoc}
+use Rattle.octets.specs.Basics.{octets, pick, _and_, all}
+use Rattle.octets.specs.Answers.{Answer, refused, accepted, then}
+use Rattle.octets.proofs.Cases.{both}
+use Rattle.octets.proofs.Answers.{not-accepted, accepted-same, then-accepted}
+use Rattle.json.specs.Tree.{Json, str, arr, Items, noItems, item, itemsOf}
+use Rattle.json.specs.Print.{print, firstItem, moreItems, printString}
+use Rattle.content.specs.Line.{Line}
+use Rattle.converter.specs.Tree.{Property, Component, component, Forest, leaf, grow}
+use Rattle.converter.specs.Structure.{Event, begins, ends, holds, stray}
+use Rattle.converter.specs.Growth.{behindEvent, eachProperty, Level, level, innermost, around, withProperty, withComponent, levelsFrom, outermost, treeOf}
+use Rattle.converter.specs.Jcal.{propertyJson, jcalOf, jcalsOf}
+use Rattle.jcal.specs.Walk.{propertyOr, isAccepted, readEvent, reads, behindEnd, outward, levelAt, componentAt, comma, listed, propertiesText, subsText, headText}
+
+outward-none : (k : ℕ) → outward k [] ≡ []
+unfolding outward around
+outward-none zero = refl
+outward-none (suc k) = outward-none k
+
+module _ (f : Line → Answer Property) where
+  pub level-none : (k : ℕ) → levelAt f k [] ≡ level [] leaf
+  unfolding levelAt levelsFrom innermost
+  level-none k = rw (outward-none k)
+
+  pub level-stray : (k : ℕ) (es : List (Event Line)) → levelAt f k (stray ∷ es) ≡ levelAt f k es
+  unfolding levelAt readEvent levelsFrom
+  level-stray k es = refl
+
+  pub level-ends : (n : List ℕ) (es : List (Event Line)) → levelAt f 0 (ends n ∷ es) ≡ level [] leaf
+  unfolding levelAt readEvent levelsFrom outward innermost
+  level-ends n es = refl
+
+  pub level-left : (k : ℕ) (n : List ℕ) (es : List (Event Line)) → levelAt f (suc k) (ends n ∷ es) ≡ levelAt f k es
+  unfolding levelAt readEvent levelsFrom outward around
+  level-left k n es = refl
+
+  pub level-holds : (l : Line) (es : List (Event Line)) → levelAt f 0 (holds l ∷ es) ≡ level (propertyOr (f l) ∷ (levelAt f 0 es) .properties) ((levelAt f 0 es) .subs)
+  unfolding levelAt readEvent levelsFrom withProperty outward innermost
+  level-holds l es = refl
+
+  pub level-passed : (k : ℕ) (l : Line) (es : List (Event Line)) → levelAt f (suc k) (holds l ∷ es) ≡ levelAt f (suc k) es
+  unfolding levelAt readEvent levelsFrom withProperty outward around
+  level-passed k l es = refl
+
+  pub level-begins : (n : List ℕ) (es : List (Event Line)) → levelAt f 0 (begins n ∷ es) ≡ level ((levelAt f 1 es) .properties) (grow (componentAt f n es) ((levelAt f 1 es) .subs))
+  unfolding levelAt componentAt readEvent levelsFrom withComponent outward innermost
+  level-begins n es = refl
+
+  pub level-entered : (k : ℕ) (n : List ℕ) (es : List (Event Line)) → levelAt f (suc k) (begins n ∷ es) ≡ levelAt f (suc (suc k)) es
+  unfolding levelAt readEvent levelsFrom withComponent outward around
+  level-entered k n es = refl
+
+  -- the component around goes on behind the END
+  pub level-behind : (k : ℕ) (es : List (Event Line)) → levelAt f (suc k) es ≡ levelAt f 0 (behindEnd k es)
+  unfolding behindEnd
+  level-behind k [] = level-none (suc k) ∙ sym (level-none 0)
+  level-behind k (begins n ∷ es) = level-entered k n es ∙ level-behind (suc k) es
+  level-behind zero (ends n ∷ es) = level-left 0 n es
+  level-behind (suc k) (ends n ∷ es) = level-left (suc k) n es ∙ level-behind k es
+  level-behind k (holds l ∷ es) = level-passed k l es ∙ level-behind k es
+  level-behind k (stray ∷ es) = level-stray (suc k) es ∙ level-behind k es
+
+  -- properties that are accepted stay so
+  pub reads-behind : (k : ℕ) (es : List (Event Line)) → all (reads f) es ≡ true → all (reads f) (behindEnd k es) ≡ true
+  unfolding behindEnd all reads
+  reads-behind k [] h = refl
+  reads-behind k (begins n ∷ es) h = reads-behind (suc k) es h
+  reads-behind zero (ends n ∷ es) h = h
+  reads-behind (suc k) (ends n ∷ es) h = reads-behind k es h
+  reads-behind k (holds l ∷ es) h = reads-behind k es (both (isAccepted (f l)) (all (reads f) es) h .1)
+  reads-behind k (stray ∷ es) h = reads-behind k es h
+
+-- items one by one
+listed-none : (first : Bool) → listed first noItems ≡ octets "]"
+unfolding listed firstItem moreItems
+listed-none true = refl
+listed-none false = refl
+
+listed-item : (first : Bool) (j : Json) (js : Items) → listed first (item j js) ≡ comma first ++ (print j ++ listed false js)
+unfolding listed comma firstItem moreItems
+listed-item true j js = refl
+listed-item false j js = refl
+
+-- the text of the properties, line by line
+module _ (f : Line → Answer Property) (first : Bool) where
+  pub properties-none : (k : ℕ) → propertiesText f first k [] ≡ octets "]"
+  unfolding propertiesText itemsOf
+  properties-none k = rw (level-none f k) (listed-none first)
+
+  pub properties-stray : (k : ℕ) (es : List (Event Line)) → propertiesText f first k (stray ∷ es) ≡ propertiesText f first k es
+  unfolding propertiesText
+  properties-stray k es = rw (level-stray f k es)
+
+  pub properties-ends : (n : List ℕ) (es : List (Event Line)) → propertiesText f first 0 (ends n ∷ es) ≡ octets "]"
+  unfolding propertiesText itemsOf
+  properties-ends n es = rw (level-ends f n es) (listed-none first)
+
+  pub properties-left : (k : ℕ) (n : List ℕ) (es : List (Event Line)) → propertiesText f first (suc k) (ends n ∷ es) ≡ propertiesText f first k es
+  unfolding propertiesText
+  properties-left k n es = rw (level-left f k n es)
+
+  pub properties-begins : (k : ℕ) (n : List ℕ) (es : List (Event Line)) → propertiesText f first k (begins n ∷ es) ≡ propertiesText f first (suc k) es
+  unfolding propertiesText
+  properties-begins zero n es = rw (level-begins f n es)
+  properties-begins (suc k) n es = rw (level-entered f k n es)
+
+  pub properties-passed : (k : ℕ) (l : Line) (es : List (Event Line)) → propertiesText f first (suc k) (holds l ∷ es) ≡ propertiesText f first (suc k) es
+  unfolding propertiesText
+  properties-passed k l es = rw (level-passed f k l es)
+
+  pub properties-holds : (l : Line) (es : List (Event Line))
+      → propertiesText f first 0 (holds l ∷ es) ≡ comma first ++ (print (propertyJson (propertyOr (f l))) ++ propertiesText f false 0 es)
+  unfolding propertiesText itemsOf
+  properties-holds l es = rw (level-holds f l es) (listed-item first _ _)
+
+  -- the text of the sub-components
+  pub subs-none : subsText f first [] ≡ octets "]"
+  unfolding subsText jcalsOf
+  subs-none = rw (level-none f 0) (listed-none first)
+
+  pub subs-stray : (es : List (Event Line)) → subsText f first (stray ∷ es) ≡ subsText f first es
+  unfolding subsText
+  subs-stray es = rw (level-stray f 0 es)
+
+  pub subs-ends : (n : List ℕ) (es : List (Event Line)) → subsText f first (ends n ∷ es) ≡ octets "]"
+  unfolding subsText jcalsOf
+  subs-ends n es = rw (level-ends f n es) (listed-none first)
+
+  pub subs-holds : (l : Line) (es : List (Event Line)) → subsText f first (holds l ∷ es) ≡ subsText f first es
+  unfolding subsText
+  subs-holds l es = rw (level-holds f l es)
+
+  pub subs-begins : (n : List ℕ) (es : List (Event Line))
+      → subsText f first (begins n ∷ es) ≡ comma first ++ (print (jcalOf (componentAt f n es)) ++ subsText f false (behindEnd 0 es))
+  unfolding subsText jcalsOf
+  subs-begins n es = rw (level-begins f n es, level-behind f 0 es) (listed-item first _ _)
+
+-- the text of a component
+pub component-text : (f : Line → Answer Property) (n : List ℕ) (es : List (Event Line))
+    → print (jcalOf (componentAt f n es)) ≡ octets "[" ++ (printString n ++ (octets ",[" ++ (propertiesText f true 0 es ++ (octets ",[" ++ (subsText f true es ++ octets "]")))))
+unfolding componentAt jcalOf print firstItem moreItems propertiesText subsText listed
+component-text f n es = refl
+
+pub component-head : (f : Line → Answer Property) (n : List ℕ) (es : List (Event Line))
+    → print (jcalOf (componentAt f n es)) ≡ headText f n es ++ (subsText f true es ++ octets "]")
+unfolding headText
+component-head f n es = component-text f n es ∙ simp append-assoc
+
+-- an event in front of those that are accepted
+behind-accepted {ℓ} : {P : Type ℓ} {B : Type 0} (e : Event B) (a : Answer (List (Event B))) (ps : List (Event B)) → behindEvent e a ≡ accepted ps
+    → ((qs : List (Event B)) → a ≡ accepted qs → e ∷ qs ≡ ps → P) → P
+unfolding behindEvent
+behind-accepted e (refused n) ps h k = not-accepted h
+behind-accepted e (accepted qs) ps h k = k qs refl (accepted-same h)
+
+-- properties that f accepts: none is in fault, and they grow to the component that the code walks
+pub record Grown (f : Line → Answer Property) (es : List (Event Line)) (ps : List (Event Property)) : Type 0 where
+  pub levels : levelsFrom ps ≡ levelsFrom (map (readEvent f) es)
+  pub accepts : all (reads f) es ≡ true
+
+module _ (f : Line → Answer Property) where
+  pub grown : (es : List (Event Line)) (ps : List (Event Property)) → eachProperty f es ≡ accepted ps → Grown f es ps
+  unfolding eachProperty readEvent levelsFrom all reads isAccepted propertyOr
+  grown [] ps h = record { levels = ap levelsFrom (sym (accepted-same h)); accepts = refl }
+  grown (begins n ∷ es) ps h = behind-accepted (begins n) (eachProperty f es) ps h (λ qs q e.
+      let g = grown es qs q in
+      record { levels = rw (← e) (ap (withComponent n) (g .levels)); accepts = g .accepts })
+  grown (ends n ∷ es) ps h = behind-accepted (ends n) (eachProperty f es) ps h (λ qs q e.
+      let g = grown es qs q in
+      record { levels = rw (← e) (ap (λ (ls : List Level). level [] leaf ∷ ls) (g .levels)); accepts = g .accepts })
+  grown (holds l ∷ es) ps h = then-accepted (f l) (λ b. behindEvent (holds b) (eachProperty f es)) ps h (λ b r m. behind-accepted (holds b) (eachProperty f es) ps m (λ qs q e.
+      let g = grown es qs q in
+      record { levels = rw (← e, r) (ap (withProperty b) (g .levels)); accepts = rw r (g .accepts) }))
+  grown (stray ∷ es) ps h = let g = grown es ps h in record { levels = g .levels; accepts = g .accepts }
+
+  -- the tree begins with the first line
+  pub tree-is : (n : List ℕ) (es : List (Event Line)) (ps : List (Event Property)) → Grown f (begins n ∷ es) ps → treeOf ps ≡ componentAt f n es
+  unfolding treeOf
+  tree-is n es ps g =
+      let k : innermost (levelsFrom ps) ≡ levelAt f 0 (begins n ∷ es) = unfold levelAt outward in (ap innermost (g .levels)) in
+      ap (λ (l : Level). outermost (l .subs)) (k ∙ level-begins f n es) ∙ (unfold outermost in refl)

@@ -1,0 +1,214 @@
+-- The open components by the places of their names, and what a line makes of them.
+use Prim.Native.Nat.{ℕ, zero, suc, _+_, _-_, _≤_, _<_}
+use mathlib.Core.Path.{_≡_, refl, sym, ap, _∙_}
+use mathlib.Core.Bool.{Bool, true, false}
+use mathlib.Core.List.{List, [], _∷_, map}
+use native.Mathlib.Numerals.{add-one}
+use native.Mathlib.Omega.{arith}
+use borrow.Author.Tests.{le-leb, lt-leb}
+use lib.Dec.{eqb, leb, eqb·suc-zero}
+use lib.ListN.{length, getD, set, take, drop, length-set}
+use lib.Seq.{getD-set-same, getD-set-other}
+use Rattle.octets.specs.Basics.{octets, pick, same}
+use Rattle.octets.specs.Classes.{lowerOctet, isUpper, between, lower, sameName}
+use Rattle.octets.specs.Limits.{mostLevels}
+use Rattle.octets.specs.Answers.{Answer, refused, accepted, number}
+use Rattle.octets.specs.declared.Refusal.{Refusal}
+use Rattle.octets.specs.declared.Refusal.the-variants.{NotPaired, TooDeep}
+use Rattle.octets.proofs.Limits.{most-levels}
+use Rattle.octets.proofs.Positions.{ended}
+use Rattle.content.specs.Line.{Line}
+use Rattle.content.specs.Scan.{until}
+use Rattle.content.specs.Buffer.{isLf, linesIn}
+use Rattle.content.proofs.Scanning.{scan-is}
+use Rattle.content.proofs.Buffer.{line-here, lines-none}
+use Rattle.content.proofs.Walking.{same-lower}
+use Rattle.converter.specs.Structure.{Event, begins, ends, holds, stray, Nest, fresh, closed, inside, fault, left, nest, nestAfter, verdict}
+use Rattle.jcal.specs.Events.{eventAt, eventsIn, lineFrom, LineAt, nameFrom, told, restOf, Tells}
+use Rattle.jcal.specs.Nesting.{stack, inner, nestOf, aroundOf, Nests, passed, Judged}
+use Rattle.jcal.specs.declared.events.Kind.{Kind}
+use Rattle.jcal.specs.declared.events.Kind.the-variants.{Opens, Closes, Plain, Broken}
+use Rattle.jcal.specs.declared.nesting.Nesting.{Nesting}
+use Rattle.jcal.specs.declared.nesting.Nesting.the-variants.{Unbegun, Within, Complete, Wrong}
+use Rattle.jcal.specs.declared.Tested.{Tested}
+use Rattle.jcal.specs.declared.Tested.the-variants.{Passed, Failed}
+use Rattle.jcal.proofs.Telling.{line-is}
+
+-- a name is nothing where it has no octets
+pub same-empty : (n : List ℕ) → same (lower n) [] ≡ eqb (length n) 0
+unfolding same lower
+same-empty [] = refl
+same-empty (c ∷ n) = sym (eqb·suc-zero (length n))
+
+module _ (s : List ℕ) where
+  stack-length : (xs : List ℕ) (d : ℕ) → length (stack s xs d) ≡ d
+  unfolding stack
+  stack-length xs zero = refl
+  stack-length xs (suc d) = ap suc (stack-length xs d)
+
+  -- a store at or above the top changes no name of the stack
+  stack-set : (xs : List ℕ) (d j v : ℕ) → d ≤ j → stack s (set xs j v) d ≡ stack s xs d
+  unfolding stack
+  stack-set xs zero j v h = refl
+  stack-set xs (suc d) j v h = rw (getD-set-other xs j d v 0 (λ e. omega arith), stack-set xs d j v (omega arith))
+
+  inner-set : (xs : List ℕ) (d v : ℕ) → d + 1 < length xs → inner s (set xs (d + 1) v) (d + 1) ≡ inside (nameFrom s v) (nameFrom s (getD xs d 0) ∷ stack s xs d)
+  unfolding inner stack
+  inner-set xs d v h = rw (getD-set-same xs (d + 1) v 0 h, stack-set xs (d + 1) (d + 1) v (omega arith), add-one)
+
+  -- the name of a component between two places
+  name-part : (at e : ℕ) → e ≡ at + length (until isLf (drop at s)) → lower (take (e - at) (drop at s)) ≡ nameFrom s at
+  unfolding nameFrom lineFrom
+  name-part at e q = ap lower (scan-is isLf s at e q)
+
+  -- a name compared with that at a place
+  pub named-none : (at : ℕ) (n : List ℕ) → length s ≤ at → same (lower n) (nameFrom s at) ≡ same (lower n) []
+  unfolding nameFrom lineFrom until lower
+  named-none at n h = rw (ended s at h)
+
+  pub named-part : (at e : ℕ) (n : List ℕ) → e ≡ at + length (until isLf (drop at s)) → sameName n (take (e - at) (drop at s)) ≡ same (lower n) (nameFrom s at)
+  named-part at e n q = same-lower n (take (e - at) (drop at s)) ∙ ap (same (lower n)) (name-part at e q)
+
+few : (n : ℕ) → n < 8 → n < mostLevels
+few n h = rw most-levels h
+
+-- neither BEGIN
+abbrev Else : Kind → Type 0
+Else (Opens n) = ⊥
+Else (Closes n) = Unit {0}
+Else Plain = Unit {0}
+Else Broken = Unit {0}
+
+-- what a line makes of the open components
+module _ (s xs : List ℕ) (room : length xs ≡ mostLevels) (i e : ℕ) where
+  abbrev ev : Event Line
+  ev = eventAt (lineFrom s i)
+
+  pub first-else : (k : Kind) → Else k → Tells s i e k → Nests s xs (nest fresh ev) (Wrong NotPaired)
+  unfolding nestOf nest told
+  first-else (Opens n) f t = absurd f
+  first-else (Closes n) f t = record { is = rw (← t .is); few = few 0 (omega arith); room = room }
+  first-else Plain f t = record { is = rw (← t .is); few = few 0 (omega arith); room = room }
+  first-else Broken f t = record { is = rw (← t .is); few = few 0 (omega arith); room = room }
+
+  module _ (at : ℕ) (t : Tells s i e (Opens at)) where
+    vcalendar-is : (b : Bool) → sameName (take (e - at) (drop at s)) (octets "VCALENDAR") ≡ b → same (nameFrom s at) (octets "vcalendar") ≡ b
+    unfolding lower lowerOctet isUpper between
+    vcalendar-is b q = ap (λ (n : List ℕ). same n (octets "vcalendar")) (sym (name-part s at e (t .ends))) ∙ sym (same-lower (take (e - at) (drop at s)) (octets "VCALENDAR")) ∙ q
+
+    pub first-opens : sameName (take (e - at) (drop at s)) (octets "VCALENDAR") ≡ true → Nests s (set xs 0 at) (nest fresh ev) (Within 0)
+    unfolding nestOf inner stack nest told
+    first-opens q =
+        record { is = rw (← t .is, vcalendar-is true q, getD-set-same xs 0 at 0 (omega (arith, most-levels))); few = few 0 (omega arith); room = rw length-set room }
+
+    pub first-other : sameName (take (e - at) (drop at s)) (octets "VCALENDAR") ≡ false → Nests s xs (nest fresh ev) (Wrong NotPaired)
+    unfolding nestOf nest told
+    first-other q = record { is = rw (← t .is, vcalendar-is false q); few = few 0 (omega arith); room = room }
+
+    opens-on : (d : ℕ) → leb mostLevels (suc (length (stack s xs d))) ≡ false → nest (inner s xs d) ev ≡ inside (nameFrom s at) (nameFrom s (getD xs d 0) ∷ stack s xs d)
+    unfolding inner nest told
+    opens-on d m = rw (← t .is, m)
+
+    pub inner-opens : (d : ℕ) → d + 1 < 8 → Nests s (set xs (d + 1) at) (nest (inner s xs d) ev) (Within (d + 1))
+    unfolding nestOf
+    inner-opens d h =
+        let m : leb mostLevels (suc (length (stack s xs d))) ≡ false = rw (stack-length s xs d, most-levels) (lt-leb 8 (suc d) (omega arith)) in
+        record { is = inner-set s xs d at (omega (arith, most-levels)) ∙ sym (opens-on d m); few = few (d + 1) h; room = rw length-set room }
+
+    pub inner-deep : (d : ℕ) → 8 ≤ d + 1 → Nests s xs (nest (inner s xs d) ev) (Wrong TooDeep)
+    unfolding nestOf inner nest told
+    inner-deep d h =
+        let m : leb mostLevels (suc (length (stack s xs d))) ≡ true = rw (stack-length s xs d, most-levels) (le-leb 8 (suc d) (omega arith)) in
+        record { is = rw (← t .is, m); few = few 0 (omega arith); room = room }
+
+  module _ (at d : ℕ) (t : Tells s i e (Closes at)) where
+    closes-is : (b : Bool) → same (lower (take (e - at) (drop at s))) (nameFrom s (getD xs d 0)) ≡ b → same (nameFrom s at) (nameFrom s (getD xs d 0)) ≡ b
+    closes-is b q = ap (λ (n : List ℕ). same n (nameFrom s (getD xs d 0))) (sym (name-part s at e (t .ends))) ∙ q
+
+    pub inner-other : same (lower (take (e - at) (drop at s))) (nameFrom s (getD xs d 0)) ≡ false → Nests s xs (nest (inner s xs d) ev) (Wrong NotPaired)
+    unfolding nestOf inner nest told
+    inner-other q = record { is = rw (← t .is, closes-is false q); few = few 0 (omega arith); room = room }
+
+    module _ (q : same (lower (take (e - at) (drop at s))) (nameFrom s (getD xs d 0)) ≡ true) where
+      pub inner-last : d ≡ 0 → Nests s xs (nest (inner s xs d) ev) Complete
+      unfolding nestOf inner nest told
+      inner-last z = record { is = rw (← t .is, closes-is true q, z) (unfold left stack in refl); few = few 0 (omega arith); room = room }
+
+      left-at : (k : ℕ) → d ≡ suc k → left (stack s xs d) ≡ inner s xs k
+      unfolding left stack inner
+      left-at k z = rw z
+
+      pub inner-closes : (d ≡ 0 → ⊥) → d < mostLevels → Nests s xs (nest (inner s xs d) ev) (Within (d - 1))
+      unfolding nestOf nest told
+      inner-closes z h = record { is = rw (← t .is) (unfold inner in (sym (rw (closes-is true q) (left-at (d - 1) (omega arith))))); few = omega (arith, h); room = room }
+
+  pub inner-plain : (d : ℕ) → d < mostLevels → Tells s i e Plain → Nests s xs (nest (inner s xs d) ev) (Within d)
+  unfolding nestOf inner nest told
+  inner-plain d h t = record { is = rw (← t .is); few = h; room = room }
+
+  pub inner-broken : (d : ℕ) → Tells s i e Broken → Nests s xs (nest (inner s xs d) ev) (Wrong NotPaired)
+  unfolding nestOf inner nest told
+  inner-broken d t = record { is = rw (← t .is); few = few 0 (omega arith); room = room }
+
+-- behind the outermost component, and behind a fault
+nest-closed : (e : Event Line) → nest closed e ≡ fault 5
+unfolding nest
+nest-closed (begins m) = refl
+nest-closed (ends m) = refl
+nest-closed (holds a) = refl
+nest-closed stray = refl
+
+nest-fault : (k : ℕ) (e : Event Line) → nest (fault k) e ≡ fault k
+unfolding nest
+nest-fault k (begins m) = refl
+nest-fault k (ends m) = refl
+nest-fault k (holds a) = refl
+nest-fault k stray = refl
+
+pub complete-on : (s xs : List ℕ) → length xs ≡ mostLevels → (e : Event Line) → Nests s xs (nest (nestOf s xs Complete) e) (Wrong NotPaired)
+unfolding nestOf
+complete-on s xs room e = record { is = sym (nest-closed e); few = few 0 (omega arith); room = room }
+
+pub wrong-on : (s xs : List ℕ) → length xs ≡ mostLevels → (r : Refusal) (e : Event Line) → Nests s xs (nest (nestOf s xs (Wrong r)) e) (Wrong r)
+unfolding nestOf
+wrong-on s xs room r e = record { is = sym (nest-fault (number r) e); few = few 0 (omega arith); room = room }
+
+-- the events from a line on
+pub events-here : (s : List ℕ) (i e : ℕ) → LineAt s i e → eventsIn (drop i s) ≡ eventAt (lineFrom s i) ∷ eventsIn (drop (e + 1) s)
+unfolding eventsIn
+events-here s i e h = rw (line-here s i e (h .ends) (h .within), line-is s i e h)
+
+pub events-none : (s : List ℕ) (i : ℕ) → length s ≤ i → eventsIn (drop i s) ≡ []
+unfolding eventsIn
+events-none s i h = rw (lines-none s i h)
+
+-- one line more
+pub nests-on : (s xs ys : List ℕ) (i e : ℕ) (t u : Nesting) → LineAt s i e → Nests s ys (nest (nestOf s xs t) (eventAt (lineFrom s i))) u
+    → nestAfter (nestOf s xs t) (eventsIn (drop i s)) ≡ nestAfter (nestOf s ys u) (eventsIn (drop (e + 1) s))
+unfolding nestAfter
+nests-on s xs ys i e t u h n = rw (events-here s i e h, n .is)
+
+pub nests-end : (s xs : List ℕ) (i : ℕ) (t : Nesting) → length s ≤ i → nestAfter (nestOf s xs t) (eventsIn (drop i s)) ≡ nestOf s xs t
+unfolding nestAfter
+nests-end s xs i t h = rw (events-none s i h)
+
+-- the answer behind the last line
+pub judged-unbegun : Judged Unbegun (Failed NotPaired)
+unfolding passed nestOf verdict
+judged-unbegun s xs = refl
+
+pub judged-within : (d : ℕ) → Judged (Within d) (Failed NotPaired)
+unfolding passed nestOf inner verdict
+judged-within d s xs = refl
+
+pub judged-complete : Judged Complete Passed
+unfolding passed nestOf verdict
+judged-complete s xs = refl
+
+pub judged-wrong : (r : Refusal) → Judged (Wrong r) (Failed r)
+unfolding passed nestOf verdict
+judged-wrong r s xs = refl
+
+-- a nesting under another name
+pub few-as : {t m : Nesting} → aroundOf t < mostLevels → t ≡ m → aroundOf m < mostLevels
+few-as h q = rw q at h

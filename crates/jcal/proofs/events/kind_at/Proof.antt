@@ -1,0 +1,80 @@
+-- `jcal::events::kind_at` meets its contract.
+use mathlib.Core.Path.{sym, _∙_, refl}
+use borrow.Author.Needs.{needs}
+use Rattle.octets.specs.Basics.{all, filled}
+use Rattle.octets.specs.Classes.{between, isDigit, isUpper, isLower, isLetter, nameOctet, isName}
+use Rattle.jcal.proofs.Heads.{alike-length}
+use Rattle.jcal.proofs.Telling.{line-high, tells-opens, tells-broken, tells-closes, tells-broken-end, tells-plain}
+use Rattle.jcal.proofs.events.kind_at.Statement.{statement}
+use Rattle.jcal.proofs.events.kind_at.Tie as tie
+
+sub-line : tie.Need-sub-line
+sub-line c = search needs
+
+part-line-start : tie.Need-part-line-start
+part-line-start c = search needs
+
+part-line-end : tie.Need-part-line-end
+part-line-end c = line-high (c .before .args .buf .now) (c .before .args .i) (c .before .args .e) (c .before .pre)
+
+slice-aggregate-is-called : tie.Need-slice-aggregate-is-called
+slice-aggregate-is-called c = search needs
+
+is-called-requires : tie.Need-is-called-requires
+unfolding isName filled all nameOctet isLetter isUpper isLower isDigit between
+is-called-requires c κs = refl
+
+has-bounds-requires : tie.Need-has-bounds-requires
+has-bounds-requires c κs = alike-length _ _ (sym (c .before .is-called .ensures) ∙ c .if1 .taken)
+
+add-t14 : tie.Need-add-t14
+add-t14 c = search needs
+
+returns : tie.Need-returns
+returns c = tells-opens (c .before .before .before .before .before .before .before .args .buf .now) (c .before .before .before .before .before .before .before .args .i) (c .before .before .before .before .before .before .before .args .e) (c .before .before .before .before .before .before .before .pre) (sym (c .before .before .before .is-called .ensures) ∙ c .before .before .if1 .taken) (sym (c .before .has-bounds .ensures) ∙ c .if2 .taken)
+
+returns-2 : tie.Need-returns-2
+returns-2 c = tells-broken (c .before .before .before .before .before .before .before .args .buf .now) (c .before .before .before .before .before .before .before .args .i) (c .before .before .before .before .before .before .before .args .e) (c .before .before .before .before .before .before .before .pre) (sym (c .before .before .before .is-called .ensures) ∙ c .before .before .if1 .taken) (sym (c .before .has-bounds .ensures) ∙ c .if2 .left)
+
+slice-aggregate-is-called-2 : tie.Need-slice-aggregate-is-called-2
+slice-aggregate-is-called-2 c = search needs
+
+is-called-requires-2 : tie.Need-is-called-requires-2
+unfolding isName filled all nameOctet isLetter isUpper isLower isDigit between
+is-called-requires-2 c κs = refl
+
+has-bounds-requires-2 : tie.Need-has-bounds-requires-2
+has-bounds-requires-2 c κs = alike-length _ _ (sym (c .before .is-called2 .ensures) ∙ c .if3 .taken)
+
+add-t19 : tie.Need-add-t19
+add-t19 c = search needs
+
+returns-3 : tie.Need-returns-3
+returns-3 c = tells-closes (c .before .before .before .before .before .before .before .before .before .before .args .buf .now) (c .before .before .before .before .before .before .before .before .before .before .args .i) (c .before .before .before .before .before .before .before .before .before .before .args .e) (c .before .before .before .before .before .before .before .before .before .before .pre) (sym (c .before .before .before .before .before .before .is-called .ensures) ∙ c .before .before .before .before .before .if1 .left) (sym (c .before .before .before .is-called2 .ensures) ∙ c .before .before .if3 .taken) (sym (c .before .has-bounds2 .ensures) ∙ c .if4 .taken)
+
+returns-4 : tie.Need-returns-4
+returns-4 c = tells-broken-end (c .before .before .before .before .before .before .before .before .before .before .args .buf .now) (c .before .before .before .before .before .before .before .before .before .before .args .i) (c .before .before .before .before .before .before .before .before .before .before .args .e) (c .before .before .before .before .before .before .before .before .before .before .pre) (sym (c .before .before .before .before .before .before .is-called .ensures) ∙ c .before .before .before .before .before .if1 .left) (sym (c .before .before .before .is-called2 .ensures) ∙ c .before .before .if3 .taken) (sym (c .before .has-bounds2 .ensures) ∙ c .if4 .left)
+
+returns-5 : tie.Need-returns-5
+returns-5 c = tells-plain (c .before .before .before .before .before .before .before .before .args .buf .now) (c .before .before .before .before .before .before .before .before .args .i) (c .before .before .before .before .before .before .before .before .args .e) (c .before .before .before .before .before .before .before .before .pre) (sym (c .before .before .before .before .is-called .ensures) ∙ c .before .before .before .if1 .left) (sym (c .before .is-called2 .ensures) ∙ c .if3 .left)
+
+pub kind-at-spec : {M : Type 1} → statement M
+kind-at-spec =
+    tie.close
+    (tie.spec
+    sub-line
+    part-line-start
+    part-line-end
+    slice-aggregate-is-called
+    is-called-requires
+    has-bounds-requires
+    add-t14
+    returns
+    returns-2
+    slice-aggregate-is-called-2
+    is-called-requires-2
+    has-bounds-requires-2
+    add-t19
+    returns-3
+    returns-4
+    returns-5)

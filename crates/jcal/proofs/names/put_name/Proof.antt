@@ -1,0 +1,71 @@
+-- `jcal::names::put_name` meets its contract.
+use Prim.Native.Nat.{_-_}
+use mathlib.Core.Path.{_≡_}
+use native.Mathlib.Omega.{arith}
+use borrow.Author.Needs.{needs}
+use lib.ListN.{length, drop}
+use Rattle.octets.proofs.Pen.{Leads, leads-on, leads-last, then}
+use Rattle.octets.specs.Classes.{lower}
+use Rattle.octets.specs.Pen.{pen}
+use Rattle.json.specs.Print.{quoted, printString}
+use Rattle.jcal.proofs.Strings.{name-on, name-none}
+use Rattle.jcal.proofs.names.put_name.Statement.{statement}
+use Rattle.jcal.proofs.names.put_name.Tie as tie
+
+abbrev Inv-loop : tie.InvT-loop
+Inv-loop out₀ at name to₀ i₀ out to i = (length out ≡ length out₀) × Leads (pen out₀ to₀) (quoted (lower name)) (pen out to) (quoted (lower (drop i name)))
+
+abbrev μ-loop : tie.MeasureT-loop
+μ-loop out₀ at name to₀ i₀ out to i = length name - i
+
+put-requires : tie.Need-put-requires Inv-loop μ-loop
+put-requires c κs = search needs
+
+loop-holds : tie.Need-loop-holds Inv-loop μ-loop
+loop-holds c = search needs
+
+shared-slice-read-lower-octet : tie.Need-shared-slice-read-lower-octet Inv-loop μ-loop
+shared-slice-read-lower-octet c = search needs
+
+lower-octet-requires : tie.Need-lower-octet-requires Inv-loop μ-loop
+lower-octet-requires c κs = search needs
+
+put-escaped-requires : tie.Need-put-escaped-requires Inv-loop μ-loop
+put-escaped-requires c κs = search needs
+
+add-i : tie.Need-add-i Inv-loop μ-loop
+add-i c = search needs
+
+loop-less : tie.Need-loop-less Inv-loop μ-loop
+loop-less c = search needs
+
+loop-again : tie.Need-loop-again Inv-loop μ-loop
+loop-again c = (omega arith, leads-on (c .before .before .before .before .before .before .before .loop .inv .1) (rw (c .before .before .before .lower-octet .ensures) at (c .before .before .put-escaped .ensures)) (name-on (c .before .before .before .before .before .before .before .before .before .before .before .before .before .before .args .name .now) (c .before .before .before .before .before .before .before .loop .i) (c .before .before .before .before .before .before .loop-test .taken)))
+
+put-requires-2 : tie.Need-put-requires-2 Inv-loop μ-loop
+put-requires-2 c κs = search needs
+
+same-length : tie.Need-same-length Inv-loop μ-loop
+same-length c = search needs
+
+returns : tie.Need-returns Inv-loop μ-loop
+unfolding printString
+returns c = then (c .before .before .before .before .before .before .before .before .put .ensures) (leads-last (c .before .before .before .before .before .loop .inv .1) (c .before .before .put2 .ensures) (name-none (c .before .before .before .before .before .before .before .before .before .before .before .before .args .name .now) (c .before .before .before .before .before .loop .i) (c .before .before .before .before .loop-test .left)))
+
+pub put-name-spec : {M : Type 1} → statement M
+put-name-spec =
+    tie.close
+    (tie.spec
+    Inv-loop
+    μ-loop
+    put-requires
+    loop-holds
+    shared-slice-read-lower-octet
+    lower-octet-requires
+    put-escaped-requires
+    add-i
+    loop-less
+    loop-again
+    put-requires-2
+    same-length
+    returns)

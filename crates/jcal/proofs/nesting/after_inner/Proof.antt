@@ -1,0 +1,103 @@
+-- `jcal::nesting::after_inner` meets its contract.
+use mathlib.Core.Path.{sym, _∙_}
+use native.Mathlib.Omega.{arith}
+use borrow.Author.Needs.{needs}
+use borrow.Author.Tests.{not-true, not-false}
+use Rattle.octets.proofs.Limits.{most-levels}
+use Rattle.jcal.proofs.Stacks.{inner-opens, inner-deep, inner-other, inner-last, inner-closes, inner-plain, inner-broken}
+use Rattle.jcal.proofs.Telling.{line-high, told-as}
+use Rattle.jcal.proofs.nesting.after_inner.Statement.{statement}
+use Rattle.jcal.proofs.nesting.after_inner.Tie as tie
+
+kind-at-requires : tie.Need-kind-at-requires
+kind-at-requires c κs = search needs
+
+enum-known-at : tie.Need-enum-known-at
+enum-known-at c = search needs
+
+add-next : tie.Need-add-next
+add-next c = omega (arith, most-levels)
+
+mul-names : tie.Need-mul-names
+mul-names c = search needs
+
+element-write-names : tie.Need-element-write-names
+element-write-names c = search needs
+
+returns : tie.Need-returns
+returns c = inner-opens (c .before .before .before .before .before .before .args .buf .now) (c .before .before .before .before .before .before .args .names .now) (c .before .before .before .before .before .before .pre .1 .1) (c .before .before .before .before .before .before .args .i) (c .before .before .before .before .before .before .args .e) (c .before .before .at .given .0 .0) (told-as (c .before .before .before .before .kind-at .ensures) (c .before .before .at .given .1)) (c .before .before .before .before .before .before .args .around) (c .if1 .taken)
+
+enum-known-at-2 : tie.Need-enum-known-at-2
+enum-known-at-2 c = search needs
+
+mul-open : tie.Need-mul-open
+mul-open c = omega (arith, most-levels)
+
+element-copy-out-open : tie.Need-element-copy-out-open
+element-copy-out-open c = omega (arith, most-levels)
+
+sub-is-named : tie.Need-sub-is-named
+sub-is-named c = omega (arith, told-as (c .before .before .before .before .kind-at .ensures) (c .before .before .at2 .given .1) .within)
+
+part-is-named-start : tie.Need-part-is-named-start
+part-is-named-start c = told-as (c .before .before .before .before .kind-at .ensures) (c .before .before .at2 .given .1) .within
+
+part-is-named-end : tie.Need-part-is-named-end
+part-is-named-end c = line-high (c .before .before .before .before .before .before .args .buf .now) (c .before .before .before .before .before .before .args .i) (c .before .before .before .before .before .before .args .e) (c .before .before .before .before .before .before .pre .0)
+
+is-named-requires : tie.Need-is-named-requires
+is-named-requires c κs = search needs
+
+returns-2 : tie.Need-returns-2
+returns-2 c = inner-other (c .before .before .before .before .before .before .before .before .before .args .buf .now) (c .before .before .before .before .before .before .before .before .before .args .names .now) (c .before .before .before .before .before .before .before .before .before .pre .1 .1) (c .before .before .before .before .before .before .before .before .before .args .i) (c .before .before .before .before .before .before .before .before .before .args .e) (c .before .before .before .before .before .at2 .given .0 .0) (c .before .before .before .before .before .before .before .before .before .args .around) (told-as (c .before .before .before .before .before .before .before .kind-at .ensures) (c .before .before .before .before .before .at2 .given .1)) (sym (c .before .is-named .ensures) ∙ not-true _ (c .if2 .taken))
+
+returns-3 : tie.Need-returns-3
+returns-3 c = inner-last (c .before .before .before .before .before .before .before .before .before .before .args .buf .now) (c .before .before .before .before .before .before .before .before .before .before .args .names .now) (c .before .before .before .before .before .before .before .before .before .before .pre .1 .1) (c .before .before .before .before .before .before .before .before .before .before .args .i) (c .before .before .before .before .before .before .before .before .before .before .args .e) (c .before .before .before .before .before .before .at2 .given .0 .0) (c .before .before .before .before .before .before .before .before .before .before .args .around) (told-as (c .before .before .before .before .before .before .before .before .kind-at .ensures) (c .before .before .before .before .before .before .at2 .given .1)) (sym (c .before .before .is-named .ensures) ∙ not-false _ (c .before .if2 .left)) (c .if3 .taken)
+
+sub-t20 : tie.Need-sub-t20
+sub-t20 c = search needs
+
+enum-told : tie.Need-enum-told
+enum-told c = search needs
+
+enum-told-2 : tie.Need-enum-told-2
+enum-told-2 c = search needs
+
+returns-4 : tie.Need-returns-4
+returns-4 c = inner-deep (c .before .before .before .before .before .before .args .buf .now) (c .before .before .before .before .before .before .args .names .now) (c .before .before .before .before .before .before .pre .1 .1) (c .before .before .before .before .before .before .args .i) (c .before .before .before .before .before .before .args .e) (c .before .before .at .given .0 .0) (told-as (c .before .before .before .before .kind-at .ensures) (c .before .before .at .given .1)) (c .before .before .before .before .before .before .args .around) (c .if1 .left)
+
+returns-5 : tie.Need-returns-5
+returns-5 c = inner-closes (c .before .before .before .before .before .before .before .before .before .before .args .buf .now) (c .before .before .before .before .before .before .before .before .before .before .args .names .now) (c .before .before .before .before .before .before .before .before .before .before .pre .1 .1) (c .before .before .before .before .before .before .before .before .before .before .args .i) (c .before .before .before .before .before .before .before .before .before .before .args .e) (c .before .before .before .before .before .before .at2 .given .0 .0) (c .before .before .before .before .before .before .before .before .before .before .args .around) (told-as (c .before .before .before .before .before .before .before .before .kind-at .ensures) (c .before .before .before .before .before .before .at2 .given .1)) (sym (c .before .before .is-named .ensures) ∙ not-false _ (c .before .if2 .left)) (c .if3 .left) (c .before .before .before .before .before .before .before .before .before .before .pre .1 .0)
+
+returns-6 : tie.Need-returns-6
+returns-6 c = inner-plain (c .before .before .before .before .args .buf .now) (c .before .before .before .before .args .names .now) (c .before .before .before .before .pre .1 .1) (c .before .before .before .before .args .i) (c .before .before .before .before .args .e) (c .before .before .before .before .args .around) (c .before .before .before .before .pre .1 .0) (told-as (c .before .before .kind-at .ensures) (c .enum-told .given .1))
+
+returns-7 : tie.Need-returns-7
+returns-7 c = inner-broken (c .before .before .before .before .args .buf .now) (c .before .before .before .before .args .names .now) (c .before .before .before .before .pre .1 .1) (c .before .before .before .before .args .i) (c .before .before .before .before .args .e) (c .before .before .before .before .args .around) (told-as (c .before .before .kind-at .ensures) (c .enum-told2 .given .1))
+
+pub after-inner-spec : {M : Type 1} → statement M
+after-inner-spec =
+    tie.close
+    (tie.spec
+    kind-at-requires
+    enum-known-at
+    add-next
+    mul-names
+    element-write-names
+    returns
+    enum-known-at-2
+    mul-open
+    element-copy-out-open
+    sub-is-named
+    part-is-named-start
+    part-is-named-end
+    is-named-requires
+    returns-2
+    returns-3
+    sub-t20
+    enum-told
+    enum-told-2
+    returns-4
+    returns-5
+    returns-6
+    returns-7)

@@ -1,0 +1,42 @@
+-- `jcal::nesting::at_end` meets its contract.
+use borrow.Author.Needs.{needs}
+use Rattle.jcal.proofs.Stacks.{judged-unbegun, judged-within, judged-complete, judged-wrong}
+use Rattle.jcal.proofs.nesting.at_end.Statement.{statement}
+use Rattle.jcal.proofs.nesting.at_end.Tie as tie
+
+enum-told : tie.Need-enum-told
+enum-told c = search needs
+
+enum-told-2 : tie.Need-enum-told-2
+enum-told-2 c = search needs
+
+enum-told-3 : tie.Need-enum-told-3
+enum-told-3 c = search needs
+
+enum-known-nesting : tie.Need-enum-known-nesting
+enum-known-nesting c = search needs
+
+returns : tie.Need-returns
+returns c = rw (c .enum-told .given .1) judged-unbegun
+
+returns-2 : tie.Need-returns-2
+returns-2 c = rw (c .enum-told2 .given .1) (judged-within _)
+
+returns-3 : tie.Need-returns-3
+returns-3 c = rw (c .enum-told3 .given .1) judged-complete
+
+returns-4 : tie.Need-returns-4
+returns-4 c = rw (c .before .nesting .given .1) (judged-wrong _)
+
+pub at-end-spec : {M : Type 1} → statement M
+at-end-spec =
+    tie.close
+    (tie.spec
+    enum-told
+    enum-told-2
+    enum-told-3
+    enum-known-nesting
+    returns
+    returns-2
+    returns-3
+    returns-4)

@@ -1,0 +1,50 @@
+-- The events of the lines in a buffer, and how the code tells one: a BEGIN or END line by the place of its component's name.
+use Prim.Native.Nat.{ℕ, _+_, _≤_, _<_}
+use mathlib.Core.Path.{_≡_}
+use mathlib.Core.List.{List, map}
+use lib.ListN.{length, drop}
+use Rattle.octets.specs.Classes.{lower}
+use Rattle.content.specs.Line.{Line, lineOf}
+use Rattle.content.specs.Scan.{until}
+use Rattle.content.specs.Buffer.{isLf, linesIn}
+use Rattle.converter.specs.Structure.{Event, begins, ends, holds, stray, eventOf}
+use Rattle.jcal.specs.declared.events.Kind.{Kind}
+use Rattle.jcal.specs.declared.events.Kind.the-variants.{Opens, Closes, Plain, Broken}
+
+abbrev pub eventAt : List ℕ → Event Line
+eventAt l = eventOf (lineOf l)
+
+unfoldable pub eventsIn : List ℕ → List (Event Line)
+eventsIn s = map eventAt (linesIn s)
+
+-- the line of a buffer that begins at i, or the rest of one from there on
+unfoldable pub lineFrom : List ℕ → ℕ → List ℕ
+lineFrom s i = until isLf (drop i s)
+
+-- a line of the buffer begins at i, and ends at e
+pub record LineAt (s : List ℕ) (i e : ℕ) : Type 0 where
+  pub within : i < length s
+  pub ends : e ≡ i + length (until isLf (drop i s))
+
+-- the name of a component, where it begins at i
+unfoldable pub nameFrom : List ℕ → ℕ → List ℕ
+nameFrom s i = lower (lineFrom s i)
+
+-- what a returned `Kind` says of the line at i
+unfoldable pub told : List ℕ → ℕ → Kind → Event Line
+told s i (Opens n) = begins (nameFrom s n)
+told s i (Closes n) = ends (nameFrom s n)
+told s i Plain = holds (lineOf (lineFrom s i))
+told s i Broken = stray
+
+-- where the line goes on that is told of
+abbrev pub restOf : ℕ → Kind → ℕ
+restOf i (Opens n) = n
+restOf i (Closes n) = n
+restOf i Plain = i
+restOf i Broken = i
+
+pub record Tells (s : List ℕ) (i e : ℕ) (k : Kind) : Type 0 where
+  pub is : told s i k ≡ eventAt (lineFrom s i)
+  pub within : restOf i k ≤ e
+  pub ends : e ≡ restOf i k + length (until isLf (drop (restOf i k) s))

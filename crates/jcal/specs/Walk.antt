@@ -1,0 +1,75 @@
+-- The component that the lines from a place on make, as the code walks them: its properties, its sub-components, and where it ends.
+use Prim.Native.Nat.{ℕ, zero, suc}
+use mathlib.Core.Bool.{Bool, true, false}
+use mathlib.Core.List.{List, [], _∷_, _++_, map}
+use Rattle.octets.specs.Basics.{octets, pick}
+use Rattle.octets.specs.Answers.{Answer, refused, accepted}
+use Rattle.json.specs.Tree.{Json, Items, itemsOf}
+use Rattle.json.specs.Print.{firstItem, moreItems, printString}
+use Rattle.content.specs.Line.{Line}
+use Rattle.converter.specs.Tree.{Property, property, Component, component}
+use Rattle.converter.specs.Structure.{Event, begins, ends, holds, stray}
+use Rattle.converter.specs.Growth.{Level, innermost, around, levelsFrom}
+use Rattle.converter.specs.Jcal.{propertyJson, jcalsOf}
+
+-- the property that is accepted; of no use where it is refused
+unfoldable pub propertyOr : Answer Property → Property
+propertyOr (refused n) = property [] [] [] []
+propertyOr (accepted p) = p
+
+unfoldable pub isAccepted : {A : Type 0} → Answer A → Bool
+isAccepted (refused n) = false
+isAccepted (accepted a) = true
+
+-- an event with its property read by f
+unfoldable pub readEvent : (Line → Answer Property) → Event Line → Event Property
+readEvent f (begins n) = begins n
+readEvent f (ends n) = ends n
+readEvent f (holds l) = holds (propertyOr (f l))
+readEvent f stray = stray
+
+-- f accepts the property, if it is one
+unfoldable pub reads : (Line → Answer Property) → Event Line → Bool
+reads f (begins n) = true
+reads f (ends n) = true
+reads f (holds l) = isAccepted (f l)
+reads f stray = true
+
+-- the events behind the END of the component in whose lines they begin, where k components are open within it
+unfoldable pub behindEnd : ℕ → List (Event Line) → List (Event Line)
+behindEnd k [] = []
+behindEnd k (begins n ∷ es) = behindEnd (suc k) es
+behindEnd zero (ends n ∷ es) = es
+behindEnd (suc k) (ends n ∷ es) = behindEnd k es
+behindEnd k (holds l ∷ es) = behindEnd k es
+behindEnd k (stray ∷ es) = behindEnd k es
+
+unfoldable pub outward : ℕ → List Level → List Level
+outward zero ls = ls
+outward (suc k) ls = outward k (around ls)
+
+-- what stands from here on of the component around the k that are open within it
+unfoldable pub levelAt : (Line → Answer Property) → ℕ → List (Event Line) → Level
+levelAt f k es = innermost (outward k (levelsFrom (map (readEvent f) es)))
+
+-- the component of this name whose lines begin here
+unfoldable pub componentAt : (Line → Answer Property) → List ℕ → List (Event Line) → Component
+componentAt f n es = component n ((levelAt f 0 es) .properties) ((levelAt f 0 es) .subs)
+
+-- a comma, but before the first item
+unfoldable pub comma : Bool → List ℕ
+comma first = pick first [] (octets ",")
+
+-- items and what closes them, where the first is due or some stand already
+unfoldable pub listed : Bool → Items → List ℕ
+listed first js = pick first (firstItem js) (moreItems js)
+
+unfoldable pub propertiesText : (Line → Answer Property) → Bool → ℕ → List (Event Line) → List ℕ
+propertiesText f first k es = listed first (itemsOf (map propertyJson ((levelAt f k es) .properties)))
+
+unfoldable pub subsText : (Line → Answer Property) → Bool → List (Event Line) → List ℕ
+subsText f first es = listed first (jcalsOf ((levelAt f 0 es) .subs))
+
+-- a component up to its sub-components
+unfoldable pub headText : (Line → Answer Property) → List ℕ → List (Event Line) → List ℕ
+headText f n es = octets "[" ++ (printString n ++ (octets ",[" ++ (propertiesText f true 0 es ++ octets ",[")))

@@ -1,0 +1,34 @@
+// Names in lowercase as JSON strings.
+ghost use mathlib.Core.Path.{_≡_};
+ghost use Rattle.octets.specs.Classes.{lower};
+ghost use Rattle.octets.specs.Pen.{pen, Wrote};
+ghost use Rattle.json.specs.Print.{escaped, printString};
+use octets::lower_octet;
+use octets::put;
+use octets::put_all;
+
+// Writes one octet of a string.
+fn put_escaped(out: &mut [u8], at: usize, c: u8) -> usize
+    ensures { λ r. ⌜ Wrote (pen (now (out .entry)) at) (escaped c) (pen (now (out .exit)) r) ⌝ }
+{
+    match c {
+        b'"' => put_all(out, at, b"\\\""),
+        b'\\' => put_all(out, at, b"\\\\"),
+        b'\n' => put_all(out, at, b"\\n"),
+        b'\t' => put_all(out, at, b"\\t"),
+        _ => put(out, at, c),
+    }
+}
+
+// Writes a name in lowercase.
+pub(crate) fn put_name(out: &mut [u8], at: usize, name: &[u8]) -> usize
+    ensures { λ r. ⌜ Wrote (pen (now (out .entry)) at) (printString (lower (now (name .entry)))) (pen (now (out .exit)) r) ⌝ }
+{
+    let mut to = put(out, at, b'"');
+    let mut i = 0;
+    while i < name.len() {
+        to = put_escaped(out, to, lower_octet(name[i]));
+        i += 1;
+    }
+    put(out, to, b'"')
+}
