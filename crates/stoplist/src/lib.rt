@@ -1,4 +1,7 @@
 // The stop list: the moments of a recurrence rule, in a lent list of records.
+mod plans;
+mod runs;
+
 use calendar::moments::Moment;
 use octets::Refusal;
 

@@ -1,0 +1,4 @@
+pub mod Reckoning
+pub mod Running
+pub mod Filling
+pub mod Planning
