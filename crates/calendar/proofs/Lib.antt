@@ -20,7 +20,7 @@ pub mod Walk
 pub mod Gathering
 pub mod Listing
 pub mod Showing
+pub mod Real
 pub mod Choices
 pub mod Turns
-pub mod Real
 pub mod Again

@@ -17,3 +17,5 @@ pub mod Separators
 pub mod Walking
 pub mod Tokens
 pub mod Telling
+pub mod Decoding
+pub mod Objects

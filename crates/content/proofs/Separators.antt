@@ -5,7 +5,7 @@ use mathlib.Core.Path.{_≡_, refl, sym, ap, _∙_}
 use mathlib.Core.Bool.{Bool, true, false, not}
 use mathlib.Core.List.{List, [], _∷_, _++_, map}
 use native.Mathlib.Omega.{arith}
-use borrow.Author.Tests.{eqb-true}
+use borrow.Author.Tests.{eqb-true, eq-eqb}
 use lib.Dec.{eqb}
 use lib.ListN.{length, getD, take, drop, length-drop, length-append}
 use lib.Seq.{drop-drop}
@@ -16,6 +16,7 @@ use Rattle.octets.proofs.Positions.{here, ended, upto, part-length}
 use Rattle.content.specs.Line.{Line, Param, quoteAfter, bare, before, behind, pieces, headed, paramOf, lineOf}
 use Rattle.content.specs.Scan.{untilBare}
 use Rattle.content.specs.Parts.{others, paramsIn, lineAt, Cut, paramAt, CutParam}
+use Rattle.content.specs.declared.parts.Parts.{Parts}
 use Rattle.content.proofs.Scanning.{bare-here, bare-high, bare-is, bare-rest, bare-stop}
 
 -- either of two separators
@@ -130,6 +131,32 @@ unfolding pieces before others
 pieces-first sep q [] = refl
 pieces-first sep q (c ∷ s) = pieces-by sep q c s (bare sep q c) refl (pieces-first sep (quoteAfter q c) s)
 
+pub pieces-filled : (sep : ℕ) (q : Bool) (s : List ℕ) → pieces sep q s ≡ [] → ⊥
+pieces-filled sep q s e =
+    let z : _≡_ {A = ℕ} 0 1 = by (sym (pieces-first sep q s) ∙ e) in
+    omega arith
+  where
+    by : {l : List ℕ} {ls : List (List ℕ)} → l ∷ ls ≡ [] → _≡_ {A = ℕ} 0 1
+    by h = cc
+
+-- by places: the piece from i to the next `sep` at e
+module _ (sep : ℕ) (n : eqb sep (code "\"") ≡ false) (s : List ℕ) (i e : ℕ) (q : e ≡ i + length (untilBare (oneOf sep sep) false (drop i s))) where
+  piece-at : pieces sep false (drop i s) ≡ take (e - i) (drop i s) ∷ others (pieces sep false (drop e s))
+  piece-at =
+      pieces-first sep false (drop i s)
+      ∙ rw (← before-is sep false (drop i s), bare-rest (oneOf sep sep) s i e q, ← bare-is (oneOf sep sep) s i e q)
+
+  pub piece-last : length s ≤ e → pieces sep false (drop i s) ≡ take (e - i) (drop i s) ∷ []
+  unfolding pieces others
+  piece-last h = piece-at ∙ rw (ended s e h)
+
+  pub piece-stop : e < length s → getD s e 0 ≡ sep
+  piece-stop h = eqb-true (getD s e 0) sep (rw (twice-one (eqb (getD s e 0) sep)) at (bare-stop (oneOf sep sep) s i e q h))
+
+  pub piece-on : e < length s → pieces sep false (drop i s) ≡ take (e - i) (drop i s) ∷ pieces sep false (drop (e + 1) s)
+  unfolding pieces others bare quoteAfter cut
+  piece-on h = piece-at ∙ rw (here s e h, piece-stop h, eq-eqb sep sep refl, n)
+
 -- the parts of a line
 module _ (l : List ℕ) (n c : ℕ) (p : n ≡ 0 + length (untilBare (oneOf (code ";") (code ":")) false (drop 0 l)))
     (q : c ≡ n + length (untilBare (oneOf (code ":") (code ":")) false (drop n l))) where
@@ -225,3 +252,17 @@ module _ (s : List ℕ) (i n e : ℕ) (p : n ≡ i + length (untilBare (oneOf (c
     param-equals h =
         let m : e - n ≡ suc (e - (n + 1)) = omega arith in
         cut-by (n + 1) (omega arith) (omega arith) (rw (m, here s n (omega (arith, e-high)), equals h))
+
+-- what the places of a line's parts say of its name, parameters and value
+module _ (l : List ℕ) (p : Parts) (k : Cut l p) where
+  pub cut-name : take (p .name) l ≡ (lineOf l) .name
+  unfolding lineAt
+  cut-name = ap (λ (x : Line). x .name) (k .line)
+
+  pub cut-params : paramsIn (take (p .colon - p .name) (drop (p .name) l)) ≡ (lineOf l) .params
+  unfolding lineAt
+  cut-params = ap (λ (x : Line). x .params) (k .line)
+
+  pub cut-value : drop (p .value) l ≡ (lineOf l) .value
+  unfolding lineAt
+  cut-value = ap (λ (x : Line). x .value) (k .line)

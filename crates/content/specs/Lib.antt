@@ -11,3 +11,4 @@ pub mod Walk
 pub mod Parts
 pub mod Buffer
 pub mod Kinds
+pub mod Object

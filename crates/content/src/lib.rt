@@ -13,6 +13,7 @@ pub use write::write_param_value;
 
 mod form;
 mod lines;
+mod object;
 mod params;
 mod parts;
 mod scan;
@@ -22,6 +23,7 @@ pub use form::is_formed;
 pub use lines::all_clean;
 pub use lines::line_end;
 pub use lines::unfold;
+pub use object::put_params;
 pub use params::ValueType;
 pub use params::is_encoded;
 pub use params::name_twice;

@@ -11,3 +11,7 @@ pub mod Elements
 pub mod ValueLaws
 pub mod Parsing
 pub mod Quotes
+pub mod Printing
+pub mod Fine
+pub mod Surrogates
+pub mod Decoding

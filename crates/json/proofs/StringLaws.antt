@@ -16,7 +16,7 @@ use Rattle.octets.proofs.Classes.{between-true, within-between, below-between, 
 use Rattle.octets.proofs.Positions.{here, ended, past-end, part-rest}
 use Rattle.json.specs.Reads.{Out, ok, deep, bad, fmap, then}
 use Rattle.json.specs.Strings.{escapeOf, digit, hex4, utf8Of, lowOf, low, partner, unit, unicode, escape, piece, pieces, string}
-use Rattle.json.specs.Promise.{Run, codeOf, plainOctet}
+use Rattle.json.specs.Promise.{Run, codeOf, unescaped}
 use Rattle.json.proofs.Outs.{Gives, gives-weaker, by, then-alike, map-map, map-same}
 use Rattle.json.proofs.Runs.{inside, inside-is}
 
@@ -208,30 +208,30 @@ unfolding string pieces
 string-nil = refl
 
 -- by the octet at a place
-plain-is : (b : ℕ) → plainOctet b ≡ true → (ltb b 32 ≡ false) × (eqb b 34 ≡ false) × (eqb b 92 ≡ false)
-unfolding plainOctet
+plain-is : (b : ℕ) → unescaped b ≡ true → (ltb b 32 ≡ false) × (eqb b 34 ≡ false) × (eqb b 92 ≡ false)
+unfolding unescaped
 plain-is b e =
     let w = neither (ltb b 32) (eqb b 34 or eqb b 92) (not-true _ e) in
     let v = neither (eqb b 34) (eqb b 92) (w .1) in
     (w .0, v .0, v .1)
 
-plain-not : (b : ℕ) → plainOctet b ≡ false → eqb b 34 ≡ false → eqb b 92 ≡ false → ltb b 32 ≡ true
-unfolding plainOctet
+plain-not : (b : ℕ) → unescaped b ≡ false → eqb b 34 ≡ false → eqb b 92 ≡ false → ltb b 32 ≡ true
+unfolding unescaped
 plain-not b e x y = cases (ltb b 32) (λ h. h) (λ h. never (ap not (or-false h (or-false x y))) e)
 
-string-plain : (b : ℕ) (s : List ℕ) → plainOctet b ≡ true → string (b ∷ s) ≡ fmap (λ ys. b ∷ ys) (string s)
+string-plain : (b : ℕ) (s : List ℕ) → unescaped b ≡ true → string (b ∷ s) ≡ fmap (λ ys. b ∷ ys) (string s)
 unfolding piece
 string-plain b s h = let w = plain-is b h in string-cons b s ∙ rw (w .1, w .2, w .0)
 
-string-plains : (xs ys : List ℕ) → all plainOctet xs ≡ true → string (xs ++ ys) ≡ fmap (λ zs. xs ++ zs) (string ys)
+string-plains : (xs ys : List ℕ) → all unescaped xs ≡ true → string (xs ++ ys) ≡ fmap (λ zs. xs ++ zs) (string ys)
 unfolding all
 string-plains [] ys h = sym (map-same (string ys))
 string-plains (x ∷ xs) ys h =
-    let b = both (plainOctet x) (all plainOctet xs) h in
+    let b = both (unescaped x) (all unescaped xs) h in
     string-plain x (xs ++ ys) (b .0) ∙ ap (fmap (λ zs. x ∷ zs)) (string-plains xs ys (b .1)) ∙ map-map (λ zs. x ∷ zs) (λ zs. xs ++ zs) (string ys)
 
 module _ (text : List ℕ) where
-  pub string-run : {at r : ℕ} → Run plainOctet text at r → string (drop at text) ≡ fmap (λ zs. take (r - at) (drop at text) ++ zs) (string (drop r text))
+  pub string-run : {at r : ℕ} → Run unescaped text at r → string (drop at text) ≡ fmap (λ zs. take (r - at) (drop at text) ++ zs) (string (drop r text))
   string-run {at} {r} w = ap string (part-rest text at r (w .above)) ∙ string-plains (take (r - at) (drop at text)) (drop r text) (w .inside)
 
   pub string-quote : (i : ℕ) → getD text i 0 ≡ 34 → string (drop i text) ≡ ok [] (drop (i + 1) text)
@@ -241,7 +241,7 @@ module _ (text : List ℕ) where
   unfolding piece
   string-escape i h = ap string (here text i (inside-is text i 92 h (omega arith))) ∙ string-cons (getD text i 0) (drop (i + 1) text) ∙ rw h
 
-  pub string-none : (i : ℕ) → plainOctet (getD text i 0) ≡ false → ((getD text i 0 ≡ 34) → ⊥) → ((getD text i 0 ≡ 92) → ⊥) → string (drop i text) ≡ bad
+  pub string-none : (i : ℕ) → unescaped (getD text i 0) ≡ false → ((getD text i 0 ≡ 34) → ⊥) → ((getD text i 0 ≡ 92) → ⊥) → string (drop i text) ≡ bad
   unfolding piece
   string-none i p q b = cases (ltb i (length text))
       (λ h. ap string (here text i (ltb-true i (length text) h)) ∙ string-cons (getD text i 0) (drop (i + 1) text) ∙ rw (ne-eqb _ 34 q, ne-eqb _ 92 b, plain-not (getD text i 0) p (ne-eqb _ 34 q) (ne-eqb _ 92 b)))

@@ -38,9 +38,9 @@ codeOf (ok n s) = n
 codeOf deep = 65536
 codeOf bad = 65536
 
--- an octet that stands for itself in a string
-unfoldable pub plainOctet : ℕ → Bool
-plainOctet b = not (ltb b 32 or eqb b (code "\"") or eqb b (code "\\"))
+-- an octet that stands for itself in a string (RFC 8259 7, unescaped)
+unfoldable pub unescaped : ℕ → Bool
+unescaped b = not (ltb b 32 or eqb b (code "\"") or eqb b (code "\\"))
 
 -- an octet that is written as it is
 unfoldable pub bareOctet : ℕ → Bool

@@ -7,7 +7,7 @@ ghost use Rattle.octets.specs.Classes.{hexDigit};
 ghost use Rattle.octets.specs.Pen.{pen, Wrote};
 ghost use Rattle.json.specs.Strings.{escapeOf, hex4 as hex4Of, utf8Of, low as lowOf, partner as partnerOf, unicode as unicodeOf, escape as escapeText, string as stringOf};
 ghost use Rattle.json.specs.Tape.{serString};
-ghost use Rattle.json.specs.Promise.{Run, Agrees, codeOf, plainOctet};
+ghost use Rattle.json.specs.Promise.{Run, Agrees, codeOf, unescaped};
 use crate::END;
 use crate::STRING;
 use crate::Step;
@@ -166,8 +166,8 @@ fn escape(text: &[u8], at: usize, tape: &mut [u8], to: usize) -> Step
     Step::Read(at + 1, octets::put(tape, to, x))
 }
 
-fn is_plain(b: u8) -> bool
-    ensures { λ r. ⌜ r ≡ plainOctet b ⌝ }
+fn is_unescaped(b: u8) -> bool
+    ensures { λ r. ⌜ r ≡ unescaped b ⌝ }
 {
     if b < 32 {
         return false;
@@ -179,13 +179,13 @@ fn is_plain(b: u8) -> bool
 }
 
 // The place behind the octets at `at` that stand for themselves.
-fn past_plain(text: &[u8], at: usize) -> usize
+fn past_unescaped(text: &[u8], at: usize) -> usize
     requires { ⌜ at ≤ length (now text) ⌝ }
-    ensures { λ r. ⌜ Run plainOctet (now (text .entry)) at r ⌝ }
+    ensures { λ r. ⌜ Run unescaped (now (text .entry)) at r ⌝ }
 {
     let mut i = at;
     while i < text.len() {
-        if !is_plain(text[i]) {
+        if !is_unescaped(text[i]) {
             return i;
         }
         i += 1;
@@ -201,7 +201,7 @@ pub(crate) fn string(text: &[u8], at: usize, tape: &mut [u8], to: usize) -> Step
     let mut p = octets::put(tape, to, STRING);
     let mut i = at;
     loop {
-        let e = past_plain(text, i);
+        let e = past_unescaped(text, i);
         let q = octets::put_all(tape, p, &text[i..e]);
         let b = octets::peek(text, e);
         if b == b'"' {

@@ -1,4 +1,16 @@
 // The stop list: the moments of a recurrence rule, in a lent list of records.
+mod plans;
+mod runs;
+
+ghost use mathlib.Core.Path.{_≡_};
+ghost use Prim.Native.Nat.{_<_};
+ghost use lib.ListN.{length, set};
+ghost use Rattle.stoplist.specs.Stops.{listOf, answer, outcome};
+ghost use Rattle.stoplist.specs.Runs.{stopsOf, Begins, Laid};
+use crate::plans::conclude;
+use crate::plans::make_plan;
+use crate::runs::Run;
+use crate::runs::next;
 use calendar::moments::Moment;
 use octets::Refusal;
 
@@ -10,4 +22,37 @@ pub struct Stop {
 pub enum Listed {
     Stops(usize),
     Refused(Refusal),
+}
+
+// Stores a record.
+fn store(list: &mut [Stop], at: usize, stop: Stop)
+    requires { ⌜ at < length (now list) ⌝ }
+    ensures { λ _. ⌜ now (list .exit) ≡ set (now (list .entry)) at stop ⌝ }
+{
+    list[at] = stop;
+}
+
+// Lists a run of stops from the front of the list, and says how many there are.
+fn fill(list: &mut [Stop], first: Run) -> usize
+    requires { ⌜ Begins first (length (now list)) ⌝ }
+    ensures { λ r. ⌜ Laid (stopsOf first) (now (list .entry)) (now (list .exit)) r ⌝ }
+{
+    let mut run = first;
+    while run.more {
+        store(&mut *list, run.at, run.stop);
+        let after = next(run);
+        run = after;
+    }
+    run.at
+}
+
+// Lists the stops of a start and a rule.
+pub fn list_stops(start: &[u8], rule: &[u8], list: &mut [Stop]) -> Listed
+    ensures { λ r. ⌜ outcome r (now (list .exit)) ≡ answer (listOf (now (start .entry)) (now (rule .entry)) (length (now (list .entry)))) (now (list .entry)) ⌝ }
+{
+    let room = list.len();
+    let plan = make_plan(start, rule, room);
+    let run = plan.run;
+    let count = fill(list, run);
+    conclude(plan, count)
 }

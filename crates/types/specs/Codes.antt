@@ -1,5 +1,5 @@
 -- The fourteen value types by their codes (01, Which type; RFC 5545 3.3; RFC 7265 3.6).
-use Prim.Native.Nat.{ℕ, suc, _-_}
+use Prim.Native.Nat.{ℕ, suc}
 use mathlib.Core.Bool.{Bool, not}
 use mathlib.Core.List.{List, [], _∷_}
 use lib.Dec.{eqb}
@@ -58,8 +58,9 @@ typeNames =
     octets "binary" ∷ octets "boolean" ∷ octets "cal-address" ∷ octets "date" ∷ octets "date-time" ∷ octets "duration" ∷ octets "float" ∷
     octets "integer" ∷ octets "period" ∷ octets "recur" ∷ octets "text" ∷ octets "time" ∷ octets "uri" ∷ octets "utc-offset" ∷ []
 
+-- the name of a code; nothing for 0 and beyond 14
 unfoldable pub typeName : ℕ → List ℕ
-typeName c = getD typeNames (c - 1) []
+typeName c = getD ([] ∷ typeNames) c []
 
 -- the place of a name in a list, counted from k; 0 where it has none
 unfoldable pub placeFrom : ℕ → List ℕ → List (List ℕ) → ℕ

@@ -1,3 +1,5 @@
 pub mod Codes
 pub mod Table
 pub mod Rows
+pub mod Laid
+pub mod Reading

@@ -4,3 +4,7 @@ pub mod Simple
 pub mod Recur
 pub mod Read
 pub mod Write
+pub mod Coded
+pub mod Single
+pub mod Shown
+pub mod Steps

@@ -1,1 +1,6 @@
-// The fourteen value types, each read from and written to iCalendar and jCal.
+// The fourteen value types: the sorts of values, and those that are neither dates, recurrence rules nor texts.
+pub mod simple;
+mod sorts;
+
+pub use sorts::Sort;
+pub use sorts::sort_of;

@@ -7,7 +7,7 @@ use denote.Ref.{now}
 use Rattle.octets.specs.Pen.{pen}
 use Rattle.json.specs.Strings.{escape as escapeText, string as stringOf}
 use Rattle.json.specs.Tape.{serText}
-use Rattle.json.specs.Promise.{plainOctet}
+use Rattle.json.specs.Promise.{unescaped}
 use Rattle.json.proofs.Runs.{run-next, inside-is}
 use Rattle.json.proofs.Agreements.{HasRead, was-read, agrees-behind, Going, going-start}
 use Rattle.json.proofs.Texts.{text-run, text-close, text-none, text-fails, text-escape}
@@ -21,10 +21,10 @@ Inv-loop text at tape₀ to p₀ i₀ tape p i = (at ≤ i) × (i ≤ length tex
 abbrev μ-loop : tie.MeasureT-loop
 μ-loop text at tape₀ to p₀ i₀ tape p i = length text - i
 
-going : (c : tie.After-peek Inv-loop μ-loop) → Going serText stringOf (now (c .before .before .before .before .before .before .before .before .before .before .before .before .before .before .args .text)) (c .before .before .before .before .before .before .before .before .before .before .before .before .before .before .args .at) (pen (c .before .before .before .before .before .before .before .before .before .before .put .last .0) (c .before .before .before .before .before .before .before .before .before .before .put .result)) (c .before .before .before .before .before .before .before .before .before .before .before .before .before .before .args .at) (pen (c .before .before .before .put-all .last .0) (c .before .before .before .put-all .result)) (c .before .before .before .before .before .before .past-plain .result)
-going c = text-run (c .before .before .before .before .before .before .before .loop .inv .3) (c .before .before .before .before .before .before .past-plain .ensures) (c .before .before .before .put-all .ensures)
+going : (c : tie.After-peek Inv-loop μ-loop) → Going serText stringOf (now (c .before .before .before .before .before .before .before .before .before .before .before .before .before .before .args .text)) (c .before .before .before .before .before .before .before .before .before .before .before .before .before .before .args .at) (pen (c .before .before .before .before .before .before .before .before .before .before .put .last .0) (c .before .before .before .before .before .before .before .before .before .before .put .result)) (c .before .before .before .before .before .before .before .before .before .before .before .before .before .before .args .at) (pen (c .before .before .before .put-all .last .0) (c .before .before .before .put-all .result)) (c .before .before .before .before .before .before .past-unescaped .result)
+going c = text-run (c .before .before .before .before .before .before .before .loop .inv .3) (c .before .before .before .before .before .before .past-unescaped .ensures) (c .before .before .before .put-all .ensures)
 
-escaped : (c : tie.After-known-told Inv-loop μ-loop) → HasRead (λ xs. xs) (now (c .before .before .before .before .before .before .before .before .before .before .before .before .before .before .before .before .before .before .before .before .before .before .before .args .text)) (c .before .before .before .before .before .before .before .before .before .before .before .before .before .before .before .past-plain .result + 1) (pen (c .before .before .before .before .before .before .before .before .before .before .before .before .put-all .last .0) (c .before .before .before .before .before .before .before .before .before .before .before .before .put-all .result)) (c .before .before .before .before .before .escape .last .1 .1 .0) (escapeText (drop (c .before .before .before .before .before .before .before .before .before .before .before .before .before .before .before .past-plain .result + 1) (now (c .before .before .before .before .before .before .before .before .before .before .before .before .before .before .before .before .before .before .before .before .before .before .before .args .text)))) (c .before .v .given .0 .0) (c .before .v .given .0 .1 .0)
+escaped : (c : tie.After-known-told Inv-loop μ-loop) → HasRead (λ xs. xs) (now (c .before .before .before .before .before .before .before .before .before .before .before .before .before .before .before .before .before .before .before .before .before .before .before .args .text)) (c .before .before .before .before .before .before .before .before .before .before .before .before .before .before .before .past-unescaped .result + 1) (pen (c .before .before .before .before .before .before .before .before .before .before .before .before .put-all .last .0) (c .before .before .before .before .before .before .before .before .before .before .before .before .put-all .result)) (c .before .before .before .before .before .escape .last .1 .1 .0) (escapeText (drop (c .before .before .before .before .before .before .before .before .before .before .before .before .before .before .before .past-unescaped .result + 1) (now (c .before .before .before .before .before .before .before .before .before .before .before .before .before .before .before .before .before .before .before .before .before .before .before .args .text)))) (c .before .v .given .0 .0) (c .before .v .given .0 .1 .0)
 escaped c = was-read (c .before .before .before .before .before .escape .ensures) (c .before .v .given .1)
 
 add-t22 : tie.Need-add-t22 Inv-loop μ-loop
@@ -34,8 +34,8 @@ returns : tie.Need-returns Inv-loop μ-loop
 returns c = agrees-behind (c .before .before .before .before .before .before .before .before .before .before .before .before .before .before .before .put .ensures) (text-close (going (c .before .before .before .before .before)) (sym (c .before .before .before .before .before .peek .ensures) ∙ c .before .before .before .before .if1 .taken) (omega arith) (c .before .before .put2 .ensures))
 
 returns-2 : tie.Need-returns-2 Inv-loop μ-loop
-unfolding plainOctet
-returns-2 c = agrees-behind (c .before .before .before .before .before .before .before .before .before .before .before .before .put .ensures) (text-none (going (c .before .before)) (run-next refl (c .before .before .before .before .before .before .before .before .past-plain .ensures)) (λ h. c .before .if1 .left (c .before .before .peek .ensures ∙ h)) (λ h. c .if2 .taken (c .before .before .peek .ensures ∙ h)))
+unfolding unescaped
+returns-2 c = agrees-behind (c .before .before .before .before .before .before .before .before .before .before .before .before .put .ensures) (text-none (going (c .before .before)) (run-next refl (c .before .before .before .before .before .before .before .before .past-unescaped .ensures)) (λ h. c .before .if1 .left (c .before .before .peek .ensures ∙ h)) (λ h. c .if2 .taken (c .before .before .peek .ensures ∙ h)))
 
 add-escape : tie.Need-add-escape Inv-loop μ-loop
 add-escape c = omega (arith, inside-is (now (c .before .before .before .before .before .before .before .before .before .before .before .before .before .before .before .before .args .text)) _ 92 (sym (c .before .before .peek .ensures) ∙ c .if2 .left) (omega arith))

@@ -1,0 +1,109 @@
+-- Decoding a parameter value into a JSON string: runs that stay as they are, and the octets between them.
+use Prim.Native.Nat.{ℕ, zero, suc, _+_, _-_, _≤_, _<_}
+use Prim.Native.Char.{code}
+use mathlib.Core.Path.{_≡_, refl, sym, ap, _∙_}
+use mathlib.Core.Bool.{Bool, true, false, not}
+use mathlib.Core.List.{List, [], _∷_, _++_, append-assoc}
+use native.Mathlib.Omega.{arith}
+use borrow.Author.Tests.{eqb-true}
+use lib.Dec.{eqb}
+use lib.ListN.{length, getD, take, drop}
+use lib.Seq.{drop-drop}
+use Rattle.octets.specs.Basics.{octets, pick, _and_, _or_}
+use Rattle.octets.proofs.Cases.{cases, same?, never, neither, All}
+use Rattle.octets.proofs.Positions.{here, ended, first-of, part-rest}
+use Rattle.json.specs.Print.{escaped, quoted}
+use Rattle.content.specs.Carets.{decodedOctet, caretAfter, decodedFrom, decoded}
+use Rattle.content.specs.Scan.{until}
+use Rattle.content.specs.Object.{standsFor, takes, special}
+use Rattle.content.proofs.Scanning.{until-free, scan-low, scan-is}
+
+-- one octet, or a caret and the octet behind it
+caret-by : (d : ℕ) (s : List ℕ) (n k q : Bool) → eqb d (code "^") ≡ k → eqb d (code "'") ≡ q
+    → pick n (octets "\n") (pick k (octets "^") (pick q (octets "\"") (code "^" ∷ d ∷ []))) ++ decodedFrom false s
+    ≡ pick n (code "\n") (pick q (code "\"") (code "^")) ∷ decodedFrom false (drop (pick n 2 (pick k 2 (pick q 2 1))) (code "^" ∷ d ∷ s))
+unfolding decodedFrom decodedOctet caretAfter
+caret-by d s true k q e f = refl
+caret-by d s false true true e f = absurd (omega (arith, eqb-true d (code "^") e, eqb-true d (code "'") f))
+caret-by d s false true false e f = refl
+caret-by d s false false true e f = refl
+caret-by d s false false false e f = rw e
+
+turn : (c : ℕ) (s : List ℕ) → decodedFrom false (c ∷ s) ≡ standsFor c (getD s 0 0) ∷ decodedFrom false (drop (takes c (getD s 0 0)) (c ∷ s))
+unfolding decodedFrom decodedOctet caretAfter standsFor takes
+turn c [] = same? c (code "^") (λ e. rw e) (λ n. rw n)
+turn c (d ∷ s) = same? c (code "^")
+    (λ e. rw e (caret-by d s (eqb d (code "n")) (eqb d (code "^")) (eqb d (code "'")) refl refl))
+    (λ n. rw n)
+
+-- octets that are not special
+plain-octet : (c : ℕ) → special c ≡ false → (eqb c (code "^") ≡ false) × (escaped c ≡ c ∷ [])
+unfolding special escaped
+plain-octet c e =
+    let k = neither (eqb c (code "^")) _ e in
+    let q = neither (eqb c (code "\"")) _ (k .1) in
+    let b = neither (eqb c (code "\\")) _ (q .1) in
+    let n = neither (eqb c (code "\n")) _ (b .1) in
+    (k .0, rw (q .0, b .0, n .0, n .1))
+
+plain-run : (xs ys : List ℕ) → All (λ c. special c ≡ false) xs → quoted (decodedFrom false (xs ++ ys)) ≡ xs ++ quoted (decodedFrom false ys)
+unfolding decodedFrom decodedOctet caretAfter quoted
+plain-run [] ys h = refl
+plain-run (x ∷ xs) ys h =
+    let p = plain-octet x (h .0) in
+    rw (p .0, p .1, plain-run xs ys (h .1))
+
+-- A loop at i: a run to e, and the octet there.
+module _ (s : List ℕ) (i : ℕ) where
+  pub value-start : quoted (decodedFrom false (drop 0 s)) ≡ quoted (decoded s)
+  unfolding decoded
+  value-start = refl
+
+  pub value-none : length s ≤ i → quoted (decodedFrom false (drop i s)) ≡ code "\"" ∷ []
+  unfolding decodedFrom quoted
+  value-none h = rw (ended s i h)
+
+  module _ (e : ℕ) (q : e ≡ i + length (until special (drop i s))) where
+    run : quoted (decodedFrom false (drop i s)) ≡ take (e - i) (drop i s) ++ quoted (decodedFrom false (drop e s))
+    run =
+        ap (λ (r : List ℕ). quoted (decodedFrom false r)) (part-rest s i e (scan-low special s i e q))
+        ∙ plain-run (take (e - i) (drop i s)) (drop e s) (rw (scan-is special s i e q) (until-free special (drop i s)))
+
+    step : e < length s → decodedFrom false (drop e s)
+        ≡ standsFor (getD s e 0) (getD s (e + 1) 0) ∷ decodedFrom false (drop (e + takes (getD s e 0) (getD s (e + 1) 0)) s)
+    step h =
+        ap (decodedFrom false) (here s e h)
+        ∙ turn (getD s e 0) (drop (e + 1) s)
+        ∙ rw (first-of s (e + 1), ← here s e h, drop-drop)
+
+    pub value-last : length s ≤ e → quoted (decodedFrom false (drop i s)) ≡ take (e - i) (drop i s) ++ code "\"" ∷ []
+    unfolding decodedFrom quoted
+    value-last h = run ∙ rw (ended s e h)
+
+    pub value-on : e < length s → (d x n : ℕ) → d ≡ getD s (e + 1) 0 → x ≡ standsFor (getD s e 0) d → n ≡ takes (getD s e 0) d
+        → quoted (decodedFrom false (drop i s)) ≡ (take (e - i) (drop i s) ++ escaped x) ++ quoted (decodedFrom false (drop (e + n) s))
+    unfolding quoted
+    value-on h d x n f g k = run ∙ rw (g, k, f, step h) (sym (append-assoc (take (e - i) (drop i s)) _ _))
+
+-- what is read is an octet, or two
+pub takes-some : (c d n : ℕ) → n ≡ takes c d → 0 < n
+unfolding takes
+takes-some c d n e = rw e (by (eqb c (code "^")) (eqb d (code "n")) (eqb d (code "^")) (eqb d (code "'")))
+  where
+    by : (a n k q : Bool) → 0 < pick a (pick n 2 (pick k 2 (pick q 2 1))) 1
+    by false n k q = omega arith
+    by true true k q = omega arith
+    by true false true q = omega arith
+    by true false false true = omega arith
+    by true false false false = omega arith
+
+pub takes-few : (c d n : ℕ) → n ≡ takes c d → n ≤ 2
+unfolding takes
+takes-few c d n e = rw e (by (eqb c (code "^")) (eqb d (code "n")) (eqb d (code "^")) (eqb d (code "'")))
+  where
+    by : (a n k q : Bool) → pick a (pick n 2 (pick k 2 (pick q 2 1))) 1 ≤ 2
+    by false n k q = omega arith
+    by true true k q = omega arith
+    by true false true q = omega arith
+    by true false false true = omega arith
+    by true false false false = omega arith

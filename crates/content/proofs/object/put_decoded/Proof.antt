@@ -1,0 +1,114 @@
+-- `content::object::put_decoded` meets its contract.
+use lib.ListN.{length, getD, drop}
+use native.Mathlib.Omega.{arith}
+use mathlib.Core.List.{List}
+use mathlib.Core.Bool.{false}
+use mathlib.Core.Path.{_≡_, refl, sym, ap, _∙_}
+use Prim.Native.Nat.{_+_, _-_}
+use borrow.Author.Needs.{needs}
+use Rattle.content.specs.Object.{standsFor, takes, special}
+use Rattle.content.specs.Carets.{decoded, decodedFrom}
+use Rattle.json.specs.Print.{escaped, quoted}
+use Rattle.octets.proofs.Pen.{Leads, leads-start, leads-on, leads-last, then}
+use Rattle.octets.specs.Pen.{pen}
+use Rattle.content.proofs.Decoding.{value-start, value-none, value-last, value-on, takes-some, takes-few}
+use Rattle.content.proofs.Scanning.{scan-low, scan-high}
+use Rattle.content.proofs.object.put_decoded.Statement.{statement}
+use Rattle.content.proofs.object.put_decoded.Tie as tie
+
+abbrev Inv-loop : tie.InvT-loop
+Inv-loop out₀ at v to₀ i₀ out to i = (length out ≡ length out₀) × Leads (pen out₀ at) (quoted (decoded v)) (pen out to) (quoted (decodedFrom false (drop i v)))
+
+abbrev μ-loop : tie.MeasureT-loop
+μ-loop out₀ at v to₀ i₀ out to i = length v - i
+
+loop-holds : tie.Need-loop-holds Inv-loop μ-loop
+loop-holds c = (refl, rw (value-start (c .before .before .args .v .now) 0) leads-start)
+
+run-end-requires : tie.Need-run-end-requires Inv-loop μ-loop
+run-end-requires c κs = search needs
+
+sub-put-all : tie.Need-sub-put-all Inv-loop μ-loop
+sub-put-all c = search needs
+
+part-put-all-start : tie.Need-part-put-all-start Inv-loop μ-loop
+part-put-all-start c = search needs
+
+part-put-all-end : tie.Need-part-put-all-end Inv-loop μ-loop
+part-put-all-end c = scan-high special (c .before .before .before .before .before .before .args .v .now) (c .before .before .before .loop .i) _ (c .before .run-end .ensures) (omega arith)
+
+put-all-requires : tie.Need-put-all-requires Inv-loop μ-loop
+put-all-requires c κs = search needs
+
+put-requires : tie.Need-put-requires Inv-loop μ-loop
+put-requires c κs = search needs
+
+same-length : tie.Need-same-length Inv-loop μ-loop
+same-length c = search needs
+
+returns : tie.Need-returns Inv-loop μ-loop
+returns c = leads-last (c .before .before .before .before .before .before .before .before .before .before .before .before .loop .inv .1) (then (c .before .before .before .before .before .before .before .put-all .ensures) (c .before .before .put .ensures)) (value-last (c .before .before .before .before .before .before .before .before .before .before .before .before .before .before .before .args .v .now) (c .before .before .before .before .before .before .before .before .before .before .before .before .loop .i) (c .before .before .before .before .before .before .before .before .before .before .run-end .result) (c .before .before .before .before .before .before .before .before .before .before .run-end .ensures) (c .before .before .before .before .if1 .taken))
+
+shared-slice-read-c : tie.Need-shared-slice-read-c Inv-loop μ-loop
+shared-slice-read-c c = search needs
+
+add-peek : tie.Need-add-peek Inv-loop μ-loop
+add-peek c = search needs
+
+peek-requires : tie.Need-peek-requires Inv-loop μ-loop
+peek-requires c κs = search needs
+
+stands-for-requires : tie.Need-stands-for-requires Inv-loop μ-loop
+stands-for-requires c κs = search needs
+
+put-escaped-requires : tie.Need-put-escaped-requires Inv-loop μ-loop
+put-escaped-requires c κs = search needs
+
+taken-requires : tie.Need-taken-requires Inv-loop μ-loop
+taken-requires c κs = search needs
+
+add-i : tie.Need-add-i Inv-loop μ-loop
+add-i c = omega (arith, takes-few _ _ (c .taken .result) (c .taken .ensures))
+
+loop-less : tie.Need-loop-less Inv-loop μ-loop
+loop-less c = omega (arith, takes-some _ _ (c .taken .result) (c .taken .ensures), scan-low special (c .before .before .before .before .before .before .before .before .before .before .before .before .before .before .before .before .before .before .before .args .v .now) (c .before .before .before .before .before .before .before .before .before .before .before .before .before .before .before .before .loop .i) _ (c .before .before .before .before .before .before .before .before .before .before .before .before .before .before .run-end .ensures))
+
+loop-again : tie.Need-loop-again Inv-loop μ-loop
+loop-again c = (omega arith, leads-on (c .before .before .before .before .before .before .before .before .before .before .before .before .before .before .before .before .loop .inv .1) (then (c .before .before .before .before .before .before .before .before .before .before .before .put-all .ensures) (c .before .before .before .put-escaped .ensures)) (value-on (c .before .before .before .before .before .before .before .before .before .before .before .before .before .before .before .before .before .before .before .args .v .now) (c .before .before .before .before .before .before .before .before .before .before .before .before .before .before .before .before .loop .i) (c .before .before .before .before .before .before .before .before .before .before .before .before .before .before .run-end .result) (c .before .before .before .before .before .before .before .before .before .before .before .before .before .before .run-end .ensures) (c .before .before .before .before .before .before .before .before .if1 .left) (c .before .before .before .before .before .before .peek .result) (c .before .before .before .before .stands-for .result) (c .taken .result) (c .before .before .before .before .before .before .peek .ensures) (c .before .before .before .before .stands-for .ensures) (c .taken .ensures)))
+
+put-requires-2 : tie.Need-put-requires-2 Inv-loop μ-loop
+put-requires-2 c κs = search needs
+
+same-length-2 : tie.Need-same-length-2 Inv-loop μ-loop
+same-length-2 c = search needs
+
+returns-2 : tie.Need-returns-2 Inv-loop μ-loop
+returns-2 c = leads-last (c .before .before .before .before .before .loop .inv .1) (c .before .before .put2 .ensures) (value-none (c .before .before .before .before .before .before .before .before .args .v .now) (c .before .before .before .before .before .loop .i) (c .before .before .before .before .loop-test .left))
+
+pub put-decoded-spec : {M : Type 1} → statement M
+put-decoded-spec =
+    tie.close
+    (tie.spec
+    Inv-loop
+    μ-loop
+    loop-holds
+    run-end-requires
+    sub-put-all
+    part-put-all-start
+    part-put-all-end
+    put-all-requires
+    put-requires
+    same-length
+    returns
+    shared-slice-read-c
+    add-peek
+    peek-requires
+    stands-for-requires
+    put-escaped-requires
+    taken-requires
+    add-i
+    loop-less
+    loop-again
+    put-requires-2
+    same-length-2
+    returns-2)

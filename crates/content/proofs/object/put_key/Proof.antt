@@ -1,0 +1,76 @@
+-- `content::object::put_key` meets its contract.
+use lib.ListN.{length, drop}
+use native.Mathlib.Omega.{arith}
+use mathlib.Core.List.{_++_}
+use mathlib.Core.Path.{_≡_, refl, sym}
+use Prim.Native.Nat.{_-_}
+use borrow.Author.Needs.{needs}
+use Rattle.json.specs.Print.{quoted}
+use Rattle.octets.proofs.Pen.{Leads, leads-start, leads-on, leads-last, then, as-text}
+use Rattle.octets.specs.Pen.{pen}
+use Rattle.octets.specs.Classes.{lower}
+use Rattle.octets.specs.Basics.{octets}
+use Rattle.content.proofs.Objects.{key-on, key-end, key-text}
+use Rattle.content.proofs.object.put_key.Statement.{statement}
+use Rattle.content.proofs.object.put_key.Tie as tie
+
+abbrev Inv-loop : tie.InvT-loop
+Inv-loop out₀ at name to₀ i₀ t6 out to i = (length out ≡ length out₀) × Leads (pen out₀ to₀) (quoted (lower (drop 0 name)) ++ octets ":") (pen out to) (quoted (lower (drop i name)) ++ octets ":")
+
+abbrev μ-loop : tie.MeasureT-loop
+μ-loop out₀ at name to₀ i₀ t6 out to i = length name - i
+
+put-requires : tie.Need-put-requires Inv-loop μ-loop
+put-requires c κs = search needs
+
+loop-holds : tie.Need-loop-holds Inv-loop μ-loop
+loop-holds c = search needs
+
+shared-slice-read-lower-octet : tie.Need-shared-slice-read-lower-octet Inv-loop μ-loop
+shared-slice-read-lower-octet c = search needs
+
+lower-octet-requires : tie.Need-lower-octet-requires Inv-loop μ-loop
+lower-octet-requires c κs = search needs
+
+put-escaped-requires : tie.Need-put-escaped-requires Inv-loop μ-loop
+put-escaped-requires c κs = search needs
+
+add-i : tie.Need-add-i Inv-loop μ-loop
+add-i c = search needs
+
+loop-less : tie.Need-loop-less Inv-loop μ-loop
+loop-less c = search needs
+
+loop-again : tie.Need-loop-again Inv-loop μ-loop
+loop-again c = (omega arith, leads-on (c .before .before .before .before .before .before .before .loop .inv .1) (rw (c .before .before .before .lower-octet .ensures) at (c .before .before .put-escaped .ensures)) (key-on (c .before .before .before .before .before .before .before .before .before .before .before .before .before .before .args .name .now) (c .before .before .before .before .before .before .before .loop .i) (c .before .before .before .before .before .before .loop-test .taken)))
+
+slice-aggregate-put-all : tie.Need-slice-aggregate-put-all Inv-loop μ-loop
+slice-aggregate-put-all c = search needs
+
+put-all-requires : tie.Need-put-all-requires Inv-loop μ-loop
+put-all-requires c κs = search needs
+
+same-length : tie.Need-same-length Inv-loop μ-loop
+same-length c = search needs
+
+returns : tie.Need-returns Inv-loop μ-loop
+returns c = as-text (then (c .before .before .before .before .before .before .before .before .before .put .ensures) (leads-last (c .before .before .before .before .before .before .loop .inv .1) (c .before .before .put-all .ensures) (key-end (c .before .before .before .before .before .before .before .before .before .before .before .before .before .args .name .now) (c .before .before .before .before .before .before .loop .i) (c .before .before .before .before .before .loop-test .left)))) (sym (key-text (c .before .before .before .before .before .before .before .before .before .before .before .before .before .args .name .now)))
+
+pub put-key-spec : {M : Type 1} → statement M
+put-key-spec =
+    tie.close
+    (tie.spec
+    Inv-loop
+    μ-loop
+    put-requires
+    loop-holds
+    shared-slice-read-lower-octet
+    lower-octet-requires
+    put-escaped-requires
+    add-i
+    loop-less
+    loop-again
+    slice-aggregate-put-all
+    put-all-requires
+    same-length
+    returns)

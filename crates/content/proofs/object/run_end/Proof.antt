@@ -1,0 +1,56 @@
+-- `content::object::run_end` meets its contract.
+use lib.ListN.{length, drop}
+use native.Mathlib.Omega.{arith}
+use mathlib.Core.Path.{_≡_, refl, sym, _∙_}
+use Prim.Native.Nat.{_+_, _-_}
+use borrow.Author.Needs.{needs}
+use Rattle.content.specs.Object.{special}
+use Rattle.content.specs.Scan.{until}
+use Rattle.content.proofs.Scanning.{until-none, until-here, until-on}
+use Rattle.content.proofs.object.run_end.Statement.{statement}
+use Rattle.content.proofs.object.run_end.Tie as tie
+
+abbrev Inv-loop : tie.InvT-loop
+Inv-loop s at i₀ i = i + length (until special (drop i s)) ≡ at + length (until special (drop at s))
+
+abbrev μ-loop : tie.MeasureT-loop
+μ-loop s at i₀ i = length s - i
+
+loop-holds : tie.Need-loop-holds Inv-loop μ-loop
+loop-holds c = refl
+
+shared-slice-read-is-special : tie.Need-shared-slice-read-is-special Inv-loop μ-loop
+shared-slice-read-is-special c = search needs
+
+is-special-requires : tie.Need-is-special-requires Inv-loop μ-loop
+is-special-requires c κs = search needs
+
+returns : tie.Need-returns Inv-loop μ-loop
+returns c = omega (arith, until-here special (c .before .before .before .before .before .before .args .s .now) (c .before .before .before .before .loop .i) (c .before .before .before .loop-test .taken) (sym (c .before .is-special .ensures) ∙ c .if1 .taken))
+
+add-i : tie.Need-add-i Inv-loop μ-loop
+add-i c = search needs
+
+loop-less : tie.Need-loop-less Inv-loop μ-loop
+loop-less c = search needs
+
+loop-again : tie.Need-loop-again Inv-loop μ-loop
+loop-again c = omega (arith, until-on special (c .before .before .before .before .before .before .args .s .now) (c .before .before .before .before .loop .i) (c .before .before .before .loop-test .taken) (sym (c .before .is-special .ensures) ∙ c .if1 .left))
+
+returns-2 : tie.Need-returns-2 Inv-loop μ-loop
+returns-2 c = omega (arith, until-none special (c .before .before .before .args .s .now) (c .before .loop .i) (c .loop-test .left))
+
+pub run-end-spec : {M : Type 1} → statement M
+run-end-spec =
+    tie.close
+    (tie.spec
+    Inv-loop
+    μ-loop
+    loop-holds
+    shared-slice-read-is-special
+    is-special-requires
+    returns
+    add-i
+    loop-less
+    loop-again
+    returns-2)

@@ -1,0 +1,20 @@
+-- `stoplist::runs::run_at` meets its contract: its tests are the definition's.
+use borrow.Author.Tests.{lt-ltb, le-ltb}
+use borrow.Author.Needs.{needs}
+use Rattle.stoplist.specs.Runs.{runAt}
+use Rattle.stoplist.proofs.runs.run_at.Statement.{statement}
+use Rattle.stoplist.proofs.runs.run_at.Tie as tie
+
+is-within-requires : tie.Need-is-within-requires
+is-within-requires c κs = search needs
+
+returns : tie.Need-returns
+unfolding runAt
+returns c = rw (lt-ltb _ _ (c .before .if1 .taken), c .is-within .ensures)
+
+returns-2 : tie.Need-returns-2
+unfolding runAt
+returns-2 c = rw (le-ltb _ _ (c .if1 .left))
+
+pub run-at-spec : {M : Type 1} → statement M
+run-at-spec = tie.close (tie.spec is-within-requires returns returns-2)

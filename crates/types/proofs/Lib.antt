@@ -1,0 +1,11 @@
+pub mod Names
+pub mod Lookup
+pub mod Laid
+pub mod Types
+pub mod Lines
+pub mod Frames
+pub mod Laying
+pub mod Joining
+pub mod Progress
+pub mod Reading
+pub mod Tables

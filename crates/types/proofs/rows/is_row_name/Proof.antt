@@ -1,0 +1,57 @@
+-- `types::rows::is_row_name` meets its contract.
+use Prim.Native.Nat.{_≤_, _-_}
+use mathlib.Core.Path.{_≡_, refl, sym, _∙_}
+use native.Mathlib.Omega.{arith}
+use borrow.Author.Needs.{needs}
+use borrow.Author.Tests.{not-true, not-false}
+use lib.ListN.{length, drop}
+use Rattle.octets.specs.Basics.{all}
+use Rattle.octets.proofs.Classes.{all-on, all-stop, all-end}
+use Rattle.types.specs.Rows.{rowOctet}
+use Rattle.types.proofs.rows.is_row_name.Statement.{statement}
+use Rattle.types.proofs.rows.is_row_name.Tie as tie
+
+abbrev Inv-loop : tie.InvT-loop
+Inv-loop name i₀ i = (i ≤ length name) × (all rowOctet name ≡ all rowOctet (drop i name))
+
+abbrev μ-loop : tie.MeasureT-loop
+μ-loop name i₀ i = length name - i
+
+loop-holds : tie.Need-loop-holds Inv-loop μ-loop
+loop-holds c = (omega arith, refl)
+
+shared-slice-read-is-row-octet : tie.Need-shared-slice-read-is-row-octet Inv-loop μ-loop
+shared-slice-read-is-row-octet c = search needs
+
+is-row-octet-requires : tie.Need-is-row-octet-requires Inv-loop μ-loop
+is-row-octet-requires c κs = search needs
+
+returns : tie.Need-returns Inv-loop μ-loop
+returns c = sym (c .before .before .before .before .loop .inv .1 ∙ all-stop _ _ _ (c .before .before .before .loop-test .taken) (sym (c .before .is-row-octet .ensures) ∙ not-true _ (c .if1 .taken)))
+
+add-i : tie.Need-add-i Inv-loop μ-loop
+add-i c = search needs
+
+loop-less : tie.Need-loop-less Inv-loop μ-loop
+loop-less c = search needs
+
+loop-again : tie.Need-loop-again Inv-loop μ-loop
+loop-again c = (omega arith, c .before .before .before .before .loop .inv .1 ∙ all-on _ _ _ (c .before .before .before .loop-test .taken) (sym (c .before .is-row-octet .ensures) ∙ not-false _ (c .if1 .left)))
+
+returns-2 : tie.Need-returns-2 Inv-loop μ-loop
+returns-2 c = sym (c .before .loop .inv .1 ∙ all-end _ _ _ (c .loop-test .left))
+
+pub is-row-name-spec : {M : Type 1} → statement M
+is-row-name-spec =
+    tie.close
+    (tie.spec
+    Inv-loop
+    μ-loop
+    loop-holds
+    shared-slice-read-is-row-octet
+    is-row-octet-requires
+    returns
+    add-i
+    loop-less
+    loop-again
+    returns-2)

@@ -1,0 +1,51 @@
+-- `types::rows::line_end` meets its contract.
+use Prim.Native.Nat.{_+_, _≤_, _-_}
+use mathlib.Core.Path.{_≡_}
+use native.Mathlib.Omega.{arith}
+use borrow.Author.Needs.{needs}
+use lib.ListN.{length, drop}
+use Rattle.types.specs.Reading.{firstLine}
+use Rattle.types.proofs.Lines.{line-on, line-stop, line-last}
+use Rattle.types.proofs.rows.line_end.Statement.{statement}
+use Rattle.types.proofs.rows.line_end.Tie as tie
+
+abbrev Inv-loop : tie.InvT-loop
+Inv-loop hex from i₀ i = (i ≤ length hex) × (i + length (firstLine (drop i hex)) ≡ from + length (firstLine (drop from hex)))
+
+abbrev μ-loop : tie.MeasureT-loop
+μ-loop hex from i₀ i = length hex - i
+
+loop-holds : tie.Need-loop-holds Inv-loop μ-loop
+loop-holds c = omega arith
+
+shared-slice-read-if1 : tie.Need-shared-slice-read-if1 Inv-loop μ-loop
+shared-slice-read-if1 c = search needs
+
+returns : tie.Need-returns Inv-loop μ-loop
+returns c = omega (arith, line-stop (c .before .before .before .before .args .hex .now) (c .before .before .before .loop .i) (c .before .before .loop-test .taken) (c .if1 .taken))
+
+add-i : tie.Need-add-i Inv-loop μ-loop
+add-i c = search needs
+
+loop-less : tie.Need-loop-less Inv-loop μ-loop
+loop-less c = search needs
+
+loop-again : tie.Need-loop-again Inv-loop μ-loop
+loop-again c = omega (arith, line-on (c .before .before .before .before .args .hex .now) (c .before .before .before .loop .i) (c .before .before .loop-test .taken) (c .if1 .left))
+
+returns-2 : tie.Need-returns-2 Inv-loop μ-loop
+returns-2 c = omega (arith, line-last (c .before .before .args .hex .now) (c .before .loop .i) (c .loop-test .left))
+
+pub line-end-spec : {M : Type 1} → statement M
+line-end-spec =
+    tie.close
+    (tie.spec
+    Inv-loop
+    μ-loop
+    loop-holds
+    shared-slice-read-if1
+    returns
+    add-i
+    loop-less
+    loop-again
+    returns-2)

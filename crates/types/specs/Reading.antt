@@ -1,0 +1,51 @@
+-- What the private functions promise.
+use Prim.Native.Nat.{ℕ, suc}
+use Prim.Native.Char.{code}
+use mathlib.Core.Bool.{Bool, true, false, not}
+use mathlib.Core.List.{List, [], _∷_}
+use mathlib.Core.Option.{Option, none, some}
+use lib.ListN.{length}
+use Rattle.octets.specs.Pieces.{split}
+use Rattle.octets.specs.Optional.{isSome, guard}
+use Rattle.octets.specs.Classes.{upper}
+use Rattle.octets.specs.Pen.{Pen, pen}
+use Rattle.types.specs.Codes.{typeNames}
+use Rattle.types.specs.Table.{Entry, entry, Table, find}
+use Rattle.types.specs.declared.rows.Laid.{Laid}
+use Rattle.types.specs.declared.rows.Laid.the-variants.{Upto, Malformed}
+
+-- the rows whose names are as long as p says
+abbrev pub keep : Bool → Entry → Table → Table
+keep true e t = e ∷ t
+keep false e t = t
+
+unfoldable pub those : (ℕ → Bool) → Table → Table
+those p [] = []
+those p (e ∷ t) = keep (p (length (e .name))) e (those p t)
+
+-- names as rows, with codes from k on
+unfoldable pub numbered : ℕ → List (List ℕ) → Table
+numbered k [] = []
+numbered k (n ∷ ns) = entry (upper n) k false ∷ numbered (suc k) ns
+
+-- the fourteen types as rows
+unfoldable pub types : Table
+types = numbered 1 typeNames
+
+-- the first of some pieces
+unfoldable pub first : List (List ℕ) → List ℕ
+first [] = []
+first (l ∷ ls) = l
+
+-- the octets before the first line feed
+unfoldable pub firstLine : List ℕ → List ℕ
+firstLine s = first (split (code "\n") s)
+
+-- a row, where the table does not list its name
+unfoldable pub unlisted : Table → Option Entry → Option Entry
+unlisted t r = guard (λ e. not (isSome (find t (e .name)))) r
+
+-- the pen behind what was laid out, with the buffer as it is then
+unfoldable pub penBehind : Laid → List ℕ → Option Pen
+penBehind (Upto n) b = some (pen b n)
+penBehind Malformed b = none

@@ -1,0 +1,225 @@
+// Reading rows.hex.
+ghost use mathlib.Core.Path.{_≡_};
+ghost use Prim.Native.Nat.{_+_, _≤_};
+ghost use lib.Dec.{eqb};
+ghost use lib.ListN.{length, take, drop};
+ghost use Rattle.octets.specs.Basics.{_and_, _or_, all};
+ghost use Rattle.octets.specs.Classes.{between};
+ghost use Rattle.octets.specs.Optional.{map?, isSome, guard};
+ghost use Rattle.octets.specs.Pen.{pen, wrote};
+ghost use Rattle.octets.specs.Answers.{outcome};
+ghost use Rattle.types.specs.Codes.{binary, utcOffset, splits};
+ghost use Rattle.types.specs.Table.{find};
+ghost use Rattle.types.specs.Rows.{rowOctet, entryOf, rowOf, rowsOf, mayJoin};
+ghost use Rattle.types.specs.Laid.{laidRow, laid, tableIn, roomForRows, readRows};
+ghost use Rattle.types.specs.Reading.{firstLine, unlisted, penBehind};
+use crate::Found;
+use crate::ROOM_FOR_ROWS;
+use crate::table::find;
+use octets::Converted;
+use octets::MOST_ROWS;
+use octets::Refusal;
+use octets::hex_digit;
+use octets::is_digit;
+use octets::is_upper;
+use octets::put;
+use octets::put_all;
+use octets::refuse;
+use octets::same;
+
+// Where laying out rows came to.
+enum Laid {
+    Upto(usize),
+    Malformed,
+}
+
+// Reads the content of rows.hex, and lays its rows out at the front of a buffer.
+pub fn read_rows(hex: &[u8], rows: &mut [u8]) -> Converted
+    ensures { λ r. ⌜ outcome r (now (rows .exit)) ≡ readRows (now (hex .entry)) (now (rows .entry)) ⌝ }
+{
+    if rows.len() < ROOM_FOR_ROWS {
+        return refuse(rows, Refusal::NoRoom);
+    }
+    match lay_rows(hex, rows) {
+        Laid::Upto(n) => Converted::Written(n),
+        Laid::Malformed => refuse(rows, Refusal::RowsMalformed),
+    }
+}
+
+// Lays out the rows line by line.
+fn lay_rows(hex: &[u8], rows: &mut [u8]) -> Laid
+    requires { ⌜ roomForRows ≤ length (now rows) ⌝ }
+    ensures { λ r. ⌜ penBehind r (now (rows .exit)) ≡ map? (λ es. wrote (pen (now (rows .entry)) 0) (laid es)) (guard mayJoin (rowsOf (now (hex .entry)))) ⌝ }
+{
+    let mut from = 0;
+    let mut at = 0;
+    let mut count = 0;
+    while from < hex.len() {
+        let end = line_end(hex, from);
+        if end == hex.len() {
+            return Laid::Malformed;
+        }
+        if count == MOST_ROWS {
+            return Laid::Malformed;
+        }
+        let Laid::Upto(next) = lay_line(&hex[from..end], rows, at) else {
+            return Laid::Malformed;
+        };
+        at = next;
+        from = end + 1;
+        count += 1;
+    }
+    Laid::Upto(at)
+}
+
+// The place of the next line feed, or the end.
+fn line_end(hex: &[u8], from: usize) -> usize
+    requires { ⌜ from ≤ length (now hex) ⌝ }
+    ensures { λ r. ⌜ r ≡ from + length (firstLine (drop from (now (hex .entry)))) ⌝ }
+{
+    let mut i = from;
+    while i < hex.len() {
+        if hex[i] == b'\n' {
+            return i;
+        }
+        i += 1;
+    }
+    i
+}
+
+// Lays out the row of a line, where it is one and its name is not listed already.
+fn lay_line(line: &[u8], rows: &mut [u8], at: usize) -> Laid
+    requires { ⌜ at ≤ length (now rows) ⌝ }
+    ensures { λ r. ⌜ penBehind r (now (rows .exit)) ≡ map? (λ e. wrote (pen (now (rows .entry)) at) (laidRow e)) (unlisted (tableIn (take at (now (rows .entry)))) (rowOf (now (line .entry)))) ⌝ }
+{
+    let mut frame = [0u8; 34];
+    let n = decode(line, &mut frame);
+    lay_frame(&frame[0..n], rows, at)
+}
+
+// Lays out the row of a frame, where it is one and its name is not listed already.
+fn lay_frame(frame: &[u8], rows: &mut [u8], at: usize) -> Laid
+    requires { ⌜ at ≤ length (now rows) ⌝ }
+    ensures { λ r. ⌜ penBehind r (now (rows .exit)) ≡ map? (λ e. wrote (pen (now (rows .entry)) at) (laidRow e)) (unlisted (tableIn (take at (now (rows .entry)))) (entryOf (now (frame .entry)))) ⌝ }
+{
+    if !is_row(frame) {
+        return Laid::Malformed;
+    }
+    if is_listed(&rows[0..at], &frame[2..]) {
+        return Laid::Malformed;
+    }
+    let start = put(rows, at, (frame.len() - 2) as u8);
+    Laid::Upto(put_all(rows, start, frame))
+}
+
+fn is_listed(rows: &[u8], name: &[u8]) -> bool
+    ensures { λ r. ⌜ r ≡ isSome (find (tableIn (now (rows .entry))) (now (name .entry))) ⌝ }
+{
+    match find(rows, name) {
+        Found::Listed(_, _) => true,
+        Found::Unlisted => false,
+    }
+}
+
+// Decodes the frame of a line, and answers its length: 0 for a line that is no row.
+fn decode(line: &[u8], frame: &mut [u8]) -> usize
+    requires { ⌜ length (now frame) ≡ 34 ⌝ }
+    ensures { λ r. ⌜ (r ≤ 34) × (entryOf (take r (now (frame .exit))) ≡ rowOf (now (line .entry))) ⌝ }
+{
+    if 68 < line.len() {
+        return 0;
+    }
+    let mut n = 0;
+    while 2 * n < line.len() {
+        if 2 * n + 1 == line.len() {
+            return 0;
+        }
+        let high = hex_digit(line[2 * n]);
+        let low = hex_digit(line[2 * n + 1]);
+        if 15 < high {
+            return 0;
+        }
+        if 15 < low {
+            return 0;
+        }
+        frame[n] = high * 16 + low;
+        n += 1;
+    }
+    n
+}
+
+// A frame is a row.
+fn is_row(frame: &[u8]) -> bool
+    ensures { λ r. ⌜ r ≡ isSome (entryOf (now (frame .entry))) ⌝ }
+{
+    if frame.len() < 3 {
+        return false;
+    }
+    if 34 < frame.len() {
+        return false;
+    }
+    if !is_kind(frame[0], frame[1]) {
+        return false;
+    }
+    let name = &frame[2..];
+    if !is_row_name(name) {
+        return false;
+    }
+    if same(name, b"BEGIN") {
+        return false;
+    }
+    !same(name, b"END")
+}
+
+// One of the fourteen codes, with 0 for one value, or 1 for many of a type that splits.
+fn is_kind(code: u8, many: u8) -> bool
+    ensures { λ r. ⌜ r ≡ (between binary utcOffset code and (eqb many 0 or (eqb many 1 and splits code))) ⌝ }
+{
+    if code < 1 {
+        return false;
+    }
+    if 14 < code {
+        return false;
+    }
+    match many {
+        0 => true,
+        1 => does_split(code),
+        _ => false,
+    }
+}
+
+// Values of a type split at commas.
+fn does_split(code: u8) -> bool
+    ensures { λ r. ⌜ r ≡ splits code ⌝ }
+{
+    match code {
+        0 | 1 | 3 | 10 | 13 => false,
+        _ => true,
+    }
+}
+
+// Uppercase letters, digits and hyphens.
+fn is_row_name(name: &[u8]) -> bool
+    ensures { λ r. ⌜ r ≡ all rowOctet (now (name .entry)) ⌝ }
+{
+    let mut i = 0;
+    while i < name.len() {
+        if !is_row_octet(name[i]) {
+            return false;
+        }
+        i += 1;
+    }
+    true
+}
+
+fn is_row_octet(c: u8) -> bool
+    ensures { λ r. ⌜ r ≡ rowOctet c ⌝ }
+{
+    if is_upper(c) {
+        return true;
+    }
+    if is_digit(c) {
+        return true;
+    }
+    c == b'-'
+}

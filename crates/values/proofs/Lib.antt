@@ -1,0 +1,11 @@
+pub mod Neat
+pub mod Lifting
+pub mod FixedLaws
+pub mod NumberLaws
+pub mod TextLaws
+pub mod RecurLaws
+pub mod ValueLaws
+pub mod Naming
+pub mod Groups
+pub mod Halves
+pub mod Floats

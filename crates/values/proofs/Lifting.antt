@@ -1,0 +1,171 @@
+-- The laws of a property's values from the law of one value: of a value that stands alone, and of values between commas.
+use Prim.Native.Nat.{ℕ}
+use Prim.Native.Char.{code}
+use mathlib.Core.Path.{_≡_, refl, sym, ap, _∙_}
+use mathlib.Core.Bool.{Bool, true, false}
+use mathlib.Core.List.{List, [], _∷_, map}
+use mathlib.Core.Option.{Option, some}
+use Rattle.octets.specs.Basics.{_and_, all, filled, single}
+use Rattle.octets.specs.Pieces.{split, joined}
+use Rattle.octets.specs.Optional.{map?, both?, each}
+use Rattle.octets.specs.Classes.{isControl, plainOctet}
+use Rattle.octets.specs.Utf8.{dueAfter, isStart, utf8, clean}
+use Rattle.octets.proofs.Cases.{and-true, and-true-right, never, All, all-All, All-all}
+use Rattle.octets.proofs.Optional.{map-is, each-none, each-is}
+use Rattle.octets.proofs.Pieces.{Free, split-last, split-free, split-filled, joined-split, list-again}
+use Rattle.octets.proofs.Utf8.{ascii, clean-cut}
+use Rattle.json.specs.Tree.{Json}
+use Rattle.values.specs.Sorts.{Sort, splits}
+use Rattle.values.specs.Read.{alone, listed, readValues}
+use Rattle.values.specs.Write.{valueIs, valueText, valuesText}
+use Rattle.values.proofs.Neat.{Neat}
+
+-- a value j of a sort that the rule R reads from s: what is written is read again, and passes the tests of jCal; of a clean text it is neat, and
+-- what is written is clean
+pub record Item (sort : Sort) (R : List ℕ → Option Json) (s : List ℕ) (j : Json) : Type 0 where
+  pub again : R (valueText sort j) ≡ some j
+  pub is : valueIs sort j ≡ true
+  pub line : clean s ≡ true → clean (valueText sort j) ≡ true
+  pub neat : clean s ≡ true → Neat 2 j
+
+abbrev pub ItemLaw : Sort → (List ℕ → Option Json) → Type 0
+ItemLaw sort R = (s : List ℕ) (j : Json) → R s ≡ some j → Item sort R s j
+
+-- and no comma comes in
+abbrev pub CommaLaw : Sort → (List ℕ → Option Json) → Type 0
+CommaLaw sort R = (s : List ℕ) (j : Json) → Free (code ",") s → R s ≡ some j → Free (code ",") (valueText sort j)
+
+abbrev pub ListLaw : Sort → (List ℕ → Option Json) → Type 0
+ListLaw sort R = ItemLaw sort R × CommaLaw sort R
+
+-- the same of all values of a property
+pub record Held (sort : Sort) (raw : List ℕ) (vs : List Json) : Type 0 where
+  pub again : readValues sort (valuesText sort vs) ≡ some vs
+  -- no value's text runs into another's: each is read as that value alone
+  pub pieces : All (λ j. readValues sort (valueText sort j) ≡ some (j ∷ [])) vs
+  pub are : all (valueIs sort) vs ≡ true
+  pub one-or-more : filled vs ≡ true
+  pub only : splits sort ≡ false → single vs ≡ true
+  pub line : clean raw ≡ true → clean (valuesText sort vs) ≡ true
+  pub neat : clean raw ≡ true → All (Neat 2) vs
+
+-- clean pieces
+clean-none : clean [] ≡ true
+unfolding clean utf8 dueAfter isStart all
+clean-none = refl
+
+module _ (sep : ℕ) (low : ascii sep ≡ true) (plain : plainOctet sep ≡ true) where
+  pub clean-joined : (ls : List (List ℕ)) → clean (joined sep ls) ≡ all clean ls
+  unfolding joined all
+  clean-joined [] = clean-none
+  clean-joined (l ∷ []) = sym (and-true-right (clean l))
+  clean-joined (l ∷ m ∷ ls) = clean-cut l sep (joined sep (m ∷ ls)) low plain ∙ ap (λ (b : Bool). clean l and b) (clean-joined (m ∷ ls))
+
+  pub clean-split : (s : List ℕ) → all clean (split sep s) ≡ clean s
+  clean-split s = sym (clean-joined (split sep s)) ∙ ap clean (joined-split sep s)
+
+-- the separators of values
+pub comma-low : ascii (code ",") ≡ true
+unfolding ascii
+comma-low = refl
+
+pub comma-plain : plainOctet (code ",") ≡ true
+unfolding plainOctet isControl
+comma-plain = refl
+
+-- what each element tells
+pub each-All : {A B : Type 0} (f : A → Option B) (P : A → Type 0) (Q : B → Type 0) → ((a : A) (b : B) → P a → f a ≡ some b → Q b)
+    → (xs : List A) (bs : List B) → All P xs → each f xs ≡ some bs → All Q bs
+each-All f P Q k [] bs h e = rw (each-none f bs e) tt
+each-All f P Q k (a ∷ xs) bs h e = each-is f a xs bs e (λ b cs p q w. rw (← w) (k a b (h .0) p, each-All f P Q k xs cs (h .1) q))
+
+pub All-map : {A B : Type 0} (P : B → Type 0) (f : A → B) (xs : List A) → All (λ a. P (f a)) xs → All P (map f xs)
+All-map P f [] h = tt
+All-map P f (a ∷ xs) h = (h .0, All-map P f xs (h .1))
+
+pub each-filled : {A B : Type 0} (f : A → Option B) (xs : List A) (bs : List B) → (xs ≡ [] → ⊥) → each f xs ≡ some bs → filled bs ≡ true
+each-filled f [] bs n e = absurd (n refl)
+each-filled f (a ∷ xs) bs n e = each-is f a xs bs e (λ b cs p q w. rw (← w) (unfold filled in refl))
+
+-- a value that stands alone
+module _ (sort : Sort) (R : List ℕ → Option Json) (law : ItemLaw sort R) (reads : (s : List ℕ) → readValues sort s ≡ alone (R s)) where
+  single-text : (j : Json) → valuesText sort (j ∷ []) ≡ valueText sort j
+  unfolding valuesText joined
+  single-text j = refl
+
+  single-piece : (j : Json) → R (valueText sort j) ≡ some j → readValues sort (valueText sort j) ≡ some (j ∷ [])
+  unfolding alone map?
+  single-piece j e = reads (valueText sort j) ∙ rw e
+
+  single-held : (raw : List ℕ) (j : Json) → Item sort R raw j → Held sort raw (j ∷ [])
+  unfolding all filled single
+  single-held raw j h = record {
+    again = rw (single-text j) (single-piece j (h .again));
+    pieces = (single-piece j (h .again), tt);
+    are = and-true (h .is) refl;
+    one-or-more = refl;
+    only = λ n. refl;
+    line = λ c. rw (single-text j) (h .line c);
+    neat = λ c. (h .neat c, tt);
+  }
+
+  pub alone-held : (raw : List ℕ) (vs : List Json) → readValues sort raw ≡ some vs → Held sort raw vs
+  unfolding alone
+  alone-held raw vs e = map-is (λ j. j ∷ []) (R raw) vs (sym (reads raw) ∙ e) (λ j q w. rw (← w) (single-held raw j (law raw j q)))
+
+-- values between commas
+module _ (sort : Sort) (R : List ℕ → Option Json) (law : ListLaw sort R) (reads : (s : List ℕ) → readValues sort s ≡ listed R s)
+    (many : splits sort ≡ true) where
+  one-piece : (j : Json) → R (valueText sort j) ≡ some j → Free (code ",") (valueText sort j) → readValues sort (valueText sort j) ≡ some (j ∷ [])
+  unfolding listed each both?
+  one-piece j e f = reads (valueText sort j) ∙ rw (split-last (code ",") (valueText sort j) f, e)
+
+  module _ (raw : List ℕ) (vs : List Json) (e : each R (split (code ",") raw) ≡ some vs) where
+    list-is : All (λ j. valueIs sort j ≡ true) vs
+    list-is = each-All R (λ s. Unit {0}) (λ j. valueIs sort j ≡ true) (λ s j u q. law .0 s j q .is) (split (code ",") raw) vs (all-units (split (code ",") raw)) e
+      where
+        all-units : (ls : List (List ℕ)) → All (λ s. Unit {0}) ls
+        all-units [] = tt
+        all-units (l ∷ ls) = (tt, all-units ls)
+
+    pieces : clean raw ≡ true → All (λ s. clean s ≡ true) (split (code ",") raw)
+    pieces c = all-All clean (split (code ",") raw) (clean-split (code ",") comma-low comma-plain raw ∙ c)
+
+    list-line : clean raw ≡ true → clean (valuesText sort vs) ≡ true
+    unfolding valuesText
+    list-line c =
+        clean-joined (code ",") comma-low comma-plain (map (valueText sort) vs)
+        ∙ All-all clean (map (valueText sort) vs) (All-map (λ s. clean s ≡ true) (valueText sort) vs
+        (each-All R (λ s. clean s ≡ true) (λ j. clean (valueText sort j) ≡ true) (λ s j d q. law .0 s j q .line d) (split (code ",") raw) vs (pieces c) e))
+
+    list-neat : clean raw ≡ true → All (Neat 2) vs
+    list-neat c = each-All R (λ s. clean s ≡ true) (Neat 2) (λ s j d q. law .0 s j q .neat d) (split (code ",") raw) vs (pieces c) e
+
+    list-pieces : All (λ j. readValues sort (valueText sort j) ≡ some (j ∷ [])) vs
+    list-pieces =
+        each-All R (Free (code ",")) (λ j. readValues sort (valueText sort j) ≡ some (j ∷ [])) (λ s j f q. one-piece j (law .0 s j q .again) (law .1 s j f q))
+        (split (code ",") raw) vs (split-free (code ",") raw) e
+
+    list-again-held : each R (split (code ",") (joined (code ",") (map (valueText sort) vs))) ≡ some vs
+    list-again-held = list-again (code ",") R (valueText sort) (λ s j f q. (law .0 s j q .again, law .1 s j f q)) raw vs e
+
+  pieces-read : (raw : List ℕ) (vs : List Json) → readValues sort raw ≡ some vs → each R (split (code ",") raw) ≡ some vs
+  unfolding listed
+  pieces-read raw vs e = sym (reads raw) ∙ e
+
+  pieces-again : (vs : List Json) → each R (split (code ",") (joined (code ",") (map (valueText sort) vs))) ≡ some vs → readValues sort (valuesText sort vs) ≡ some vs
+  unfolding listed valuesText
+  pieces-again vs e = reads (valuesText sort vs) ∙ e
+
+  pub listed-held : (raw : List ℕ) (vs : List Json) → readValues sort raw ≡ some vs → Held sort raw vs
+  listed-held raw vs e =
+      let f = pieces-read raw vs e in
+      record {
+        again = pieces-again vs (list-again-held raw vs f);
+        pieces = list-pieces raw vs f;
+        are = All-all (valueIs sort) vs (list-is raw vs f);
+        one-or-more = each-filled R (split (code ",") raw) vs (split-filled (code ",") raw) f;
+        only = λ n. never many n;
+        line = λ c. list-line raw vs f c;
+        neat = λ c. list-neat raw vs f c;
+      }

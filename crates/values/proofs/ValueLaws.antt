@@ -1,0 +1,88 @@
+-- The laws of a property's values, whatever their sort: values that were read are taken by jCal's tests, are written, and are read again; those of a
+-- clean line are neat, and are written clean. The same by the property's name and the type's code.
+use Prim.Native.Nat.{ℕ}
+use Prim.Native.Char.{code}
+use mathlib.Core.Path.{_≡_, refl}
+use mathlib.Core.Bool.{Bool, true, false}
+use mathlib.Core.List.{List, [], _∷_}
+use mathlib.Core.Option.{some}
+use Rattle.octets.specs.Basics.{_and_, _or_, all, single}
+use Rattle.octets.specs.Pieces.{joined}
+use Rattle.octets.specs.Optional.{map?, guard, given}
+use Rattle.octets.specs.Classes.{plainOctet, upper}
+use Rattle.octets.specs.Utf8.{utf8, clean}
+use Rattle.octets.proofs.Cases.{cases, both, and-true, or-second}
+use Rattle.octets.proofs.Optional.{guard-is, when-true}
+use Rattle.calendar.specs.Dates.{dateOf, timeOf, dateTimeOf, offsetOf}
+use Rattle.calendar.specs.Durations.{durationOf}
+use Rattle.json.specs.Tree.{Json, str, string?, number?, octetsOf}
+use Rattle.values.specs.Sorts.{Sort, plain, binary, boolean, date, dateTime, duration, float, geo, integer, period, recur, text, status, time, utcOffset, sortOf, splits}
+use Rattle.values.specs.Simple.{booleanOf, floatOf, integerOf}
+use Rattle.values.specs.Recur.{recurOf}
+use Rattle.values.specs.Read.{readPlain, readBinary, asString, asNumber, readPeriod, readGeo, readStatus, alone, readValues, valuesOf}
+use Rattle.values.specs.Write.{valueText, valuesAre, valuesText}
+use Rattle.values.proofs.Lifting.{Held, alone-held, listed-held}
+use Rattle.values.proofs.FixedLaws.{plain-law, binary-law, date-law, time-law, date-time-law, offset-law, duration-law, boolean-law, period-law}
+use Rattle.values.proofs.NumberLaws.{float-law, integer-law, geo-law}
+use Rattle.values.proofs.TextLaws.{text-held, status-law}
+use Rattle.values.proofs.RecurLaws.{recur-law}
+
+pub values-held : (sort : Sort) (raw : List ℕ) (vs : List Json) → readValues sort raw ≡ some vs → Held sort raw vs
+values-held plain = alone-held plain readPlain plain-law (λ s. unfold readValues in refl)
+values-held binary = alone-held binary readBinary binary-law (λ s. unfold readValues in refl)
+values-held boolean = listed-held boolean (λ v. booleanOf (upper v)) boolean-law (λ s. unfold readValues in refl) (unfold splits in refl)
+values-held date = listed-held date (asString dateOf) date-law (λ s. unfold readValues in refl) (unfold splits in refl)
+values-held dateTime = listed-held dateTime (asString dateTimeOf) date-time-law (λ s. unfold readValues in refl) (unfold splits in refl)
+values-held duration = listed-held duration (asString durationOf) duration-law (λ s. unfold readValues in refl) (unfold splits in refl)
+values-held float = listed-held float (asNumber floatOf) float-law (λ s. unfold readValues in refl) (unfold splits in refl)
+values-held geo = alone-held geo readGeo geo-law (λ s. unfold readValues in refl)
+values-held integer = listed-held integer (asNumber integerOf) integer-law (λ s. unfold readValues in refl) (unfold splits in refl)
+values-held period = listed-held period readPeriod period-law (λ s. unfold readValues in refl) (unfold splits in refl)
+values-held recur = alone-held recur (λ s. recurOf (upper s)) recur-law (λ s. unfold readValues in refl)
+values-held text = text-held
+values-held status = alone-held status readStatus status-law (λ s. unfold readValues in refl)
+values-held time = listed-held time (asString timeOf) time-law (λ s. unfold readValues in refl) (unfold splits in refl)
+values-held utcOffset = listed-held utcOffset (asString offsetOf) offset-law (λ s. unfold readValues in refl) (unfold splits in refl)
+
+-- jCal's tests, for a name that may have many values, or one that has one
+pub values-are : (sort : Sort) (raw : List ℕ) (vs : List Json) → Held sort raw vs → (many : Bool) → (many or single vs) ≡ true → valuesAre many sort vs ≡ true
+unfolding valuesAre
+values-are sort raw vs h many e = and-true (count many e) (h .are)
+  where
+    count : (many : Bool) → (many or single vs) ≡ true → ((many and splits sort) or single vs) ≡ true
+    count true e = cases (splits sort) (λ y. rw y) (λ n. or-second (splits sort) (h .only n))
+    count false e = e
+
+-- by name and code
+pub record Valued (name : List ℕ) (c : ℕ) (many : Bool) (raw : List ℕ) (vs : List Json) : Type 0 where
+  pub held : Held (sortOf name c) raw vs
+  pub number : (many or single vs) ≡ true
+  pub are : valuesAre many (sortOf name c) vs ≡ true
+  pub again : valuesOf name c many (valuesText (sortOf name c) vs) ≡ some vs
+
+pub values-of : (name : List ℕ) (c : ℕ) (many : Bool) (raw : List ℕ) (vs : List Json) → valuesOf name c many raw ≡ some vs → Valued name c many raw vs
+unfolding valuesOf
+values-of name c many raw vs e =
+    let g = guard-is (λ ws. many or single ws) (readValues (sortOf name c) raw) vs e in
+    let h = values-held (sortOf name c) raw vs (g .0) in
+    record {
+      held = h;
+      number = g .1;
+      are = values-are (sortOf name c) raw vs h many (g .1);
+      again = rw (h .again) (unfold guard in when-true (many or single vs) vs (g .1));
+    }
+
+-- a value that passes unprocessed: one string, written as it is
+unprocessed-read : (raw : List ℕ) → all plainOctet raw ≡ true → readValues plain raw ≡ some (str raw ∷ [])
+unfolding readValues alone readPlain map?
+unprocessed-read raw h = rw (when-true (all plainOctet raw) (str raw) h)
+
+pub unprocessed-held : (raw : List ℕ) → clean raw ≡ true → Held plain raw (str raw ∷ [])
+unprocessed-held raw h = values-held plain raw (str raw ∷ []) (unprocessed-read raw (plain-of raw h))
+  where
+    plain-of : (raw : List ℕ) → clean raw ≡ true → all plainOctet raw ≡ true
+    plain-of raw h = unfold clean in both (utf8 raw) (all plainOctet raw) h .1
+
+pub unprocessed-text : (raw : List ℕ) → valuesText plain (str raw ∷ []) ≡ raw
+unfolding valuesText joined valueText octetsOf number? string? given
+unprocessed-text raw = refl

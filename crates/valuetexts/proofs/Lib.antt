@@ -1,0 +1,3 @@
+pub mod TextRuns
+pub mod Strings
+pub mod Separators
