@@ -4,26 +4,26 @@ use Prim.Native.Char.{code}
 use mathlib.Core.Path.{_≡_, refl, sym, ap, _∙_}
 use mathlib.Core.Bool.{Bool, true, false, not}
 use mathlib.Core.List.{List, [], _∷_, _++_, map}
-use mathlib.Core.Option.{Option, none, some}
+use mathlib.Core.Option.{some}
 use native.Mathlib.Omega.{arith}
 use borrow.Author.Tests.{eqb-true, le-leb, leb-true, not-true}
 use lib.Dec.{eqb, leb}
 use lib.ListN.{length, take, drop, length-append, getD}
 use lib.Seq.{take-at, drop-at}
-use Rattle.octets.specs.Basics.{octets, pick, _and_, _or_, all, any, same, among, single}
+use Rattle.octets.specs.Basics.{_and_, _or_, all, any, same, among, single}
 use Rattle.octets.specs.Optional.{map?, then?, isSome, when, guard, each}
 use Rattle.octets.specs.Classes.{between, isDigit, isUpper, upper}
 use Rattle.octets.specs.Decimal.{digits, valueOf, isSign, hasSign, minus, unsigned, trim, minusIf, integerText}
 use Rattle.octets.specs.Limits.{mostInteger}
 use Rattle.octets.specs.Pieces.{split, joined}
 use Rattle.octets.specs.Utf8.{clean}
-use Rattle.octets.proofs.Cases.{cases, both, either, never, and-true, apart, All, All-append, All-weaker, all-All, All-all}
+use Rattle.octets.proofs.Cases.{cases, both, either, never, apart, All, All-append, All-weaker, all-All, All-all}
 use Rattle.octets.proofs.Classes.{between-true, within-between, same-is}
-use Rattle.octets.proofs.Decimal.{DigitFirst, digits-first, trim-first, trim-twice, trim-value, trim-digits, integer-minus, integer-unsigned, integer-value, integer-twice, digit-no-sign}
+use Rattle.octets.proofs.Decimal.{DigitFirst, digits-first, trim-first, trim-twice, trim-value, trim-digits, integer-unsigned, integer-value, integer-twice, digit-no-sign}
 use Rattle.octets.proofs.Pieces.{Free, split-last, split-part, list-again}
 use Rattle.octets.proofs.Utf8.{printable-clean}
 use Rattle.calendar.specs.Dates.{momentOf}
-use Rattle.calendar.specs.Recurrence.{Sort, frequency, moment, count, weekday, ordinal, numbers, Key, keys, keyIn, keyNamed, frequencies, weekdays, wordOf, untilOf, countOf, numberOf, ordinalOf, dayOf, itemOf, several, Part, part, keyedPart, partOf, isRule, partsOf, partText, partsText}
+use Rattle.calendar.specs.Recurrence.{Sort, frequency, moment, count, weekday, ordinal, numbers, Key, keys, keyIn, keyNamed, frequencies, weekdays, wordOf, untilOf, countOf, numberOf, ordinalOf, dayOf, itemOf, several, Part, part, keyedPart, partOf, partsOf, partText, partsText}
 use Rattle.calendar.proofs.Options.{when-is, guard-is, map-is, then-is}
 use Rattle.calendar.proofs.Octets.{itemOctet, item-octets}
 use Rattle.calendar.proofs.Readback.{capital, capital-upper, capital-printable}

@@ -1,12 +1,12 @@
 -- Reading a recurrence rule part by part: what the parts so far say, and when the parts ahead can no longer make a rule.
-use Prim.Native.Nat.{ℕ, zero, suc, _+_, _≤_, _<_, min}
+use Prim.Native.Nat.{ℕ, zero, suc, _≤_, _<_}
 use Prim.Native.Char.{code}
 use mathlib.Core.Path.{_≡_, refl, sym, ap, _∙_}
 use mathlib.Core.Bool.{Bool, true, false, not}
 use mathlib.Core.List.{List, [], _∷_, _++_, map, append-assoc}
 use mathlib.Core.Option.{Option, none, some}
 use native.Mathlib.Omega.{arith}
-use borrow.Author.Tests.{eqb-true, eqb-false, eq-eqb, ne-eqb}
+use borrow.Author.Tests.{eqb-true, eqb-false, ne-eqb}
 use lib.Dec.{eqb}
 use lib.ListN.{length, getD, set, replicate}
 use Rattle.octets.specs.Basics.{octets, pick, _and_, _or_, any, filled, single, same, among, twice}
@@ -30,7 +30,6 @@ use Rattle.calendar.specs.declared.rules.Weekday.the-variants.{Monday}
 use Rattle.calendar.specs.declared.rules.End.{End}
 use Rattle.calendar.specs.declared.rules.End.the-variants.{Count, Until, Open}
 use Rattle.calendar.specs.declared.rules.Head.{Head}
-use Rattle.calendar.specs.declared.rules.Rule.{Rule}
 use Rattle.calendar.proofs.Options.{when-is, guard-is, map-is}
 use Rattle.calendar.proofs.Words.{same-turned}
 use Rattle.calendar.proofs.Keys.{key-count}

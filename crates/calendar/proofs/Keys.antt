@@ -1,13 +1,13 @@
 -- The table of keys.
 use Prim.Native.Nat.{ℕ, zero, suc, _+_, _-_, _≤_, _<_}
 use Prim.Native.Char.{code}
-use mathlib.Core.Path.{_≡_, refl, sym, ap, _∙_}
-use mathlib.Core.List.{List, [], _∷_, map}
+use mathlib.Core.Path.{_≡_, refl, sym, ap}
+use mathlib.Core.List.{List, [], map}
 use native.Mathlib.Omega.{arith}
 use borrow.Author.Tests.{lt-ltb, le-ltb}
 use lib.ListN.{length, take, drop, List·getD-eq-default}
 use lib.Seq.{take-take}
-use Rattle.octets.specs.Basics.{octets, pick}
+use Rattle.octets.specs.Basics.{octets}
 use Rattle.octets.specs.Classes.{between, isLower, upperOctet, upper}
 use Rattle.octets.specs.Pieces.{split, cut, onto}
 use Rattle.octets.proofs.Positions.{upto}

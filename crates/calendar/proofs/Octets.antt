@@ -1,23 +1,19 @@
 -- The octets of a recurrence rule's values: uppercase letters, digits and signs, so no separator.
-use Prim.Native.Nat.{ℕ, zero, suc, _-_}
-use Prim.Native.Char.{code}
-use mathlib.Core.Path.{_≡_, refl, sym, ap, _∙_}
+use Prim.Native.Nat.{ℕ, _-_}
+use mathlib.Core.Path.{_≡_, refl, _∙_}
 use mathlib.Core.Bool.{Bool, true, false, not}
 use mathlib.Core.List.{List, [], _∷_, _++_, map}
 use mathlib.Core.Option.{Option, none, some}
 use native.Mathlib.Omega.{arith}
 use borrow.Author.Tests.{eqb-true}
 use lib.Dec.{eqb, leb}
-use lib.ListN.{length, getD, take, drop, take-append-drop}
-use Rattle.octets.specs.Basics.{octets, pick, _and_, _or_, all, any, filled, same, among}
-use Rattle.octets.specs.Optional.{map?, both?, then?, or?, isSome, when, guard, each}
+use lib.ListN.{length, take, drop, take-append-drop}
+use Rattle.octets.specs.Basics.{_or_, all, any, filled, same, among}
+use Rattle.octets.specs.Optional.{map?, or?, isSome}
 use Rattle.octets.specs.Classes.{between, isDigit, isUpper}
-use Rattle.octets.specs.Decimal.{digits, valueOf, isSign, hasSign, unsigned, trim, integerText}
-use Rattle.octets.specs.Limits.{mostInteger}
-use Rattle.octets.specs.Pieces.{split, joined}
-use Rattle.octets.proofs.Cases.{cases, both, either, never, and-true, or-first, or-second, apart, all-weaker, all-append, All, All-append, all-All, All-all}
+use Rattle.octets.specs.Decimal.{digits, isSign, hasSign, unsigned, trim, integerText}
+use Rattle.octets.proofs.Cases.{cases, both, either, never, and-true, or-first, or-second, all-weaker, all-append}
 use Rattle.octets.proofs.Classes.{same-is}
-use Rattle.octets.proofs.Pieces.{Free, joined-split}
 use Rattle.calendar.specs.Forms.{Slot, digit, sign, letter, added, kept, extended, dateForm, clockForm, utc, dateTimeForm}
 use Rattle.calendar.specs.Dates.{dateOf, dateTimeOf, momentOf}
 use Rattle.calendar.proofs.Options.{when-is, guard-is, map-is, then-is}

@@ -4,7 +4,7 @@ use mathlib.Core.Path.{_≡_, refl, ap}
 use mathlib.Core.Bool.{Bool, true, false}
 use mathlib.Core.Option.{Option, none, some}
 use native.Mathlib.Omega.{arith}
-use Rattle.octets.specs.Optional.{map?, then?, or?, isSome, when, guard}
+use Rattle.octets.specs.Optional.{map?, then?, isSome, when, guard}
 use Rattle.octets.proofs.Cases.{never}
 
 -- what is told of a result that is there

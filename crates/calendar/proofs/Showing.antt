@@ -1,27 +1,33 @@
 -- A value as it is written is the value that was read.
-use Prim.Native.Nat.{ℕ, _-_}
+use Prim.Native.Nat.{ℕ, _+_, _-_, _≤_, _<_}
 use Prim.Native.Char.{code}
 use mathlib.Core.Path.{_≡_, refl, sym, ap, _∙_}
 use mathlib.Core.Bool.{Bool, true, false, not}
-use mathlib.Core.List.{List, [], _∷_, _++_}
-use mathlib.Core.Option.{Option, none, some}
+use mathlib.Core.List.{List, [], _∷_, _++_, map}
+use mathlib.Core.Option.{some}
 use native.Mathlib.Omega.{arith}
+use borrow.Author.Tests.{ltb-true}
+use lib.Dec.{ltb}
 use lib.ListN.{length, take, drop}
-use Rattle.octets.specs.Basics.{pick, _and_, _or_}
-use Rattle.octets.specs.Optional.{map?, then?, when}
-use Rattle.octets.specs.Classes.{isDigit, isLower, upperOctet, upper}
+use lib.Seq.{drop-drop, take-take}
+use Rattle.octets.specs.Basics.{_or_, single}
+use Rattle.octets.specs.Optional.{map?, then?, when, guard, each}
+use Rattle.octets.specs.Classes.{upper}
 use Rattle.octets.specs.Decimal.{digits, isSign, hasSign, minus, unsigned, trim, minusIf, integerText}
 use Rattle.octets.specs.Pen.{Pen, Wrote}
-use Rattle.octets.proofs.Cases.{cases, both, either}
-use Rattle.octets.proofs.Classes.{below-between}
+use Rattle.octets.specs.Pieces.{split, joined}
+use Rattle.octets.proofs.Cases.{cases, both}
 use Rattle.octets.proofs.Decimal.{digits-first, digits-all, unsigned-digits, minus-minusIf}
 use Rattle.octets.proofs.Pen.{then}
+use Rattle.octets.proofs.Pieces.{split-filled}
 use Rattle.octets.proofs.Positions.{from, upto}
-use Rattle.calendar.specs.Recurrence.{Sort, frequency, moment, count, weekday, ordinal, numbers, weekdays, wordOf, untilOf, countOf, numberOf, ordinalOf, dayOf, itemOf}
-use Rattle.calendar.specs.Walk.{itemShown}
-use Rattle.calendar.proofs.Options.{when-is, map-is, then-is}
-use Rattle.calendar.proofs.Pieces.{upper-length, upper-take, upper-drop}
-use Rattle.calendar.proofs.Standing.{digits-raised, digits-upper, sign-upper, sign-raised, unsigned-upper}
+use Rattle.calendar.specs.Recurrence.{Sort, frequency, moment, count, weekday, ordinal, numbers, weekdays, wordOf, untilOf, countOf, numberOf, ordinalOf, dayOf, itemOf, several, Part, part, keyedPart, partsOf, partText, partsText}
+use Rattle.calendar.specs.Walk.{before, keyPlace, keyAt, keyed, partIn, firstPart, itemShown, valuesShown, partShown, ruleShown}
+use Rattle.calendar.specs.declared.parts.PartAt.{PartAt}
+use Rattle.calendar.proofs.Options.{when-is, guard-is, map-is, then-is}
+use Rattle.calendar.proofs.Pieces.{before-le, before-take, split-more, split-last, comma-uncased, semicolon-uncased, split-upper, upper-length, upper-take, upper-drop, scanned}
+use Rattle.calendar.proofs.Walk.{both-is, within, first-ends, first-piece, first-from, first-to, readPart, readParts, read-part, found-is, keyed-name, key-name, rule-parts}
+use Rattle.calendar.proofs.Standing.{digits-raised, digits-upper, sign-raised, unsigned-upper}
 
 -- writing a weekday with its number
 pub ordinal-wrote : {p q r : Pen} (s : List ℕ) (at : ℕ) → at ≡ length s - 2
@@ -93,3 +99,125 @@ item-shown count s v e = count-shown s v e
 item-shown weekday s v e = kept-shown _ (upper s) v e
 item-shown ordinal s v e = day-shown s v e
 item-shown (numbers signed most lo hi) s v e = number-shown signed most lo hi s v e
+
+-- Pieces that are written one after another: e is where the first piece ends.
+module _ (sep : ℕ) (f : List ℕ → List ℕ) (s : List ℕ) (e : ℕ) (is : e ≡ length (before sep s)) where
+  first : before sep s ≡ take e s
+  first = rw is (before-take sep s)
+
+  pub joined-more : e < length s → joined sep (map f (split sep s)) ≡ f (take e s) ++ sep ∷ joined sep (map f (split sep (drop (e + 1) s)))
+  joined-more h = rw (split-more sep s (rw (← is) h), ← is, first) (by (split sep (drop (e + 1) s)) (split-filled sep (drop (e + 1) s)))
+    where
+      by : (ls : List (List ℕ)) → (ls ≡ [] → ⊥) → joined sep (f (take e s) ∷ map f ls) ≡ f (take e s) ++ sep ∷ joined sep (map f ls)
+      by [] n = absurd (n refl)
+      by (l ∷ ls) n = unfold joined in refl
+
+  pub joined-last : length s ≤ e → joined sep (map f (split sep s)) ≡ f (take e s)
+  unfolding joined
+  joined-last h = rw (split-last sep s (rw (← is) h), first)
+
+-- a turn of the loops that write a list: the piece at `at` of s, and the pieces behind it
+module _ (sep : ℕ) (f : List ℕ → List ℕ) (s : List ℕ) (at e : ℕ) (is : e ≡ length (before sep (take (length s - at) (drop at s)))) where
+  pub shown-more : e < length (take (length s - at) (drop at s))
+      → joined sep (map f (split sep (drop at s))) ≡ f (take e (take (length s - at) (drop at s))) ++ sep ∷ joined sep (map f (split sep (drop (at + e + 1) s)))
+  shown-more h =
+      let n : at + (e + 1) ≡ at + e + 1 = omega arith in
+      rw (from s at, ← n, ← (drop-drop (e + 1) at s)) (joined-more sep f (drop at s) e (scanned sep s at e is) (rw (from s at) at h))
+
+  pub shown-last : length (take (length s - at) (drop at s)) ≤ e → joined sep (map f (split sep (drop at s))) ≡ f (take e (take (length s - at) (drop at s)))
+  shown-last h = rw (from s at) (joined-last sep f (drop at s) e (scanned sep s at e is) (rw (from s at) at h))
+
+-- the part that a text begins with, as it is written
+part-name : (p : List ℕ) → (partIn p) .name ≤ length p
+unfolding partIn keyed
+part-name p = cases (ltb (length (before (code "=") p)) (length p)) (λ e. rw e (before-le (code "=") p)) (λ e. rw e (before-le (code "=") p))
+
+pub first-named : (s : List ℕ) → (firstPart s) .name ≤ (firstPart s) .to
+first-named s = rw (first-ends s) (unfold firstPart in part-name (before (code ";") s))
+
+same-text : (s : List ℕ) (q : PartAt) → q .name ≤ q .to → partShown q s ≡ partShown q (take (q .to) s)
+unfolding partShown
+same-text s q h = rw (take-take (q .name) (q .to) s h, within (q .from) (q .to) s)
+
+pub first-shown : (s : List ℕ) → partShown (firstPart s) s ≡ partShown (partIn (take ((firstPart s) .to) s)) (take ((firstPart s) .to) s)
+first-shown s = same-text s (firstPart s) (first-named s) ∙ ap (λ (r : PartAt). partShown r (take ((firstPart s) .to) s)) at-piece
+  where
+    at-piece : firstPart s ≡ partIn (take ((firstPart s) .to) s)
+    at-piece = plain ∙ ap partIn (first-piece s)
+      where
+        plain : firstPart s ≡ partIn (before (code ";") s)
+        plain = unfold firstPart in refl
+
+-- What is written of a rule is the text of its parts.
+items-shown : (sort : Sort) (ls vs : List (List ℕ)) → each (itemOf sort) (map upper ls) ≡ some vs → map (itemShown sort) ls ≡ vs
+items-shown sort [] vs e = nothing (unfold each in e)
+  where
+    nothing : some [] ≡ some vs → [] ≡ vs
+    nothing e = cc
+items-shown sort (l ∷ ls) vs e =
+    let b = both-is (itemOf sort (upper l)) (each (itemOf sort) (map upper ls)) vs (unfold each in e) in
+    ap (λ (v : List ℕ). v ∷ map (itemShown sort) ls) (item-shown sort l (b .head) (b .first))
+    ∙ ap (λ (r : List (List ℕ)). b .head ∷ r) (items-shown sort ls (b .tail) (b .rest)) ∙ sym (b .whole)
+
+pub values-shown : (sort : Sort) (v : List ℕ) (vs : List (List ℕ)) → each (itemOf sort) (split (code ",") (upper v)) ≡ some vs → valuesShown sort v ≡ joined (code ",") vs
+unfolding valuesShown
+values-shown sort v vs e = ap (joined (code ",")) (items-shown sort (split (code ",") v) vs (rw (split-upper (code ",") comma-uncased v) at e))
+
+part-shown : (p : List ℕ) (r : Part) → readPart (upper p) ≡ some r → partShown (partIn p) p ≡ partText r
+unfolding partShown partText keyedPart
+part-shown p r e =
+    let q = partIn p in
+    let k = keyAt (q .key) in
+    let v = take (q .to - q .from) (drop (q .from) p) in
+    let f = found-is (ltb (q .key) 14) (keyedPart (upper v) k) r (sym (read-part p) ∙ e) in
+    let h = ltb-true (q .key) 14 (f .0) in
+    let m = map-is (part k) (guard (λ vs. several (k .sort) or single vs) (each (itemOf (k .sort)) (split (code ",") (upper v)))) r (f .1) in
+    let g = guard-is (λ vs. several (k .sort) or single vs) (each (itemOf (k .sort)) (split (code ",") (upper v))) (m .0) (m .1) in
+    let i : q .key ≡ keyPlace (upper (take (q .name) p)) = keyed-name p h .1 in
+    let n : k .name ≡ upper (take (q .name) p) = ap (λ (j : ℕ). (keyAt j) .name) i ∙ key-name (upper (take (q .name) p)) (rw (← i) h) in
+    ap (λ (t : List ℕ). upper (take (q .name) p) ++ code "=" ∷ t) (values-shown (k .sort) v (m .0) (g .0))
+    ∙ ap (λ (t : List ℕ). t ++ code "=" ∷ joined (code ",") (m .0)) (sym n)
+    ∙ ap (λ (t : Part). t .name ++ code "=" ∷ joined (code ",") (t .values)) (m .2)
+
+parts-shown : (ls : List (List ℕ)) (ps : List Part) → each readPart (map upper ls) ≡ some ps → map (λ p. partShown (partIn p) p) ls ≡ map partText ps
+parts-shown [] ps e = ap (map partText) (nothing (unfold each in e))
+  where
+    nothing : some [] ≡ some ps → [] ≡ ps
+    nothing e = cc
+parts-shown (l ∷ ls) ps e =
+    let b = both-is (readPart (upper l)) (each readPart (map upper ls)) ps (unfold each in e) in
+    ap (λ (t : List ℕ). t ∷ map (λ p. partShown (partIn p) p) ls) (part-shown l (b .head) (b .first))
+    ∙ ap (λ (r : List (List ℕ)). partText (b .head) ∷ r) (parts-shown ls (b .tail) (b .rest)) ∙ ap (map partText) (sym (b .whole))
+
+pub rule-shown : (s : List ℕ) (ps : List Part) → partsOf (upper s) ≡ some ps → ruleShown s ≡ partsText ps
+unfolding ruleShown partsText
+rule-shown s ps e =
+    let r : each readPart (split (code ";") (upper s)) ≡ some ps = unfold readParts in (rule-parts (upper s) ps e .0) in
+    ap (joined (code ";")) (parts-shown (split (code ";") s) ps (rw (split-upper (code ";") semicolon-uncased s) at r))
+
+-- writing a part
+pub part-wrote : {p q r t : Pen} (s : List ℕ) (x : PartAt) (sort : Sort) → sort ≡ (keyAt (x .key)) .sort
+    → Wrote p (upper (take (x .name - 0) (drop 0 s))) q → Wrote q (code "=" ∷ []) r → Wrote r (valuesShown sort (take (x .to - x .from) (drop (x .from) s))) t
+    → Wrote p (partShown x s) t
+unfolding partShown
+part-wrote s x sort e u v w = then (rw (upto s (x .name)) at u) (then v (rw e at w))
+
+-- where the part that a text begins with stands
+pub part-places : (r : List ℕ) (q : PartAt) → q ≡ firstPart r → (q .name ≤ length r) × (q .from ≤ q .to) × (q .to ≤ length r)
+part-places r q is = rw is (omega (arith, first-named r, first-to r), first-from r, first-to r)
+
+-- a turn of the loop that writes a rule
+module _ (s : List ℕ) (at : ℕ) (q : PartAt) (is : q ≡ firstPart (take (length s - at) (drop at s))) where
+  stops : q .to ≡ length (before (code ";") (take (length s - at) (drop at s)))
+  stops = rw is (first-ends (take (length s - at) (drop at s)))
+
+  shown : partShown (partIn (take (q .to) (take (length s - at) (drop at s)))) (take (q .to) (take (length s - at) (drop at s))) ≡ partShown q (take (length s - at) (drop at s))
+  shown = rw is (sym (first-shown (take (length s - at) (drop at s))))
+
+  pub rule-more : q .to < length (take (length s - at) (drop at s)) → ruleShown (drop at s) ≡ partShown q (take (length s - at) (drop at s)) ++ code ";" ∷ ruleShown (drop (at + q .to + 1) s)
+  unfolding ruleShown
+  rule-more h = shown-more (code ";") (λ p. partShown (partIn p) p) s at (q .to) stops h ∙ ap (λ (t : List ℕ). t ++ code ";" ∷ ruleShown (drop (at + q .to + 1) s)) shown
+
+  pub rule-last : length (take (length s - at) (drop at s)) ≤ q .to → ruleShown (drop at s) ≡ partShown q (take (length s - at) (drop at s))
+  unfolding ruleShown
+  rule-last h = shown-last (code ";") (λ p. partShown (partIn p) p) s at (q .to) stops h ∙ shown

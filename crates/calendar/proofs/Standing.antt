@@ -1,21 +1,19 @@
 -- Which values of a recurrence rule stand, as the code tests them: on the octets as received, not in uppercase.
-use Prim.Native.Nat.{ℕ, zero, suc, _+_, _-_, _≤_, _<_, min}
+use Prim.Native.Nat.{ℕ, _+_, _-_, _≤_, _<_, min}
 use Prim.Native.Char.{code}
 use mathlib.Core.Path.{_≡_, refl, sym, ap, _∙_}
 use mathlib.Core.Bool.{Bool, true, false, not}
-use mathlib.Core.List.{List, [], _∷_, _++_, map}
-use mathlib.Core.Option.{Option, none, some}
+use mathlib.Core.List.{List, [], _∷_, _++_}
 use native.Mathlib.Omega.{arith}
 use borrow.Author.Tests.{le-leb, lt-leb, leb-true, leb-false, eqb-true}
 use lib.Dec.{eqb, leb, ltb}
-use lib.ListN.{length, getD, take, drop, length-take}
+use lib.ListN.{length, take, drop}
 use Rattle.octets.specs.Basics.{octets, pick, _and_, _or_, all, filled, among}
 use Rattle.octets.specs.Pieces.{split, cut, onto}
-use Rattle.octets.specs.Optional.{map?, then?, isSome, when}
+use Rattle.octets.specs.Optional.{isSome}
 use Rattle.octets.specs.Classes.{between, isDigit, isUpper, isLower, upperOctet, upper}
 use Rattle.octets.specs.Decimal.{digits, valueOf, isSign, hasSign, unsigned}
-use Rattle.octets.specs.Limits.{mostInteger}
-use Rattle.octets.proofs.Cases.{cases, both, either, never, and-false-right}
+use Rattle.octets.proofs.Cases.{cases, both, either, and-false-right}
 use Rattle.octets.proofs.Classes.{between-true, below-between, above-between}
 use Rattle.octets.proofs.Decimal.{digits-all}
 use Rattle.octets.proofs.Limits.{most-integer}

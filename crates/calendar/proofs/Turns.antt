@@ -1,16 +1,15 @@
 -- The turns of the loop that reads a recurrence rule: each reads the part at `at`, and refuses the text, goes on, or ends.
 use Prim.Native.Nat.{ℕ, _+_, _-_, _≤_, _<_}
-use mathlib.Core.Path.{_≡_, refl, sym, ap, _∙_}
+use mathlib.Core.Path.{_≡_, refl, sym, _∙_}
 use mathlib.Core.Bool.{Bool, true, false}
-use mathlib.Core.List.{List, [], _∷_, _++_}
+use mathlib.Core.List.{List, [], _∷_}
 use mathlib.Core.Option.{Option, none, some}
 use native.Mathlib.Omega.{arith}
 use borrow.Author.Tests.{ltb-true, ltb-false, lt-ltb, le-ltb, ne-eqb}
-use lib.Dec.{eqb, ltb}
+use lib.Dec.{ltb}
 use lib.ListN.{length, getD, take, drop, set, length-drop}
 use lib.Seq.{drop-drop}
-use Rattle.octets.specs.Basics.{pick, _and_, _or_, single}
-use Rattle.octets.specs.Optional.{map?, both?, isSome, guard, each}
+use Rattle.octets.specs.Optional.{map?, both?, isSome, guard}
 use Rattle.octets.specs.Classes.{upper}
 use Rattle.octets.proofs.Cases.{cases, never, or-false-right}
 use Rattle.octets.proofs.Positions.{from}

@@ -3,27 +3,26 @@ use Prim.Native.Nat.{ℕ, zero, suc, _+_, _-_, _≤_, _<_}
 use Prim.Native.Char.{code}
 use mathlib.Core.Path.{_≡_, refl, sym, ap, _∙_}
 use mathlib.Core.Bool.{Bool, true, false}
-use mathlib.Core.List.{List, [], _∷_, _++_, map}
+use mathlib.Core.List.{List, [], _∷_, map}
 use mathlib.Core.Option.{Option, none, some}
-use native.Mathlib.Numerals.{add-one}
 use native.Mathlib.Omega.{arith}
 use borrow.Author.Tests.{ltb-true, ltb-false, lt-ltb, le-ltb}
 use lib.Dec.{eqb, ltb}
-use lib.ListN.{length, getD, take, drop, length-take, length-drop}
+use lib.ListN.{length, getD, take, drop}
 use lib.Seq.{take-nil, take-take}
-use Rattle.octets.specs.Basics.{pick, _or_, all, single, same}
-use Rattle.octets.specs.Optional.{map?, both?, then?, when, guard, each}
+use Rattle.octets.specs.Basics.{pick, _or_, single, same}
+use Rattle.octets.specs.Optional.{both?, then?, each}
 use Rattle.octets.specs.Classes.{between, isDigit, isUpper, upper}
 use Rattle.octets.specs.Decimal.{isSign}
 use Rattle.octets.specs.Pieces.{split, joined}
-use Rattle.octets.proofs.Cases.{cases, never, apart, All, All-append, All-weaker, all-All}
+use Rattle.octets.proofs.Cases.{cases, apart, All, All-append, All-weaker, all-All}
 use Rattle.octets.proofs.Classes.{same-is}
 use Rattle.octets.proofs.Pieces.{Free, split-filled, joined-split}
-use Rattle.octets.proofs.Positions.{from, upto}
+use Rattle.octets.proofs.Positions.{from}
 use Rattle.calendar.specs.Recurrence.{Sort, frequency, Key, key, keys, keyIn, keyNamed, itemOf, several, Part, part, keyedPart, partOf, isRule, partsOf}
-use Rattle.calendar.specs.Walk.{before, wordPlace, keyPlace, keyAt, partAt, keyed, partIn, firstPart}
+use Rattle.calendar.specs.Walk.{before, wordPlace, keyPlace, keyAt, keyed, partIn, firstPart}
 use Rattle.calendar.specs.declared.parts.PartAt.{PartAt}
-use Rattle.calendar.proofs.Options.{guard-is, map-is, then-is}
+use Rattle.calendar.proofs.Options.{guard-is, map-is}
 use Rattle.calendar.proofs.Pieces.{before-le, before-take, before-all, split-more, split-last, Uncased, comma-uncased, semicolon-uncased, equals-uncased, split-upper}
 use Rattle.calendar.proofs.Keys.{key-count}
 use Rattle.calendar.proofs.Octets.{itemOctet, item-octets}
@@ -181,7 +180,7 @@ module _ (p : List ℕ) (n : ℕ) (is : n ≡ length (before (code "=") p)) wher
   unfolding partIn keyed partOf
   bare-part h = rw (split-upper (code "=") equals-uncased p, split-last (code "=") p (rw (← is) h), ← is, le-ltb n (length p) h, key-count)
 
-read-part : (p : List ℕ) → readPart (upper p) ≡ partFound p (partIn p)
+pub read-part : (p : List ℕ) → readPart (upper p) ≡ partFound p (partIn p)
 read-part p = cases (ltb (length (before (code "=") p)) (length p))
     (λ e. keyed-part p _ refl (ltb-true _ (length p) e))
     (λ e. bare-part p _ refl (ltb-false _ (length p) e))
@@ -202,27 +201,27 @@ drop-take (suc n) zero s = let e : 0 - suc n ≡ 0 = omega arith in rw e
 drop-take (suc n) (suc m) [] = sym (take-nil (suc m - suc n))
 drop-take (suc n) (suc m) (c ∷ s) = let e : suc m - suc n ≡ m - n = omega arith in rw e (drop-take n m s)
 
-within : (n m : ℕ) (s : List ℕ) → take (m - n) (drop n (take m s)) ≡ take (m - n) (drop n s)
+pub within : (n m : ℕ) (s : List ℕ) → take (m - n) (drop n (take m s)) ≡ take (m - n) (drop n s)
 within n m s = rw (drop-take n m s) (take-take (m - n) (m - n) (drop n s) (omega arith))
 
 -- the part that a text begins with, and the parts behind it
 module _ (s : List ℕ) where
-  ends : (firstPart s) .to ≡ length (before (code ";") s)
+  pub first-ends : (firstPart s) .to ≡ length (before (code ";") s)
   unfolding firstPart
-  ends = part-to (before (code ";") s)
+  first-ends = part-to (before (code ";") s)
 
-  piece : before (code ";") s ≡ take ((firstPart s) .to) s
-  piece = rw ends (before-take (code ";") s)
+  pub first-piece : before (code ";") s ≡ take ((firstPart s) .to) s
+  first-piece = rw first-ends (before-take (code ";") s)
 
   pub first-to : (firstPart s) .to ≤ length s
-  first-to = rw ends (before-le (code ";") s)
+  first-to = rw first-ends (before-le (code ";") s)
 
   pub first-from : (firstPart s) .from ≤ (firstPart s) .to
-  first-from = rw ends (unfold firstPart in part-from (before (code ";") s))
+  first-from = rw first-ends (unfold firstPart in part-from (before (code ";") s))
 
   value : take ((firstPart s) .to - (firstPart s) .from) (drop ((firstPart s) .from) (before (code ";") s))
       ≡ take ((firstPart s) .to - (firstPart s) .from) (drop ((firstPart s) .from) s)
-  value = rw piece (within ((firstPart s) .from) ((firstPart s) .to) s)
+  value = rw first-piece (within ((firstPart s) .from) ((firstPart s) .to) s)
 
   found : readPart (upper (before (code ";") s)) ≡ partFound (before (code ";") s) (firstPart s)
   unfolding firstPart
@@ -231,17 +230,17 @@ module _ (s : List ℕ) where
   first-read : readPart (upper (take ((firstPart s) .to) s)) ≡ partFound s (firstPart s)
   first-read =
       let q = firstPart s in
-      ap (λ (l : List ℕ). readPart (upper l)) (sym piece) ∙ found
+      ap (λ (l : List ℕ). readPart (upper l)) (sym first-piece) ∙ found
       ∙ ap (λ (v : List ℕ). pick (ltb (q .key) 14) (keyedPart (upper v) (keyAt (q .key))) none) value
 
   pub first-more : (firstPart s) .to < length s
       → readParts (upper s) ≡ both? _∷_ (partFound s (firstPart s)) (readParts (upper (drop ((firstPart s) .to + 1) s)))
   unfolding readParts
-  first-more h = each-more (code ";") semicolon-uncased readPart s ((firstPart s) .to) ends h ∙ ap (λ (o : Option Part). both? _∷_ o (readParts (upper (drop ((firstPart s) .to + 1) s)))) first-read
+  first-more h = each-more (code ";") semicolon-uncased readPart s ((firstPart s) .to) first-ends h ∙ ap (λ (o : Option Part). both? _∷_ o (readParts (upper (drop ((firstPart s) .to + 1) s)))) first-read
 
   pub first-last : length s ≤ (firstPart s) .to → readParts (upper s) ≡ both? _∷_ (partFound s (firstPart s)) (some [])
   unfolding readParts
-  first-last h = each-last (code ";") semicolon-uncased readPart s ((firstPart s) .to) ends h ∙ ap (λ (o : Option Part). both? _∷_ o (some [])) first-read
+  first-last h = each-last (code ";") semicolon-uncased readPart s ((firstPart s) .to) first-ends h ∙ ap (λ (o : Option Part). both? _∷_ o (some [])) first-read
 
 -- For a caller that walks over the parts of a rule: `readParts` of a rule gives its parts, and of what lies behind a part the parts behind it.
 pub rule-parts : (s : List ℕ) (ps : List Part) → partsOf s ≡ some ps → (readParts s ≡ some ps) × (isRule ps ≡ true)
@@ -266,12 +265,12 @@ pub record Walked (s : List ℕ) (q : PartAt) (ps : List Part) : Type 0 where
   pub more : q .to < length s → readParts (upper (drop (q .to + 1) s)) ≡ some others
   pub last : length s ≤ q .to → others ≡ []
 
-found-is : (b : Bool) (o : Option Part) (p : Part) → pick b o none ≡ some p → (b ≡ true) × (o ≡ some p)
+pub found-is : (b : Bool) (o : Option Part) (p : Part) → pick b o none ≡ some p → (b ≡ true) × (o ≡ some p)
 found-is true o p e = (refl, e)
 found-is false o p e = let z : _≡_ {A = ℕ} 0 1 = cc in absurd (omega arith)
 
 -- a part that has a key has an equals sign behind its name
-keyed-name : (p : List ℕ) → (partIn p) .key < 14 → ((partIn p) .from ≡ (partIn p) .name + 1) × ((partIn p) .key ≡ keyPlace (upper (take ((partIn p) .name) p)))
+pub keyed-name : (p : List ℕ) → (partIn p) .key < 14 → ((partIn p) .from ≡ (partIn p) .name + 1) × ((partIn p) .key ≡ keyPlace (upper (take ((partIn p) .name) p)))
 unfolding partIn keyed
 keyed-name p h = cases (ltb (length (before (code "=") p)) (length p))
     (λ e. rw e (refl, refl))
@@ -287,7 +286,7 @@ first-name s h =
     let q = firstPart s in
     let k = first-keyed s h in
     let t : take (q .name) (take (q .to) s) ≡ take (q .name) s = take-take (q .name) (q .to) s (omega (arith, first-from s, k .0)) in
-    let e : q .key ≡ keyPlace (upper (take (q .name) s)) = k .1 ∙ ap (λ (l : List ℕ). keyPlace (upper (take (q .name) l))) (piece s) ∙ ap (λ (l : List ℕ). keyPlace (upper l)) t in
+    let e : q .key ≡ keyPlace (upper (take (q .name) s)) = k .1 ∙ ap (λ (l : List ℕ). keyPlace (upper (take (q .name) l))) (first-piece s) ∙ ap (λ (l : List ℕ). keyPlace (upper l)) t in
     (k .0, sym (ap (λ (i : ℕ). (keyAt i) .name) e ∙ key-name (upper (take (q .name) s)) (rw (← e) h)))
 
 module _ (s : List ℕ) (ps : List Part) where

@@ -3,15 +3,14 @@ use Prim.Native.Nat.{ℕ, suc, _+_, _-_, _≤_, _<_}
 use Prim.Native.Char.{code}
 use mathlib.Core.Path.{_≡_, refl, sym, ap, _∙_}
 use mathlib.Core.Bool.{Bool, true, false}
-use mathlib.Core.List.{List, [], _∷_, map}
+use mathlib.Core.List.{List, [], _∷_}
 use native.Mathlib.Omega.{arith}
 use borrow.Author.Tests.{ltb-true, ltb-false, lt-ltb, le-ltb}
 use lib.Dec.{ltb}
 use lib.ListN.{length, take, drop}
 use lib.Seq.{drop-drop}
-use Rattle.octets.specs.Basics.{pick, _or_, any, same, among}
+use Rattle.octets.specs.Basics.{any, same, among}
 use Rattle.octets.specs.Classes.{upper, sameName}
-use Rattle.octets.specs.Pieces.{split}
 use Rattle.octets.proofs.Cases.{cases, never, neither, alike}
 use Rattle.octets.proofs.Classes.{same-is, same-itself}
 use Rattle.octets.proofs.Positions.{from, upto}

@@ -1,6 +1,5 @@
 -- What a recurrence rule says as a whole: its frequency, interval, end, week start, and which parts it has (01, The stop list).
 use Prim.Native.Nat.{ℕ}
-use mathlib.Core.Bool.{Bool}
 use mathlib.Core.List.{List, [], _∷_}
 use mathlib.Core.Option.{Option, none, some}
 use Rattle.octets.specs.Basics.{octets, pick, same, among}

@@ -6,7 +6,7 @@ use mathlib.Core.List.{List, [], _∷_, _++_, map}
 use lib.Dec.{eqb, ltb}
 use lib.ListN.{length, getD, take, drop}
 use Rattle.octets.specs.Basics.{pick, same}
-use Rattle.octets.specs.Pieces.{split}
+use Rattle.octets.specs.Pieces.{split, joined}
 use Rattle.octets.specs.Classes.{upper}
 use Rattle.octets.specs.Decimal.{integerText}
 use Rattle.calendar.specs.Recurrence.{Sort, frequency, moment, count, weekday, ordinal, numbers, Key, key, keys}
@@ -65,3 +65,13 @@ itemShown count s = integerText s
 itemShown weekday s = upper s
 itemShown ordinal s = integerText (take (length s - 2) s) ++ upper (drop (length s - 2) s)
 itemShown (numbers signed most lo hi) s = integerText s
+
+-- the values of a part, the part at q, and a rule as they are written
+unfoldable pub valuesShown : Sort → List ℕ → List ℕ
+valuesShown sort v = joined (code ",") (map (itemShown sort) (split (code ",") v))
+
+unfoldable pub partShown : PartAt → List ℕ → List ℕ
+partShown q s = upper (take (q .name) s) ++ code "=" ∷ valuesShown ((keyAt (q .key)) .sort) (take (q .to - q .from) (drop (q .from) s))
+
+unfoldable pub ruleShown : List ℕ → List ℕ
+ruleShown s = joined (code ";") (map (λ p. partShown (partIn p) p) (split (code ";") s))

@@ -6,3 +6,4 @@ pub mod moments;
 pub mod parts;
 pub mod rules;
 pub mod texts;
+pub mod writing;

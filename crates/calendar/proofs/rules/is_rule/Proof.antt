@@ -1,5 +1,5 @@
 -- `calendar::rules::is_rule` meets its contract.
-use mathlib.Core.Path.{_≡_, sym, ap, _∙_}
+use mathlib.Core.Path.{sym, ap, _∙_}
 use borrow.Author.Needs.{needs}
 use Rattle.octets.specs.Optional.{isSome}
 use Rattle.calendar.specs.Rules.{ruleSaid}

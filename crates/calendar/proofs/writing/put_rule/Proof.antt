@@ -1,0 +1,87 @@
+-- `calendar::writing::put_rule` meets its contract: what is written is followed by the parts ahead.
+use Prim.Native.Nat.{_-_, _≤_}
+use mathlib.Core.Path.{_≡_, refl}
+use native.Mathlib.Omega.{arith}
+use borrow.Author.Needs.{needs}
+use lib.ListN.{length, take, drop}
+use Rattle.octets.specs.Pen.{pen}
+use Rattle.octets.proofs.Positions.{from}
+use Rattle.octets.proofs.Pen.{Leads, leads-start, leads-on, leads-last}
+use Rattle.calendar.specs.Walk.{ruleShown}
+use Rattle.calendar.proofs.Showing.{part-places, rule-more, rule-last}
+use Rattle.calendar.proofs.Turns.{part-inside}
+use Rattle.calendar.proofs.writing.put_rule.Statement.{statement}
+use Rattle.calendar.proofs.writing.put_rule.Tie as tie
+
+abbrev Inv-loop : tie.InvT-loop
+Inv-loop out₀ at s to₀ from₀ out to from = (from ≤ length s) × (length out ≡ length out₀) × Leads (pen out₀ at) (ruleShown s) (pen out to) (ruleShown (drop from s))
+
+abbrev μ-loop : tie.MeasureT-loop
+μ-loop out₀ at s to₀ from₀ out to from = length s - from
+
+loop-holds : tie.Need-loop-holds Inv-loop μ-loop
+loop-holds c = (omega arith, refl, leads-start)
+
+sub-rest : tie.Need-sub-rest Inv-loop μ-loop
+sub-rest c = search needs
+
+part-rest-start : tie.Need-part-rest-start Inv-loop μ-loop
+part-rest-start c = search needs
+
+part-rest-end : tie.Need-part-rest-end Inv-loop μ-loop
+part-rest-end c = search needs
+
+first-part-requires : tie.Need-first-part-requires Inv-loop μ-loop
+first-part-requires c κs = search needs
+
+put-part-requires : tie.Need-put-part-requires Inv-loop μ-loop
+put-part-requires c κs = part-places (take (length (c .before .before .before .before .before .before .args .s .now) - c .before .before .before .loop .from) (drop (c .before .before .before .loop .from) (c .before .before .before .before .before .before .args .s .now))) (c .before .first-part .result) (c .before .first-part .ensures)
+
+same-length : tie.Need-same-length Inv-loop μ-loop
+same-length c = search needs
+
+returns : tie.Need-returns Inv-loop μ-loop
+returns c = leads-last (c .before .before .before .before .before .before .before .loop .inv .2) (c .before .before .before .put-part .ensures) (rule-last (c .before .before .before .before .before .before .before .before .before .before .args .s .now) (c .before .before .before .before .before .before .before .loop .from) (c .before .before .before .before .before .first-part .result) (c .before .before .before .before .before .first-part .ensures) (c .if1 .taken))
+
+put-requires : tie.Need-put-requires Inv-loop μ-loop
+put-requires c κs = search needs
+
+add-from : tie.Need-add-from Inv-loop μ-loop
+add-from c =
+    let e = part-inside (c .before .before .before .before .before .before .before .before .before .before .before .before .before .before .args .s .now) (c .before .before .before .before .before .before .before .before .before .before .before .loop .from) (c .before .before .before .before .before .before .before .before .before .first-part .result) (c .before .before .before .before .before .before .before .before .before .first-part .ensures) (c .before .before .before .before .if1 .left) in
+    omega arith
+
+add-from-2 : tie.Need-add-from-2 Inv-loop μ-loop
+add-from-2 c =
+    let e = part-inside (c .before .before .before .before .before .before .before .before .before .before .before .before .before .before .args .s .now) (c .before .before .before .before .before .before .before .before .before .before .before .loop .from) (c .before .before .before .before .before .before .before .before .before .first-part .result) (c .before .before .before .before .before .before .before .before .before .first-part .ensures) (c .before .before .before .before .if1 .left) in
+    omega arith
+
+loop-less : tie.Need-loop-less Inv-loop μ-loop
+loop-less c =
+    let e = part-inside (c .before .before .before .before .before .before .before .before .before .before .before .before .before .before .args .s .now) (c .before .before .before .before .before .before .before .before .before .before .before .loop .from) (c .before .before .before .before .before .before .before .before .before .first-part .result) (c .before .before .before .before .before .before .before .before .before .first-part .ensures) (c .before .before .before .before .if1 .left) in
+    omega arith
+
+loop-again : tie.Need-loop-again Inv-loop μ-loop
+loop-again c =
+    let e = part-inside (c .before .before .before .before .before .before .before .before .before .before .before .before .before .before .args .s .now) (c .before .before .before .before .before .before .before .before .before .before .before .loop .from) (c .before .before .before .before .before .before .before .before .before .first-part .result) (c .before .before .before .before .before .before .before .before .before .first-part .ensures) (c .before .before .before .before .if1 .left) in
+    (omega arith, omega arith, leads-on (leads-on (c .before .before .before .before .before .before .before .before .before .before .before .loop .inv .2) (c .before .before .before .before .before .before .before .put-part .ensures) (rule-more (c .before .before .before .before .before .before .before .before .before .before .before .before .before .before .args .s .now) (c .before .before .before .before .before .before .before .before .before .before .before .loop .from) (c .before .before .before .before .before .before .before .before .before .first-part .result) (c .before .before .before .before .before .before .before .before .before .first-part .ensures) (c .before .before .before .before .if1 .left))) (c .before .before .put .ensures) refl)
+
+pub put-rule-spec : {M : Type 1} → statement M
+put-rule-spec =
+    tie.close
+    (tie.spec
+    Inv-loop
+    μ-loop
+    loop-holds
+    sub-rest
+    part-rest-start
+    part-rest-end
+    first-part-requires
+    put-part-requires
+    same-length
+    returns
+    put-requires
+    add-from
+    add-from-2
+    loop-less
+    loop-again)

@@ -1,0 +1,109 @@
+-- `calendar::writing::put_values` meets its contract: what is written is followed by the values ahead.
+use Prim.Native.Nat.{_-_, _≤_}
+use mathlib.Core.Path.{_≡_, refl}
+use native.Mathlib.Omega.{arith}
+use borrow.Author.Needs.{needs}
+use lib.ListN.{length, take, drop, length-take, length-drop}
+use Rattle.octets.specs.Pen.{pen}
+use Rattle.octets.proofs.Positions.{from, upto}
+use Rattle.octets.proofs.Pen.{Leads, leads-start, leads-on, leads-last}
+use Rattle.calendar.specs.Walk.{sortSaid}
+use Rattle.calendar.proofs.Pieces.{scanned-le, scanned-in}
+use Rattle.calendar.specs.Walk.{itemShown, valuesShown}
+use Rattle.calendar.proofs.Showing.{shown-more, shown-last}
+use Rattle.calendar.proofs.writing.put_values.Statement.{statement}
+use Rattle.calendar.proofs.writing.put_values.Tie as tie
+
+abbrev Inv-loop : tie.InvT-loop
+Inv-loop out₀ at sort v to₀ from₀ out to from = (from ≤ length v) × (length out ≡ length out₀) × Leads (pen out₀ at) (valuesShown (sortSaid sort) v) (pen out to) (valuesShown (sortSaid sort) (drop from v))
+
+abbrev μ-loop : tie.MeasureT-loop
+μ-loop out₀ at sort v to₀ from₀ out to from = length v - from
+
+loop-holds : tie.Need-loop-holds Inv-loop μ-loop
+loop-holds c = (omega arith, refl, leads-start)
+
+sub-rest : tie.Need-sub-rest Inv-loop μ-loop
+sub-rest c = search needs
+
+part-rest-start : tie.Need-part-rest-start Inv-loop μ-loop
+part-rest-start c = search needs
+
+part-rest-end : tie.Need-part-rest-end Inv-loop μ-loop
+part-rest-end c = search needs
+
+find-requires : tie.Need-find-requires Inv-loop μ-loop
+find-requires c κs = search needs
+
+sub-put-item : tie.Need-sub-put-item Inv-loop μ-loop
+sub-put-item c = search needs
+
+part-put-item-start : tie.Need-part-put-item-start Inv-loop μ-loop
+part-put-item-start c = search needs
+
+part-put-item-end : tie.Need-part-put-item-end Inv-loop μ-loop
+part-put-item-end c =
+    let e = scanned-le 44 (c .before .before .before .before .before .before .args .v .now) (c .before .before .before .loop .from) (c .before .find .result) (c .before .find .ensures) in
+    rw (length-take, length-drop) (omega arith)
+
+put-item-requires : tie.Need-put-item-requires Inv-loop μ-loop
+put-item-requires c κs = search needs
+
+same-length : tie.Need-same-length Inv-loop μ-loop
+same-length c = search needs
+
+returns : tie.Need-returns Inv-loop μ-loop
+unfolding valuesShown
+returns c =
+    let v = c .before .before .before .before .before .before .before .before .before .before .before .args .v .now in
+    let rest = take (length v - c .before .before .before .before .before .before .before .before .loop .from) (drop (c .before .before .before .before .before .before .before .before .loop .from) v) in
+    leads-last (c .before .before .before .before .before .before .before .before .loop .inv .2) (c .before .before .before .put-item .ensures) (rw (upto rest (c .before .before .before .before .before .before .find .result)) (shown-last 44 (itemShown (sortSaid (c .before .before .before .before .before .before .before .before .before .before .before .args .sort))) v (c .before .before .before .before .before .before .before .before .loop .from) (c .before .before .before .before .before .before .find .result) (c .before .before .before .before .before .before .find .ensures) (c .if1 .taken)))
+
+put-requires : tie.Need-put-requires Inv-loop μ-loop
+put-requires c κs = search needs
+
+add-from : tie.Need-add-from Inv-loop μ-loop
+add-from c =
+    let e = scanned-in 44 (c .before .before .before .before .before .before .before .before .before .before .before .before .before .before .before .args .v .now) (c .before .before .before .before .before .before .before .before .before .before .before .before .loop .from) (c .before .before .before .before .before .before .before .before .before .before .find .result) (c .before .before .before .before .before .before .before .before .before .before .find .ensures) (c .before .before .before .before .if1 .left) in
+    omega arith
+
+add-from-2 : tie.Need-add-from-2 Inv-loop μ-loop
+add-from-2 c =
+    let e = scanned-in 44 (c .before .before .before .before .before .before .before .before .before .before .before .before .before .before .before .args .v .now) (c .before .before .before .before .before .before .before .before .before .before .before .before .loop .from) (c .before .before .before .before .before .before .before .before .before .before .find .result) (c .before .before .before .before .before .before .before .before .before .before .find .ensures) (c .before .before .before .before .if1 .left) in
+    omega arith
+
+loop-less : tie.Need-loop-less Inv-loop μ-loop
+loop-less c =
+    let e = scanned-in 44 (c .before .before .before .before .before .before .before .before .before .before .before .before .before .before .before .args .v .now) (c .before .before .before .before .before .before .before .before .before .before .before .before .loop .from) (c .before .before .before .before .before .before .before .before .before .before .find .result) (c .before .before .before .before .before .before .before .before .before .before .find .ensures) (c .before .before .before .before .if1 .left) in
+    omega arith
+
+loop-again : tie.Need-loop-again Inv-loop μ-loop
+unfolding valuesShown
+loop-again c =
+    let v = c .before .before .before .before .before .before .before .before .before .before .before .before .before .before .before .args .v .now in
+    let rest = take (length v - c .before .before .before .before .before .before .before .before .before .before .before .before .loop .from) (drop (c .before .before .before .before .before .before .before .before .before .before .before .before .loop .from) v) in
+    let e = scanned-in 44 v (c .before .before .before .before .before .before .before .before .before .before .before .before .loop .from) (c .before .before .before .before .before .before .before .before .before .before .find .result) (c .before .before .before .before .before .before .before .before .before .before .find .ensures) (c .before .before .before .before .if1 .left) in
+    (omega arith, omega arith, leads-on (leads-on (c .before .before .before .before .before .before .before .before .before .before .before .before .loop .inv .2) (c .before .before .before .before .before .before .before .put-item .ensures) (rw (upto rest (c .before .before .before .before .before .before .before .before .before .before .find .result)) (shown-more 44 (itemShown (sortSaid (c .before .before .before .before .before .before .before .before .before .before .before .before .before .before .before .args .sort))) v (c .before .before .before .before .before .before .before .before .before .before .before .before .loop .from) (c .before .before .before .before .before .before .before .before .before .before .find .result) (c .before .before .before .before .before .before .before .before .before .before .find .ensures) (c .before .before .before .before .if1 .left)))) (c .before .before .put .ensures) refl)
+
+pub put-values-spec : {M : Type 1} → statement M
+put-values-spec =
+    tie.close
+    (tie.spec
+    Inv-loop
+    μ-loop
+    loop-holds
+    sub-rest
+    part-rest-start
+    part-rest-end
+    find-requires
+    sub-put-item
+    part-put-item-start
+    part-put-item-end
+    put-item-requires
+    same-length
+    returns
+    put-requires
+    add-from
+    add-from-2
+    loop-less
+    loop-again)
