@@ -69,10 +69,10 @@ pub told-tape : (o : Out Json) (t₀ : List ℕ) {t : List ℕ} {n : ℕ} → la
 unfolding parsed blank
 told-tape (ok j s) t₀ {t} {n} e = cases (leb (length (ser j)) (length t₀))
     (λ h. let w : laid (Tape n) t ≡ laid (Tape (length (ser j))) (ser j ++ drop (length (ser j)) t₀) = rw h at e in
-          let a : Tape n ≡ Tape (length (ser j)) = same-answer w in
-          let c : n ≡ length (ser j) = cc in
-          let b : t ≡ ser j ++ drop (length (ser j)) t₀ = ap (λ (l : Laid). l .tape) w in
-          record { it = j; left = s; is = refl; count = c; room = rw c (leb-true (length (ser j)) (length t₀) h); tape = rw c b; front = rw (c, b) (take-append-seam (ser j) (drop (length (ser j)) t₀)) })
+    let a : Tape n ≡ Tape (length (ser j)) = same-answer w in
+    let c : n ≡ length (ser j) = cc in
+    let b : t ≡ ser j ++ drop (length (ser j)) t₀ = ap (λ (l : Laid). l .tape) w in
+    record { it = j; left = s; is = refl; count = c; room = rw c (leb-true (length (ser j)) (length t₀) h); tape = rw c b; front = rw (c, b) (take-append-seam (ser j) (drop (length (ser j)) t₀)) })
     (λ h. let w : Tape n ≡ NoRoom = same-answer (rw h at e) in let z : _≡_ {A = ℕ} 0 1 = cc in absurd (omega arith))
 told-tape deep t₀ {t} {n} e = let w : Tape n ≡ TooDeep = same-answer e in let z : _≡_ {A = ℕ} 0 1 = cc in absurd (omega arith)
 told-tape bad t₀ {t} {n} e = let w : Tape n ≡ NotJson = same-answer e in let z : _≡_ {A = ℕ} 0 1 = cc in absurd (omega arith)
@@ -114,6 +114,7 @@ nothing-left s t j e = given (λ _ u. u ≡ []) e (gives-then (λ _ _. Unit {0})
     any (ok k u) = tt
     any deep = tt
     any bad = tt
+
     end : (k : Json) (u : List ℕ) → Gives (λ _ v. v ≡ []) (ended k u)
     end k [] = unfold ended in refl
     end k (b ∷ u) = unfold ended in tt
