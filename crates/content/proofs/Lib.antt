@@ -19,3 +19,4 @@ pub mod Tokens
 pub mod Telling
 pub mod Decoding
 pub mod Objects
+pub mod Tested

@@ -12,3 +12,4 @@ pub mod Parts
 pub mod Buffer
 pub mod Kinds
 pub mod Object
+pub mod Reading

@@ -16,6 +16,7 @@ mod lines;
 mod object;
 mod params;
 mod parts;
+mod reading;
 mod scan;
 
 pub use form::all_formed;
@@ -30,3 +31,5 @@ pub use params::name_twice;
 pub use params::value_type;
 pub use parts::Parts;
 pub use parts::parts_of;
+pub use reading::Lines;
+pub use reading::read_lines;

@@ -1,0 +1,37 @@
+-- The lines of a text and the tests of all of them, number 3 before number 4 (01, Refusal numbers and their order).
+use Prim.Native.Nat.{ℕ, _≤_}
+use mathlib.Core.Path.{_≡_}
+use mathlib.Core.List.{List}
+use lib.Dec.{leb}
+use lib.ListN.{length, take}
+use Rattle.octets.specs.Basics.{pick, all}
+use Rattle.octets.specs.Utf8.{clean}
+use Rattle.octets.specs.Pen.{pen, wrote}
+use Rattle.octets.specs.Answers.{Answer, refused, accepted, unless}
+use Rattle.content.specs.Lines.{linesOf, laidOut}
+use Rattle.content.specs.Form.{formed}
+use Rattle.content.specs.Buffer.{linesIn}
+use Rattle.content.specs.declared.reading.Lines.{Lines}
+use Rattle.content.specs.declared.reading.Lines.the-variants.{Laid, NotClean, NotFormed, NoRoom}
+
+unfoldable pub tested : List (List ℕ) → Answer (List (List ℕ))
+tested ls = unless 3 (all clean ls) (λ _. unless 4 (all formed ls) (λ _. accepted ls))
+
+-- what an answer says, with the buffer as it is then; a buffer that is too short is none of the text's faults
+unfoldable pub linesTold : List ℕ → Lines → Answer (List (List ℕ))
+linesTold b (Laid n) = accepted (linesIn (take n b))
+linesTold b NotClean = refused 3
+linesTold b NotFormed = refused 4
+linesTold b NoRoom = refused 10
+
+abbrev pub LaidWithin : ℕ → Lines → Type 0
+LaidWithin m (Laid n) = n ≤ m
+LaidWithin m NotClean = Unit {0}
+LaidWithin m NotFormed = Unit {0}
+LaidWithin m NoRoom = Unit {0}
+
+-- the lines of `text` are laid into the buffer b, which is then `after`
+pub record ReadLines (text b after : List ℕ) (r : Lines) : Type 0 where
+  pub buffer : after ≡ (wrote (pen b 0) (laidOut (linesOf text))) .buf
+  pub within : LaidWithin (length after) r
+  pub told : linesTold after r ≡ pick (leb (length (laidOut (linesOf text))) (length b)) (tested (linesOf text)) (refused 10)
