@@ -148,10 +148,11 @@ module _ (hex o b : List ℕ) (h : roomForRows ≤ length o) where
       laid-there es q k =
           let l : n ≡ length (laid es) = ap (λ (s : Settled). s .length) k in
           let c : b ≡ laid es ++ drop (length (laid es)) o = ap (λ (s : Settled). s .buffer) k in
-          record
-            { table = table-laid hex ∙ rw (some-laid hex es q, c, l, take-append-seam (laid es) (drop (length (laid es)) o))
-            ; within = rw (c, l, length-append) (omega arith)
-            }
+          record {
+            table = table-laid hex ∙ rw (some-laid hex es q, c, l, take-append-seam (laid es) (drop (length (laid es)) o));
+            within = rw (c, l, length-append) (omega arith);
+          }
+
       by : (g : Option Table) → guard mayJoin (rowsOf hex) ≡ g → Read-table hex b n
       by none q = let z : _≡_ {A = ℕ} 0 2 = ap (λ (s : Settled). s .number) (e ∙ read-none q) in absurd (omega arith)
       by (some es) q = laid-there es q (e ∙ read-some es q)

@@ -60,12 +60,12 @@ unfolding tableOf rowsOf mayJoin
 well-formed hex t e =
     map-is (λ es. defaults ++ es) (guard mayJoin (rowsOf hex)) t (orElse-accepted 2 (map? (λ es. defaults ++ es) (guard mayJoin (rowsOf hex))) t e)
     (λ es h q.
-      let g = guard-is mayJoin (rowsOf hex) es h in
-      let b = both (leb (length es) mostRows) (not (twice (namesOf (defaults ++ es)))) (g .1) in
-      rw (← q) (record
-        { rows = All-append (λ e. right e ≡ true) defaults es (all-All right defaults defaults-right) (then-is (endedLines (split (code "\n") hex)) (each rowOf) es (g .0) (λ ls _ k. rows-right ls es k))
-        ; distinct = not-true (twice (namesOf (defaults ++ es))) (b .1)
-        }))
+    let g = guard-is mayJoin (rowsOf hex) es h in
+    let b = both (leb (length es) mostRows) (not (twice (namesOf (defaults ++ es)))) (g .1) in
+    rw (← q) (record {
+      rows = All-append (λ e. right e ≡ true) defaults es (all-All right defaults defaults-right) (then-is (endedLines (split (code "\n") hex)) (each rowOf) es (g .0) (λ ls _ k. rows-right ls es k));
+      distinct = not-true (twice (namesOf (defaults ++ es))) (b .1);
+    }))
 
 -- a row that a table has for a name
 found-right : (t : Table) (n : List ℕ) (r : Row) → All (λ e. right e ≡ true) t → find t n ≡ some r → isRow (r .code) (pick (r .many) 1 0) (upper n) ≡ true
@@ -126,8 +126,8 @@ row-found (x ∷ t) n e d m q =
     ⊎-elim
     (λ k. rw (← k, q, same-itself (upper n)))
     (λ k. cases (same (x .name) (upper n))
-      (λ s. never (name-among t e k) (ap (λ l. among l (namesOf t)) (q ∙ sym (same-is (x .name) (upper n) s)) ∙ b .0))
-      (λ s. rw s (row-found t n e (b .1) k q)))
+    (λ s. never (name-among t e k) (ap (λ l. among l (namesOf t)) (q ∙ sym (same-is (x .name) (upper n) s)) ∙ b .0))
+    (λ s. rw s (row-found t n e (b .1) k q)))
     (List·Memᴰ·cases-cons m)
 
 -- what a newer table that keeps the rows says of a name that the older one lists
