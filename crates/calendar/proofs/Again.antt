@@ -24,7 +24,8 @@ use Rattle.octets.proofs.Pieces.{Free, split-last, split-part, list-again}
 use Rattle.octets.proofs.Utf8.{printable-clean}
 use Rattle.calendar.specs.Dates.{momentOf}
 use Rattle.calendar.specs.Recurrence.{Sort, frequency, moment, count, weekday, ordinal, numbers, Key, keys, keyIn, keyNamed, frequencies, weekdays, wordOf, untilOf, countOf, numberOf, ordinalOf, dayOf, itemOf, several, Part, part, keyedPart, partOf, partsOf, partText, partsText}
-use Rattle.calendar.proofs.Options.{when-is, guard-is, map-is, then-is}
+use Rattle.octets.proofs.Optional.{when-is, guard-is}
+use Rattle.calendar.proofs.Options.{map-is, then-is}
 use Rattle.calendar.proofs.Octets.{itemOctet, item-octets}
 use Rattle.calendar.proofs.Readback.{capital, capital-upper, capital-printable}
 use Rattle.calendar.proofs.Walk.{both-is, readPart, readParts, rule-parts, items-All, All-joined, named-found}

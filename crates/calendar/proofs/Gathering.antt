@@ -30,7 +30,8 @@ use Rattle.calendar.specs.declared.rules.Weekday.the-variants.{Monday}
 use Rattle.calendar.specs.declared.rules.End.{End}
 use Rattle.calendar.specs.declared.rules.End.the-variants.{Count, Until, Open}
 use Rattle.calendar.specs.declared.rules.Head.{Head}
-use Rattle.calendar.proofs.Options.{when-is, guard-is, map-is}
+use Rattle.octets.proofs.Optional.{when-is, guard-is}
+use Rattle.calendar.proofs.Options.{map-is}
 use Rattle.calendar.proofs.Words.{same-turned}
 use Rattle.calendar.proofs.Keys.{key-count}
 use Rattle.calendar.proofs.Standing.{digits-raised, digits-upper}

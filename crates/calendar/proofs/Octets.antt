@@ -16,7 +16,8 @@ use Rattle.octets.proofs.Cases.{cases, both, either, never, and-true, or-first,
 use Rattle.octets.proofs.Classes.{same-is}
 use Rattle.calendar.specs.Forms.{Slot, digit, sign, letter, added, kept, extended, dateForm, clockForm, utc, dateTimeForm}
 use Rattle.calendar.specs.Dates.{dateOf, dateTimeOf, momentOf}
-use Rattle.calendar.proofs.Options.{when-is, guard-is, map-is, then-is}
+use Rattle.octets.proofs.Optional.{when-is, guard-is}
+use Rattle.calendar.proofs.Options.{map-is, then-is}
 use Rattle.calendar.specs.Recurrence.{Sort, frequency, moment, count, weekday, ordinal, numbers, frequencies, weekdays, wordOf, untilOf, countOf, numberOf, ordinalOf, dayOf, itemOf}
 
 unfoldable pub itemOctet : ℕ → Bool

@@ -24,7 +24,8 @@ use Rattle.octets.proofs.Positions.{from, upto}
 use Rattle.calendar.specs.Recurrence.{Sort, frequency, moment, count, weekday, ordinal, numbers, weekdays, wordOf, untilOf, countOf, numberOf, ordinalOf, dayOf, itemOf, several, Part, part, keyedPart, partsOf, partText, partsText}
 use Rattle.calendar.specs.Walk.{before, keyPlace, keyAt, keyed, partIn, firstPart, itemShown, valuesShown, partShown, ruleShown}
 use Rattle.calendar.specs.declared.parts.PartAt.{PartAt}
-use Rattle.calendar.proofs.Options.{when-is, guard-is, map-is, then-is}
+use Rattle.octets.proofs.Optional.{when-is, guard-is}
+use Rattle.calendar.proofs.Options.{map-is, then-is}
 use Rattle.calendar.proofs.Pieces.{before-le, before-take, split-more, split-last, comma-uncased, semicolon-uncased, split-upper, upper-length, upper-take, upper-drop, scanned}
 use Rattle.calendar.proofs.Walk.{both-is, within, first-ends, first-piece, first-from, first-to, readPart, readParts, read-part, found-is, keyed-name, key-name, rule-parts}
 use Rattle.calendar.proofs.Standing.{digits-raised, digits-upper, sign-raised, unsigned-upper}

@@ -22,7 +22,8 @@ use Rattle.octets.proofs.Positions.{from}
 use Rattle.calendar.specs.Recurrence.{Sort, frequency, Key, key, keys, keyIn, keyNamed, itemOf, several, Part, part, keyedPart, partOf, isRule, partsOf}
 use Rattle.calendar.specs.Walk.{before, wordPlace, keyPlace, keyAt, keyed, partIn, firstPart}
 use Rattle.calendar.specs.declared.parts.PartAt.{PartAt}
-use Rattle.calendar.proofs.Options.{guard-is, map-is}
+use Rattle.octets.proofs.Optional.{guard-is}
+use Rattle.calendar.proofs.Options.{map-is}
 use Rattle.calendar.proofs.Pieces.{before-le, before-take, before-all, split-more, split-last, Uncased, comma-uncased, semicolon-uncased, equals-uncased, split-upper}
 use Rattle.calendar.proofs.Keys.{key-count}
 use Rattle.calendar.proofs.Octets.{itemOctet, item-octets}
