@@ -14,7 +14,7 @@ use Rattle.json.specs.Tape.{tagEnd, serText, ser, serItems, serMembers}
 use Rattle.tape.specs.Sound.{hasLone, distinctKeys, sound, soundItems, soundMembers}
 use Rattle.tape.specs.Decode.{group, push, paired, text, inText, groups, view, valueAt}
 use Rattle.tape.specs.Scan.{soundAlong, soundTape}
-use Rattle.tape.proofs.Fine.{Clean, clean-end, clean, Fine, f-null, f-false, f-true, f-num, f-str, f-arr, f-obj, FineItems, f-none, f-item, FineMembers, f-empty, f-member}
+use Rattle.json.proofs.Fine.{Clean, clean-end, clean, Fine, f-null, f-false, f-true, f-num, f-str, f-arr, f-obj, FineItems, f-none, f-item, FineMembers, f-empty, f-member}
 use Rattle.tape.proofs.Values.{shown, string-octets}
 
 -- a text and what stands behind it

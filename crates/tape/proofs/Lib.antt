@@ -2,6 +2,5 @@ pub mod Tags
 pub mod Values
 pub mod Walks
 pub mod Scans
-pub mod Fine
 pub mod Back
 pub mod Tables
