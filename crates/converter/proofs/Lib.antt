@@ -1,1 +1,4 @@
+pub mod PropertyRead
+pub mod Stating
+pub mod ByRow
 pub mod Carried
