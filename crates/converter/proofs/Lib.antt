@@ -1,1 +1,4 @@
 pub mod Carried
+pub mod Shapes
+pub mod Events
+pub mod Skeletons
