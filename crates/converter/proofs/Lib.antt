@@ -5,3 +5,8 @@ pub mod Skeletons
 pub mod Nesting
 pub mod Readings
 pub mod WrittenLines
+pub mod PropertyReading
+pub mod Older
+pub mod Held
+pub mod Routes
+pub mod Demand3

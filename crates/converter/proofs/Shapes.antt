@@ -131,3 +131,13 @@ module _ {R : Property → Property → Type 0} {P : Property → Type 0} (f : (
     alikes-made : {cs ds : Forest} → Alikes R cs ds → MadeIn P cs
     alikes-made no-more = nothing-more
     alikes-made (one-more c cs) = made-more (alike-made c) (alikes-made cs)
+
+-- what the relation tells of properties
+module _ {R S : Property → Property → Type 0} (f : (q p : Property) → R q p → S q p) where
+  mutual
+    pub alike-weaker : {c d : Component} → Alike R c d → Alike S c d
+    alike-weaker (alike n ps cs) = alike n (pairs-weaker f ps) (alikes-weaker cs)
+
+    alikes-weaker : {cs ds : Forest} → Alikes R cs ds → Alikes S cs ds
+    alikes-weaker no-more = no-more
+    alikes-weaker (one-more c cs) = one-more (alike-weaker c) (alikes-weaker cs)
