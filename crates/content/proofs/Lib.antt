@@ -20,3 +20,6 @@ pub mod Telling
 pub mod Decoding
 pub mod Objects
 pub mod Tested
+pub mod HeadPieces
+pub mod FormParts
+pub mod LineParts

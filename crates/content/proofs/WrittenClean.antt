@@ -1,17 +1,17 @@
 -- A content line that is written is clean (number 3): UTF-8 without control characters but tab.
 use Prim.Native.Nat.{ℕ, _<_}
 use Prim.Native.Char.{code}
-use mathlib.Core.Path.{_≡_, refl, _∙_}
+use mathlib.Core.Path.{_≡_, refl, sym, ap, _∙_}
 use mathlib.Core.Bool.{Bool, true, false, not}
 use mathlib.Core.List.{List, [], _∷_, _++_, map}
 use native.Mathlib.Omega.{arith}
 use borrow.Author.Tests.{le-leb, lt-leb, ne-eqb, eqb-true}
 use lib.Dec.{eqb}
-use Rattle.octets.specs.Basics.{octets, _or_, all, any, filled}
+use Rattle.octets.specs.Basics.{octets, _and_, _or_, all, any, filled}
 use Rattle.octets.specs.Pieces.{joined}
 use Rattle.octets.specs.Classes.{isDigit, isUpper, isLower, isLetter, nameOctet, isName, isControl, plainOctet, textOctet, upper}
 use Rattle.octets.specs.Utf8.{dueAfter, isStart, utf8, clean}
-use Rattle.octets.proofs.Cases.{both, either, and-true, All, all-weaker}
+use Rattle.octets.proofs.Cases.{both, either, and-true, and-true-right, All, all-weaker}
 use Rattle.octets.proofs.Classes.{between-true}
 use Rattle.octets.proofs.Utf8.{ascii, ascii-utf8, clean-both, clean-cut, clean-upper}
 use Rattle.content.specs.Carets.{encoded}
@@ -22,7 +22,7 @@ use Rattle.content.proofs.Names.{lower-name}
 use Rattle.content.proofs.Encoded.{encoded-utf8, encoded-plain}
 use Rattle.content.proofs.Written.{Writable}
 
-clean-none : clean [] ≡ true
+pub clean-none : clean [] ≡ true
 unfolding clean utf8 dueAfter isStart all
 clean-none = refl
 
@@ -37,11 +37,13 @@ clean-cons c s d h = clean-cut [] c s (d .low) (d .plain) ∙ rw (clean-none, h)
 clean-across : (l : List ℕ) (c : ℕ) (s : List ℕ) → Sound c → clean l ≡ true → clean s ≡ true → clean (l ++ c ∷ s) ≡ true
 clean-across l c s d h k = clean-cut l c s (d .low) (d .plain) ∙ rw (h, k)
 
-clean-joined : (sep : ℕ) → Sound sep → (ls : List (List ℕ)) → all clean ls ≡ true → clean (joined sep ls) ≡ true
-unfolding joined all
-clean-joined sep d [] h = clean-none
-clean-joined sep d (l ∷ []) h = both (clean l) true h .0
-clean-joined sep d (l ∷ m ∷ ls) h = let b = both (clean l) (all clean (m ∷ ls)) h in clean-across l sep (joined sep (m ∷ ls)) d (b .0) (clean-joined sep d (m ∷ ls) (b .1))
+-- pieces with a separator between them
+module _ (sep : ℕ) (low : ascii sep ≡ true) (plain : plainOctet sep ≡ true) where
+  pub clean-joined : (ls : List (List ℕ)) → clean (joined sep ls) ≡ all clean ls
+  unfolding joined all
+  clean-joined [] = clean-none
+  clean-joined (l ∷ []) = sym (and-true-right (clean l))
+  clean-joined (l ∷ m ∷ ls) = clean-cut l sep (joined sep (m ∷ ls)) low plain ∙ ap (λ (b : Bool). clean l and b) (clean-joined (m ∷ ls))
 
 -- the octets that a line is put together with
 quote-sound : Sound (code "\"")
@@ -119,7 +121,7 @@ param-clean p w t =
     let vs = joined (code ",") (map paramValueText (p .values)) in
     clean-cons (code ";") (upper (p .name) ++ code "=" ∷ vs) semicolon-sound
     (clean-across (upper (p .name)) (code "=") vs equals-sound (name-clean (p .name) (lower-name (p .name) (w .named)))
-    (clean-joined (code ",") comma-sound (map paramValueText (p .values)) (values-clean (p .values) (t .utf) (t .plain))))
+    (clean-joined (code ",") (comma-sound .low) (comma-sound .plain) (map paramValueText (p .values)) ∙ values-clean (p .values) (t .utf) (t .plain)))
 
 params-clean : (ps : List Param) → All Writable ps → All Texts ps → clean (paramsText ps) ≡ true
 unfolding paramsText

@@ -5,16 +5,17 @@ use mathlib.Core.Path.{_≡_, refl, sym, ap, _∙_}
 use mathlib.Core.Bool.{Bool, true, false}
 use mathlib.Core.List.{List, [], _∷_, map}
 use mathlib.Core.Option.{Option, some}
-use Rattle.octets.specs.Basics.{_and_, all, filled, single}
+use Rattle.octets.specs.Basics.{all, filled, single}
 use Rattle.octets.specs.Pieces.{split, joined}
 use Rattle.octets.specs.Optional.{map?, both?, each}
 use Rattle.octets.specs.Classes.{isControl, plainOctet}
-use Rattle.octets.specs.Utf8.{dueAfter, isStart, utf8, clean}
-use Rattle.octets.proofs.Cases.{and-true, and-true-right, never, All, all-All, All-all}
+use Rattle.octets.specs.Utf8.{clean}
+use Rattle.octets.proofs.Cases.{and-true, never, All, all-All, All-all}
 use Rattle.octets.proofs.Optional.{map-is, each-none, each-is}
 use Rattle.octets.proofs.Pieces.{Free, split-last, split-free, split-filled, joined-split, list-again}
-use Rattle.octets.proofs.Utf8.{ascii, clean-cut}
+use Rattle.octets.proofs.Utf8.{ascii}
 use Rattle.json.specs.Tree.{Json}
+use Rattle.content.proofs.WrittenClean.{clean-joined}
 use Rattle.values.specs.Sorts.{Sort, splits}
 use Rattle.values.specs.Read.{alone, listed, readValues}
 use Rattle.values.specs.Write.{valueIs, valueText, valuesText}
@@ -50,19 +51,9 @@ pub record Held (sort : Sort) (raw : List ℕ) (vs : List Json) : Type 0 where
   pub neat : clean raw ≡ true → All (Neat 2) vs
 
 -- clean pieces
-clean-none : clean [] ≡ true
-unfolding clean utf8 dueAfter isStart all
-clean-none = refl
-
 module _ (sep : ℕ) (low : ascii sep ≡ true) (plain : plainOctet sep ≡ true) where
-  pub clean-joined : (ls : List (List ℕ)) → clean (joined sep ls) ≡ all clean ls
-  unfolding joined all
-  clean-joined [] = clean-none
-  clean-joined (l ∷ []) = sym (and-true-right (clean l))
-  clean-joined (l ∷ m ∷ ls) = clean-cut l sep (joined sep (m ∷ ls)) low plain ∙ ap (λ (b : Bool). clean l and b) (clean-joined (m ∷ ls))
-
   pub clean-split : (s : List ℕ) → all clean (split sep s) ≡ clean s
-  clean-split s = sym (clean-joined (split sep s)) ∙ ap clean (joined-split sep s)
+  clean-split s = sym (clean-joined sep low plain (split sep s)) ∙ ap clean (joined-split sep s)
 
 -- the separators of values
 pub comma-low : ascii (code ",") ≡ true

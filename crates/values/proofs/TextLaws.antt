@@ -24,7 +24,8 @@ use Rattle.values.specs.Texts.{Act, add, next, escape, stop, act, escape
 use Rattle.values.specs.Read.{twoOrThree, readStatus, readValues}
 use Rattle.values.specs.Write.{isString, isTwoOrThree, isArray, valueIs, elementsText, valueText, valuesText}
 use Rattle.values.proofs.Neat.{Textual, Neat, n-str, n-arr, neat-items}
-use Rattle.values.proofs.Lifting.{Item, ItemLaw, Held, clean-joined, comma-low, comma-plain, All-map}
+use Rattle.content.proofs.WrittenClean.{clean-joined}
+use Rattle.values.proofs.Lifting.{Item, ItemLaw, Held, comma-low, comma-plain, All-map}
 
 -- the separators of a kind: a bare comma separates, and a bare semicolon is refused; or the other way round
 pub data Separators : ℕ → ℕ → Type 0 where
