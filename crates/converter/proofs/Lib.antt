@@ -1,1 +1,12 @@
 pub mod Carried
+pub mod Shapes
+pub mod Events
+pub mod Skeletons
+pub mod Nesting
+pub mod Readings
+pub mod WrittenLines
+pub mod PropertyReading
+pub mod Older
+pub mod Held
+pub mod Routes
+pub mod Demand3
