@@ -1,23 +1,23 @@
 -- A value by itself that is read is written as it is: all but recurrence rules.
 use Prim.Native.Nat.{ℕ}
 use Prim.Native.Char.{code}
-use mathlib.Core.Path.{_≡_, refl, sym, ap, _∙_}
+use mathlib.Core.Path.{_≡_, refl, ap, _∙_}
 use mathlib.Core.Bool.{Bool, true, false}
-use mathlib.Core.List.{List, [], _∷_, _++_}
+use mathlib.Core.List.{List}
 use mathlib.Core.Option.{Option, none, some}
 use Rattle.octets.specs.Basics.{octets, pick, all, same}
 use Rattle.octets.specs.Pieces.{split}
-use Rattle.octets.specs.Optional.{map?, both?, or?, isSome, when, given}
+use Rattle.octets.specs.Optional.{both?, or?, isSome, when, given}
 use Rattle.octets.specs.Classes.{plainOctet, upper}
 use Rattle.octets.proofs.Cases.{cases, never}
 use Rattle.octets.proofs.Optional.{missing, some-same, when-is, map-is, both-is}
-use Rattle.calendar.specs.Dates.{dateOf, timeOf, dateTimeOf, offsetOf}
+use Rattle.calendar.specs.Dates.{dateTimeOf}
 use Rattle.calendar.specs.Durations.{durationIs, durationOf, forwardIs, periodEndOf}
 use Rattle.calendar.specs.Walk.{before}
 use Rattle.calendar.proofs.Pieces.{split-upper}
 use Rattle.json.specs.Tree.{Json, num, str, arr, truth, falsity, noItems, item}
 use Rattle.json.specs.Print.{printString, print, firstItem, moreItems}
-use Rattle.values.specs.Simple.{binaryIs, booleanOf, floatOf, integerOf}
+use Rattle.values.specs.Simple.{binaryIs, booleanOf, floatOf}
 use Rattle.values.specs.Read.{readPlain, readBinary, asString, asNumber, geoOf, readGeo, periodOf, readPeriod}
 use Rattle.values.specs.Single.{isPair}
 use Rattle.values.specs.Shown.{behind, stringShown, booleanShown, floatShown, arrayShown, geoShown, endShown, periodShown}

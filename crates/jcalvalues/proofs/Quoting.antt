@@ -1,21 +1,18 @@
 -- Octets that a JSON string holds as they are; short texts; and the parts of an array.
-use Prim.Native.Nat.{ℕ, _≤_, _-_}
+use Prim.Native.Nat.{ℕ, _-_}
 use Prim.Native.Char.{code}
 use mathlib.Core.Path.{_≡_, refl, sym, ap, _∙_}
-use mathlib.Core.Bool.{Bool, true, false, not}
+use mathlib.Core.Bool.{Bool, true, false}
 use mathlib.Core.List.{List, [], _∷_, _++_, append-assoc}
 use mathlib.Core.Option.{Option, none, some}
 use borrow.Author.Tests.{not-true, eqb-true}
 use lib.Dec.{eqb}
-use lib.ListN.{length, getD, take, drop}
-use lib.Seq.{take-all}
-use Rattle.octets.specs.Basics.{octets, pick, _or_, all}
+use Rattle.octets.specs.Basics.{octets, _or_, all}
 use Rattle.octets.specs.Optional.{isSome, given}
 use Rattle.octets.proofs.Cases.{cases, never, both, neither, apart}
-use Rattle.octets.proofs.Positions.{upto}
 use Rattle.calendar.specs.Texts.{octetsIn, textSaid, Says}
 use Rattle.calendar.specs.declared.texts.Text.{Text}
-use Rattle.json.specs.Tree.{Json, Items, itemsOf}
+use Rattle.json.specs.Tree.{Json, itemsOf}
 use Rattle.json.specs.Print.{escaped, quoted, printString, print, moreItems}
 use Rattle.json.specs.Promise.{bareOctet}
 use Rattle.values.specs.Shown.{valuesJson, stringShown}

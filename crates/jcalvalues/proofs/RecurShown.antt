@@ -1,20 +1,20 @@
 -- A recurrence rule that is read is written as its object.
-use Prim.Native.Nat.{ℕ, zero, suc, _+_, _-_, _≤_, _<_}
+use Prim.Native.Nat.{ℕ, zero, suc, _+_, _-_}
 use Prim.Native.Char.{code}
 use mathlib.Core.Path.{_≡_, refl, sym, ap, _∙_}
-use mathlib.Core.Bool.{Bool, true, false}
+use mathlib.Core.Bool.{Bool, true}
 use mathlib.Core.List.{List, [], _∷_, _++_, map, append-assoc}
-use mathlib.Core.Option.{Option, none, some}
+use mathlib.Core.Option.{Option, some}
 use native.Mathlib.Omega.{arith}
 use borrow.Author.Tests.{ltb-true, ltb-false}
 use lib.Dec.{ltb}
 use lib.ListN.{length, getD, take, drop}
-use Rattle.octets.specs.Basics.{octets, pick, _and_, _or_, all}
+use Rattle.octets.specs.Basics.{octets, _or_, all}
 use Rattle.octets.specs.Pieces.{split, joined}
-use Rattle.octets.specs.Optional.{map?, both?, isSome, when, given, each}
+use Rattle.octets.specs.Optional.{both?, isSome, given, each}
 use Rattle.octets.specs.Classes.{between, isUpper, isDigit, lowerOctet, upper, lower}
 use Rattle.octets.specs.Decimal.{isSign}
-use Rattle.octets.proofs.Cases.{cases, never, both, All, all-weaker}
+use Rattle.octets.proofs.Cases.{cases, both, All, all-weaker}
 use Rattle.octets.proofs.Classes.{lower-upper}
 use Rattle.octets.proofs.Optional.{when-is, map-is, each-none, each-is}
 use Rattle.octets.proofs.Pieces.{Free, split-free, split-filled, split-last as split-alone}
@@ -25,9 +25,9 @@ use Rattle.calendar.proofs.Again.{value-octets}
 use Rattle.calendar.proofs.Octets.{itemOctet}
 use Rattle.calendar.proofs.Pieces.{before-all, split-more, split-last, comma-uncased, semicolon-uncased, split-upper}
 use Rattle.calendar.proofs.Showing.{item-shown}
-use Rattle.calendar.proofs.Walk.{readPart, readParts, rule-parts, Walked, walked}
-use Rattle.json.specs.Tree.{Json, str, num, arr, obj, itemsOf}
-use Rattle.json.specs.Print.{quoted, printString, printKey, print, firstMember, moreMembers}
+use Rattle.calendar.proofs.Walk.{readPart, readParts, rule-parts, walked}
+use Rattle.json.specs.Tree.{Json, arr, obj, itemsOf}
+use Rattle.json.specs.Print.{printString, printKey, print, firstMember, moreMembers}
 use Rattle.json.specs.Promise.{bareOctet}
 use Rattle.content.specs.Parameters.{plainOr}
 use Rattle.values.specs.Recur.{itemJson, partMembers, recurOf}

@@ -4,16 +4,16 @@ use Prim.Native.Char.{code}
 use mathlib.Core.Path.{_≡_, refl, sym, ap, _∙_}
 use mathlib.Core.Bool.{Bool, true, false, not}
 use mathlib.Core.List.{List, [], _∷_, _++_, map, append-assoc}
-use mathlib.Core.Option.{Option, none, some}
+use mathlib.Core.Option.{Option, some}
 use lib.Dec.{eqb}
-use Rattle.octets.specs.Basics.{octets, pick, _and_, _or_}
+use Rattle.octets.specs.Basics.{octets, _or_}
 use Rattle.octets.specs.Pieces.{onto}
 use Rattle.octets.specs.Optional.{map?, guard}
 use Rattle.octets.specs.Classes.{plainOctet}
 use Rattle.octets.proofs.Cases.{cases, apart, or-false}
 use Rattle.octets.proofs.Optional.{missing, map-is, guard-is}
 use Rattle.json.specs.Tree.{Json, str, arr, itemsOf}
-use Rattle.json.specs.Print.{escaped, quoted, printString, print, firstItem, moreItems}
+use Rattle.json.specs.Print.{escaped, quoted, printString, print, firstItem}
 use Rattle.values.specs.Texts.{Act, add, next, escape, stop, act, escapes, done, textsFrom, texts, fields}
 use Rattle.values.specs.Read.{twoOrThree, readStatus}
 use Rattle.values.specs.Shown.{valuesJson, unescaped, octetShown, opens, textsFromShown, textsShown, statusShown}

@@ -2,12 +2,10 @@
 use Prim.Native.Nat.{ℕ}
 use Prim.Native.Char.{code}
 use mathlib.Core.Path.{_≡_, refl, sym, ap, _∙_}
-use mathlib.Core.Bool.{Bool, true, false}
-use mathlib.Core.List.{List, [], _∷_, _++_, map, append-nil}
-use mathlib.Core.Option.{Option, none, some}
-use Rattle.octets.specs.Basics.{pick}
+use mathlib.Core.List.{List, [], _∷_, map, append-nil}
+use mathlib.Core.Option.{Option, some}
 use Rattle.octets.specs.Pieces.{split, joined}
-use Rattle.octets.specs.Optional.{map?, when, each}
+use Rattle.octets.specs.Optional.{each}
 use Rattle.octets.specs.Decimal.{integerText}
 use Rattle.octets.specs.Pen.{Pen, Wrote}
 use Rattle.octets.proofs.Cases.{cases}
