@@ -1,3 +1,6 @@
+pub mod PropertyRead
+pub mod Stating
+pub mod ByRow
 pub mod Carried
 pub mod Shapes
 pub mod Events

@@ -381,7 +381,7 @@ unfolding readValues
 text-held raw vs e = map-is (map str) (texts raw) vs e (λ ts q w. rw (← w) (texts-held raw ts q))
 
 -- REQUEST-STATUS
-list-items : (js : List Json) → listOf (itemsOf js) ≡ js
+pub list-items : (js : List Json) → listOf (itemsOf js) ≡ js
 unfolding listOf itemsOf
 list-items [] = refl
 list-items (j ∷ js) = ap (λ (l : List Json). j ∷ l) (list-items js)

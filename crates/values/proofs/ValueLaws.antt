@@ -73,15 +73,12 @@ values-of name c many raw vs e =
     }
 
 -- a value that passes unprocessed: one string, written as it is
-unprocessed-read : (raw : List ℕ) → all plainOctet raw ≡ true → readValues plain raw ≡ some (str raw ∷ [])
-unfolding readValues alone readPlain map?
-unprocessed-read raw h = rw (when-true (all plainOctet raw) (str raw) h)
+pub unprocessed-read : (raw : List ℕ) → clean raw ≡ true → readValues plain raw ≡ some (str raw ∷ [])
+unfolding readValues alone readPlain map? clean
+unprocessed-read raw h = rw (when-true (all plainOctet raw) (str raw) (both (utf8 raw) (all plainOctet raw) h .1))
 
 pub unprocessed-held : (raw : List ℕ) → clean raw ≡ true → Held plain raw (str raw ∷ [])
-unprocessed-held raw h = values-held plain raw (str raw ∷ []) (unprocessed-read raw (plain-of raw h))
-  where
-    plain-of : (raw : List ℕ) → clean raw ≡ true → all plainOctet raw ≡ true
-    plain-of raw h = unfold clean in both (utf8 raw) (all plainOctet raw) h .1
+unprocessed-held raw h = values-held plain raw (str raw ∷ []) (unprocessed-read raw h)
 
 pub unprocessed-text : (raw : List ℕ) → valuesText plain (str raw ∷ []) ≡ raw
 unfolding valuesText joined valueText octetsOf number? string? given
