@@ -9,3 +9,5 @@ pub mod Naming
 pub mod Groups
 pub mod Halves
 pub mod Floats
+pub mod PlainTexts
+pub mod PlainValues
