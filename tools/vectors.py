@@ -49,7 +49,8 @@ listed (accepted ss) = accepted (map numbers ss)
 def names():
     """Every definition that can be opened, as CRATE.specs.MODULE.NAME."""
     out = []
-    for path in sorted(glob.glob(os.path.join(ROOT, "crates/*/specs/*.antt"))):
+    crates = [l.split(":")[0].strip() for l in needed()]
+    for path in sorted(p for c in crates for p in glob.glob(os.path.join(ROOT, "crates", c, "specs/*.antt"))):
         crate, module = path.split(os.sep)[-3], os.path.basename(path)[:-5]
         block = False
         for line in open(path, encoding="utf-8"):
@@ -100,7 +101,7 @@ def equation(path):
 def scratch():
     """A repository with the definitions alone and an empty crate for the equations."""
     top = tempfile.mkdtemp(prefix="vectors-")
-    lines = [l for l in open(os.path.join(ROOT, "crates.txt"), encoding="utf-8") if definitions_of(l)]
+    lines = needed()
     for line in lines:
         crate = line.split(":")[0].strip()
         shutil.copytree(os.path.join(ROOT, "crates", crate, "specs"), os.path.join(top, "crates", crate, "specs"))
@@ -145,10 +146,18 @@ def worker(jobs, opened):
         shutil.rmtree(top, ignore_errors=True)
 
 
-def definitions_of(line):
-    """Whether a line of crates.txt names a library with definitions."""
-    name = line.split(":")[0].strip()
-    return bool(name) and os.path.exists(os.path.join(ROOT, "crates", name, "specs/Lib.antt"))
+def needed():
+    """The lines of crates.txt that the two conversions and the stop list stand on, theirs included."""
+    lines = [l for l in open(os.path.join(ROOT, "crates.txt"), encoding="utf-8") if l.strip()]
+    under = {l.split(":")[0].strip(): l.split(":")[1].split() for l in lines}
+    wanted = set()
+    todo = ["converter", "stoplist"]
+    while todo:
+        crate = todo.pop()
+        if crate not in wanted:
+            wanted.add(crate)
+            todo += under[crate]
+    return [l for l in lines if l.split(":")[0].strip() in wanted]
 
 
 def strip(path):
