@@ -14,7 +14,6 @@ use Rattle.octets.specs.Pieces.{split}
 use Rattle.octets.specs.Optional.{map?, then?, isSome, guard}
 use Rattle.octets.specs.Limits.{mostRows}
 use Rattle.octets.specs.Pen.{Pen, pen, wrote, Wrote}
-use Rattle.octets.proofs.Limits.{most-rows}
 use Rattle.octets.proofs.Optional.{missing, some-same, map-is, guard-is, then-is, when-is}
 use Rattle.octets.proofs.Pen.{Landed, landed, kept, nothing, as-text, then}
 use Rattle.octets.proofs.Classes.{between-true}
@@ -95,15 +94,15 @@ module _ {hex o rows : List ℕ} {from at count : ℕ} (p : Progress hex o rows 
     line-left : guard mayJoin (rowsOf hex) ≡ then? (added (p .es) (rowOf (take (end - from) (drop from hex)))) (λ fs. joins fs (split (code "\n") (drop (end + 1) hex)))
     line-left = p .left ∙ joins-line hex from (p .es) h end e k
 
-    pub too-many-rows : count ≡ 64 → guard mayJoin (rowsOf hex) ≡ none
+    pub too-many-rows : mostRows ≤ count → guard mayJoin (rowsOf hex) ≡ none
     unfolding added then?
     too-many-rows c =
-        let l : ltb (length (p .es)) mostRows ≡ false = le-ltb (length (p .es)) mostRows (omega (arith, most-rows, p .counted)) in
+        let l : ltb (length (p .es)) mostRows ≡ false = le-ltb (length (p .es)) mostRows (omega (arith, p .counted)) in
         line-left ∙ rw l
 
-    module _ (l : count ≡ 64 → ⊥) where
+    module _ (l : count < mostRows) where
       one-more : ltb (length (p .es)) mostRows ≡ true
-      one-more = lt-ltb (length (p .es)) mostRows (omega (arith, most-rows, p .counted, p .few))
+      one-more = lt-ltb (length (p .es)) mostRows (omega (arith, p .counted))
 
       added-is : added (p .es) (rowOf (take (end - from) (drop from hex))) ≡ map? (λ r. p .es ++ r ∷ []) (unlisted (tableIn (take at rows)) (rowOf (take (end - from) (drop from hex))))
       unfolding added
@@ -128,7 +127,7 @@ module _ {hex o rows : List ℕ} {from at count : ℕ} (p : Progress hex o rows 
               es = p .es ++ r ∷ [];
               within = omega arith;
               counted = rw (length-append, p .counted);
-              few = omega (arith, most-rows, p .few);
+              few = omega arith;
               small = rw (behind (p .es) r, length-append) (omega (arith, p .small, row-size (take (end - from) (drop from hex)) r (unlisted-is (tableIn (take at rows)) (rowOf (take (end - from) (drop from hex))) r q)));
               room = p .room;
               written = as-text (then (p .written) w) (sym (behind (p .es) r));

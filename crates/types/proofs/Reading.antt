@@ -86,14 +86,14 @@ module _ (hex : List ℕ) where
 
 -- what the code leaves is what the definition says
 module _ (hex o : List ℕ) where
-  pub short-buffer : length o < 2240 → answer (refused 10) o ≡ readRows hex o
+  pub short-buffer : length o < roomForRows → answer (refused 10) o ≡ readRows hex o
   unfolding readRows answer
-  short-buffer h = rw (lt-ltb (length o) roomForRows (omega (arith, room-is)))
+  short-buffer h = rw (lt-ltb (length o) roomForRows h)
 
-  module _ (h : 2240 ≤ length o) where
+  module _ (h : roomForRows ≤ length o) where
     enough : readRows hex o ≡ answer (laidOf hex) o
     unfolding readRows
-    enough = rw (le-ltb (length o) roomForRows (omega (arith, room-is)))
+    enough = rw (le-ltb (length o) roomForRows h)
 
     module _ (b : List ℕ) where
       pub malformed : length b ≡ length o → penBehind Malformed b ≡ map? (λ es. wrote (pen o 0) (laid es)) (guard mayJoin (rowsOf hex)) → answer (refused 2) b ≡ readRows hex o
@@ -106,8 +106,8 @@ module _ (hex o : List ℕ) where
       unfolding outcome finished
       laid-out n es q w =
           let f = file-fits hex es q in
-          let l = landed o (laid es) b n (omega (arith, room-is)) w in
-          let k : n ≤ length b = omega (arith, l .count, kept w, room-is) in
+          let l = landed o (laid es) b n (omega arith) w in
+          let k : n ≤ length b = omega (arith, l .count, kept w) in
           rw (enough, some-laid hex es q, ← finished-answer o (laid es) b n w, le-leb n (length b) k)
 
       pub written : (n : ℕ) → penBehind (Upto n) b ≡ map? (λ es. wrote (pen o 0) (laid es)) (guard mayJoin (rowsOf hex)) → outcome (Written n) b ≡ readRows hex o
@@ -129,16 +129,13 @@ pub record Read-table (hex b : List ℕ) (n : ℕ) : Type 0 where
   pub within : n ≤ length b
 
 module _ (hex o b : List ℕ) (h : roomForRows ≤ length o) where
-  room : readRows hex o ≡ answer (laidOf hex) o
-  room = enough hex o (omega (arith, room-is))
-
   read-none : guard mayJoin (rowsOf hex) ≡ none → readRows hex o ≡ settled 2 0 (replicate (length o) 0)
   unfolding answer zeroed
-  read-none q = room ∙ rw (none-laid hex q)
+  read-none q = enough hex o h ∙ rw (none-laid hex q)
 
   read-some : (es : Table) → guard mayJoin (rowsOf hex) ≡ some es → readRows hex o ≡ settled 0 (length (laid es)) (laid es ++ drop (length (laid es)) o)
   unfolding answer
-  read-some es q = let f = file-fits hex es q in room ∙ rw (some-laid hex es q, le-leb (length (laid es)) (length o) (omega arith))
+  read-some es q = let f = file-fits hex es q in enough hex o h ∙ rw (some-laid hex es q, le-leb (length (laid es)) (length o) (omega arith))
 
   pub rows-written : (n : ℕ) → outcome (Written n) b ≡ readRows hex o → Read-table hex b n
   unfolding outcome then

@@ -9,8 +9,8 @@ pub use codes::put_type_name;
 pub use rows::read_rows;
 pub use table::find;
 
-// Octets that the rows of any file take: 64 rows of at most 35.
-pub const ROOM_FOR_ROWS: usize = 2240;
+// Octets that the rows of any file take at most, each row 35.
+pub const ROOM_FOR_ROWS: usize = 35 * octets::MOST_ROWS;
 
 // What a table says of a name: the code of its type, and whether it may have many values.
 pub enum Found {

@@ -4,6 +4,7 @@ use mathlib.Core.Path.{_≡_, sym, ap, _∙_}
 use native.Mathlib.Omega.{arith}
 use borrow.Author.Needs.{needs}
 use lib.ListN.{length}
+use Rattle.octets.specs.Limits.{mostRows}
 use Rattle.octets.proofs.Limits.{most-rows}
 use Rattle.octets.proofs.Pen.{kept}
 use Rattle.types.specs.Reading.{penBehind}
@@ -23,6 +24,10 @@ a-line : (p : tie.Else1 Inv-loop μ-loop) → p .before .line-end .result < leng
 a-line p =
     let w = end-within _ _ _ (p .before .before .before .loop .inv .within) (p .before .line-end .ensures) in
     omega (arith, p .if1 .left)
+
+-- there may be one row more
+one-more : (q : tie.Else2 Inv-loop μ-loop) → q .before .before .before .before .loop .count < mostRows
+one-more q = omega (arith, most-rows, q .before .before .before .before .loop .inv .few)
 
 loop-holds : tie.Need-loop-holds Inv-loop μ-loop
 loop-holds c = begun _ _ (c .before .before .pre)
@@ -44,7 +49,7 @@ same-length-2 c = kept (c .before .before .before .before .loop .inv .written)
 returns-2 : tie.Need-returns-2 Inv-loop μ-loop
 returns-2 c =
     let l = c .before .before .before .before .loop in
-    refused-file _ _ _ (too-many-rows (l .inv) (c .before .before .before .loop-test .taken) (c .before .before .line-end .result) (c .before .before .line-end .ensures) (a-line (c .before)) (c .if2 .taken))
+    refused-file _ _ _ (too-many-rows (l .inv) (c .before .before .before .loop-test .taken) (c .before .before .line-end .result) (c .before .before .line-end .ensures) (a-line (c .before)) (omega (arith, most-rows)))
 
 sub-lay-line : tie.Need-sub-lay-line Inv-loop μ-loop
 sub-lay-line c = search needs
@@ -74,7 +79,7 @@ returns-3 c =
     let g = c .before .before .before .before in
     let p = g .before .before .before .before in
     let l = p .before .before .before .loop in
-    refused-file _ _ _ (bad-line (l .inv) (p .before .before .loop-test .taken) (p .before .line-end .result) (p .before .line-end .ensures) (a-line p) (g .before .before .before .if2 .left) _
+    refused-file _ _ _ (bad-line (l .inv) (p .before .before .loop-test .taken) (p .before .line-end .result) (p .before .line-end .ensures) (a-line p) (one-more (g .before .before .before)) _
     (sym (ap (λ r. penBehind r (g .lay-line .last .1 .0)) (c .enum-told .given .1)) ∙ g .lay-line .ensures))
 
 add-from : tie.Need-add-from Inv-loop μ-loop
@@ -93,7 +98,7 @@ loop-again c =
     let g = c .before .before .before .before .before in
     let p = g .before .before .before .before in
     let l = p .before .before .before .loop in
-    good-line (l .inv) (p .before .before .loop-test .taken) (p .before .line-end .result) (p .before .line-end .ensures) (a-line p) (g .before .before .before .if2 .left) _ _
+    good-line (l .inv) (p .before .before .loop-test .taken) (p .before .line-end .result) (p .before .line-end .ensures) (a-line p) (one-more (g .before .before .before)) _ _
     (sym (ap (λ r. penBehind r (g .lay-line .last .1 .0)) (c .before .next .given .1)) ∙ g .lay-line .ensures)
 
 same-length-4 : tie.Need-same-length-4 Inv-loop μ-loop

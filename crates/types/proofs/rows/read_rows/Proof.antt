@@ -14,7 +14,7 @@ same-length : tie.Need-same-length
 same-length c = search needs
 
 returns : tie.Need-returns
-returns c = c .before .before .refuse .ensures ∙ short-buffer _ _ (c .before .before .before .before .if1 .taken)
+returns c = c .before .before .refuse .ensures ∙ short-buffer _ (c .before .before .before .before .before .before .before .args .rows .now) (omega (arith, room-is))
 
 lay-rows-requires : tie.Need-lay-rows-requires
 lay-rows-requires c κs = omega (arith, room-is)
@@ -34,7 +34,7 @@ same-length-2 c = search needs
 returns-2 : tie.Need-returns-2
 returns-2 c =
     let g = c .before .before .before .before .before in
-    written _ _ (g .before .before .if1 .left) _ _ (sym (ap (λ r. penBehind r (g .lay-rows .last .1 .0)) (c .before .n .given .1)) ∙ g .lay-rows .ensures)
+    written _ (g .before .before .before .before .before .args .rows .now) (omega (arith, room-is)) _ _ (sym (ap (λ r. penBehind r (g .lay-rows .last .1 .0)) (c .before .n .given .1)) ∙ g .lay-rows .ensures)
 
 same-length-3 : tie.Need-same-length-3
 same-length-3 c = search needs
@@ -43,7 +43,7 @@ returns-3 : tie.Need-returns-3
 returns-3 c =
     let e = c .before .before .before .before in
     let g = e .before .before .before .before in
-    c .before .before .refuse2 .ensures ∙ malformed _ _ (g .before .before .if1 .left) _ (g .lay-rows .kept .1 .0) (sym (ap (λ r. penBehind r (g .lay-rows .last .1 .0)) (e .enum-told .given .1)) ∙ g .lay-rows .ensures)
+    c .before .before .refuse2 .ensures ∙ malformed _ (g .before .before .before .before .before .args .rows .now) (omega (arith, room-is)) _ (g .lay-rows .kept .1 .0) (sym (ap (λ r. penBehind r (g .lay-rows .last .1 .0)) (e .enum-told .given .1)) ∙ g .lay-rows .ensures)
 
 pub read-rows-spec : {M : Type 1} → statement M
 read-rows-spec =
