@@ -1,0 +1,11 @@
+// Lists the stops of a rule: reads a start, a rule and the most stops from standard input, a line each.
+
+fn main() {
+    let mut text = [0u8; 65537];
+    let n = io::read_full(0, &mut text);
+    let mut out = [0u8; 4096];
+    let m = stopspage::print_page(&mut out, &text[0..n]);
+    if m <= 4096 {
+        io::write_all(1, &out[0..m]);
+    }
+}

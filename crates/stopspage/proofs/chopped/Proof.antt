@@ -1,0 +1,47 @@
+-- `stopspage::chopped` meets its contract: by the last octet.
+use Prim.Native.Nat.{_-_}
+use mathlib.Core.Path.{_∙_}
+use native.Mathlib.Omega.{arith}
+use borrow.Author.Needs.{needs}
+use lib.ListN.{length}
+use Rattle.octets.proofs.Positions.{upto}
+use Rattle.stopspage.proofs.Cutting.{chop-none, chop-return, chop-other}
+use Rattle.stopspage.proofs.chopped.Statement.{statement}
+use Rattle.stopspage.proofs.chopped.Tie as tie
+
+returns : tie.Need-returns
+returns c = chop-none _ (c .if1 .taken)
+
+sub-last : tie.Need-sub-last
+sub-last c = search needs
+
+shared-slice-read-if2 : tie.Need-shared-slice-read-if2
+shared-slice-read-if2 c = search needs
+
+sub-result : tie.Need-sub-result
+sub-result c = search needs
+
+part-result-start : tie.Need-part-result-start
+part-result-start c = search needs
+
+part-result-end : tie.Need-part-result-end
+part-result-end c = search needs
+
+returns-2 : tie.Need-returns-2
+returns-2 c = let s = c .before .before .before .before .args .s .now in upto s (length s - 1) ∙ chop-return s (length s - 1) (omega arith) (c .before .if2 .taken)
+
+returns-3 : tie.Need-returns-3
+returns-3 c = let s = c .before .before .before .args .s .now in chop-other s (length s - 1) (omega arith) (c .if2 .left)
+
+pub chopped-spec : {M : Type 1} → statement M
+chopped-spec =
+    tie.close
+    (tie.spec
+    returns
+    sub-last
+    shared-slice-read-if2
+    sub-result
+    part-result-start
+    part-result-end
+    returns-2
+    returns-3)

@@ -1,0 +1,40 @@
+-- `stopspage::most_of` meets its contract: each test decides as in the definition.
+use mathlib.Core.Path.{sym, _∙_}
+use borrow.Author.Tests.{not-true, not-false}
+use borrow.Author.Needs.{needs}
+use Rattle.stopspage.proofs.Numbers.{no-digits, zeros, too-many, is-most}
+use Rattle.stopspage.proofs.most_of.Statement.{statement}
+use Rattle.stopspage.proofs.most_of.Tie as tie
+
+all-digits-requires : tie.Need-all-digits-requires
+all-digits-requires c κs = search needs
+
+returns : tie.Need-returns
+returns c = no-digits _ (sym (c .before .all-digits .ensures) ∙ not-true _ (c .if1 .taken))
+
+leading-zeros-requires : tie.Need-leading-zeros-requires
+leading-zeros-requires c κs = search needs
+
+returns-2 : tie.Need-returns-2
+returns-2 c = zeros _ (sym (c .before .before .before .all-digits .ensures) ∙ not-false _ (c .before .before .if1 .left)) _ (c .before .leading-zeros .ensures .0) (c .before .leading-zeros .ensures .1) (c .if2 .taken)
+
+value-of-requires : tie.Need-value-of-requires
+value-of-requires c κs = search needs
+
+returns-3 : tie.Need-returns-3
+returns-3 c = too-many _ (sym (c .before .before .before .before .before .all-digits .ensures) ∙ not-false _ (c .before .before .before .before .if1 .left)) _ (c .before .before .before .leading-zeros .ensures .0) (c .before .before .before .leading-zeros .ensures .1) (c .before .before .if2 .left) _ (c .before .value-of .ensures) (c .if3 .taken)
+
+returns-4 : tie.Need-returns-4
+returns-4 c = is-most _ (sym (c .before .before .before .before .before .all-digits .ensures) ∙ not-false _ (c .before .before .before .before .if1 .left)) _ (c .before .before .before .leading-zeros .ensures .0) (c .before .before .before .leading-zeros .ensures .1) (c .before .before .if2 .left) _ (c .before .value-of .ensures) (c .if3 .left)
+
+pub most-of-spec : {M : Type 1} → statement M
+most-of-spec =
+    tie.close
+    (tie.spec
+    all-digits-requires
+    returns
+    leading-zeros-requires
+    returns-2
+    value-of-requires
+    returns-3
+    returns-4)

@@ -1,0 +1,65 @@
+-- `stopspage::put_stops` meets its contract: what is written is followed by the stops ahead.
+use Prim.Native.Nat.{_+_, _-_, _≤_}
+use mathlib.Core.Path.{_≡_, refl}
+use native.Mathlib.Omega.{arith}
+use borrow.Author.Needs.{needs}
+use lib.ListN.{length, take, drop}
+use Rattle.octets.proofs.Pen.{Leads, leads-start, leads-on, leads-end}
+use Rattle.octets.specs.Pen.{pen}
+use Rattle.stopspage.proofs.Showing.{stops-on, stops-end}
+use Rattle.stopspage.specs.Printing.{stopsShown}
+use Rattle.stopspage.proofs.put_stops.Statement.{statement}
+use Rattle.stopspage.proofs.put_stops.Tie as tie
+
+abbrev Inv-loop : tie.InvT-loop
+Inv-loop out₀ at n stops to₀ i₀ out to i = (i ≤ n) × (length out ≡ length out₀) × Leads (pen out₀ at) (stopsShown 1 (take n stops)) (pen out to) (stopsShown (i + 1) (drop i (take n stops)))
+
+abbrev μ-loop : tie.MeasureT-loop
+μ-loop out₀ at n stops to₀ i₀ out to i = n - i
+
+loop-holds : tie.Need-loop-holds Inv-loop μ-loop
+loop-holds c = (omega arith, refl, leads-start)
+
+mul-s : tie.Need-mul-s Inv-loop μ-loop
+mul-s c = search needs
+
+array-copy-out-s : tie.Need-array-copy-out-s Inv-loop μ-loop
+array-copy-out-s c = search needs
+
+add-put-stop : tie.Need-add-put-stop Inv-loop μ-loop
+add-put-stop c = search needs
+
+put-stop-requires : tie.Need-put-stop-requires Inv-loop μ-loop
+put-stop-requires c κs = search needs
+
+add-i : tie.Need-add-i Inv-loop μ-loop
+add-i c = search needs
+
+loop-less : tie.Need-loop-less Inv-loop μ-loop
+loop-less c = search needs
+
+loop-again : tie.Need-loop-again Inv-loop μ-loop
+loop-again c = (omega arith, omega arith, leads-on (c .before .before .before .before .before .before .loop .inv .2) (c .before .before .put-stop .ensures) (stops-on _ (c .before .before .before .before .before .before .before .before .args .t3) (c .before .before .before .before .before .before .before .before .args .n) (c .before .before .before .before .before .before .loop .i) (c .before .before .before .before .before .loop-test .taken) (omega arith)))
+
+same-length : tie.Need-same-length Inv-loop μ-loop
+same-length c = search needs
+
+returns : tie.Need-returns Inv-loop μ-loop
+returns c = leads-end (c .before .loop .inv .2) (stops-end (c .before .before .before .args .t3) (c .before .before .before .args .n) (c .before .loop .i) (c .before .loop .i + 1) (c .loop-test .left))
+
+pub put-stops-spec : {M : Type 1} → statement M
+put-stops-spec =
+    tie.close
+    (tie.spec
+    Inv-loop
+    μ-loop
+    loop-holds
+    mul-s
+    array-copy-out-s
+    add-put-stop
+    put-stop-requires
+    add-i
+    loop-less
+    loop-again
+    same-length
+    returns)
