@@ -1,0 +1,6 @@
+pub mod Room
+pub mod Tests
+pub mod Parting
+pub mod Sizing
+pub mod Lengths
+pub mod Ruling

@@ -1,0 +1,109 @@
+-- A recurrence object as a rule: its text in lent memory, what the recurrence reader says of it, and its normal form.
+use Prim.Native.Nat.{ℕ, _-_, _≤_, _<_}
+use mathlib.Core.Path.{_≡_, refl, sym, ap, _∙_}
+use mathlib.Core.Bool.{Bool, true, false}
+use mathlib.Core.List.{List, []}
+use mathlib.Core.Option.{Option, none, some}
+use native.Mathlib.Omega.{arith}
+use lib.ListN.{length, take, drop}
+use Rattle.octets.specs.Basics.{pick, _and_}
+use Rattle.octets.specs.Optional.{isSome, holds, given}
+use Rattle.octets.specs.Classes.{upper}
+use Rattle.octets.specs.Pen.{pen, Wrote}
+use Rattle.octets.proofs.Cases.{never, and-false-right, pick-same}
+use Rattle.octets.proofs.Optional.{some-is}
+use Rattle.octets.proofs.Pen.{Landed, landed, kept}
+use Rattle.octets.proofs.Positions.{upto}
+use Rattle.calendar.specs.Recurrence.{Part, partsOf, partsText}
+use Rattle.calendar.specs.Walk.{ruleShown}
+use Rattle.calendar.proofs.Showing.{rule-shown}
+use Rattle.json.specs.Tree.{Members, obj, object?}
+use Rattle.json.specs.Tape.{tagObject}
+use Rattle.tape.specs.Decode.{tagAt, valueAt, membersAt}
+use Rattle.tape.specs.Promise.{After}
+use Rattle.tape.proofs.Values.{no-object}
+use Rattle.tape.proofs.Walks.{object-some}
+use Rattle.values.specs.Sorts.{recur}
+use Rattle.values.specs.Recur.{kindsAre, ruleParts, recurIs, recurText}
+use Rattle.values.specs.Write.{valueIs, valueText}
+use Rattle.icalrecur.specs.Wording.{objectText}
+use Rattle.icalrecur.specs.Room.{hasRoom}
+use Rattle.icalrecur.proofs.Room.{room, no-room}
+use Rattle.icalrecur.proofs.Sizing.{object-length}
+use Rattle.icalrecur.proofs.Lengths.{rule-length}
+
+absent : (o : Option (List Part)) → isSome o ≡ false → o ≡ none
+unfolding isSome
+absent none e = refl
+absent (some ps) e = never refl e
+
+-- where there is no room, and where there is no object
+module _ (t : List ℕ) (at : ℕ) where
+  pub untested : (text : List ℕ) → length text < length t → false ≡ (hasRoom t text and valueIs recur (valueAt t at))
+  untested text h = rw (no-room t text h)
+
+  module _ (n : (tagAt t at ≡ tagObject) → ⊥) where
+    pub no-rule : (text : List ℕ) → false ≡ (hasRoom t text and valueIs recur (valueAt t at))
+    unfolding valueIs holds
+    no-rule text = rw (no-object t at n) (sym (and-false-right (hasRoom t text)))
+
+    pub no-text : (text rule : List ℕ) → [] ≡ pick (hasRoom t text and hasRoom t rule) (valueText recur (valueAt t at)) []
+    unfolding valueText given
+    no-text text rule = rw (no-object t at n) (sym (pick-same (hasRoom t text and hasRoom t rule) []))
+
+-- the members of an object
+module _ {t : List ℕ} {at i : ℕ} (o : tagAt t at ≡ tagObject) (x : After t at i) where
+  is-rule : valueIs recur (valueAt t at) ≡ recurIs (membersAt t i)
+  unfolding valueIs holds
+  is-rule = rw (object-some x o)
+
+  text-of : valueText recur (valueAt t at) ≡ recurText (membersAt t i)
+  unfolding valueText given
+  text-of = rw (object-some x o)
+
+  pub other-kinds : (text : List ℕ) → kindsAre (membersAt t i) ≡ false → false ≡ (hasRoom t text and valueIs recur (valueAt t at))
+  unfolding recurIs
+  other-kinds text k = rw (is-rule, k) (sym (and-false-right (hasRoom t text)))
+
+  -- its text is laid into lent memory
+  module _ {text later : List ℕ} {n : ℕ} (h : length t ≤ length text) (w : Wrote (pen text 0) (objectText (membersAt t i)) (pen later n)) where
+    land : Landed text (objectText (membersAt t i)) later n
+    land = landed text (objectText (membersAt t i)) later n (omega (arith, object-length t i)) w
+
+    pub laid-within : n ≤ length later
+    laid-within = omega (arith, land .count, object-length t i, kept w)
+
+    laid : take (n - 0) (drop 0 later) ≡ objectText (membersAt t i)
+    laid = upto later n ∙ land .front
+
+    parts : ruleParts (membersAt t i) ≡ partsOf (upper (take (n - 0) (drop 0 later)))
+    unfolding ruleParts
+    parts = rw laid
+
+    pub tested : kindsAre (membersAt t i) ≡ true → isSome (partsOf (upper (take (n - 0) (drop 0 later)))) ≡ (hasRoom t text and valueIs recur (valueAt t at))
+    unfolding recurIs
+    tested k = rw (room t text h, is-rule, k, parts)
+
+    -- it is no rule
+    pub no-parts : (rule : List ℕ) → isSome (partsOf (upper (take (n - 0) (drop 0 later)))) ≡ false → [] ≡ pick (hasRoom t text and hasRoom t rule) (valueText recur (valueAt t at)) []
+    unfolding recurText given
+    no-parts rule e = rw (text-of, parts, absent (partsOf (upper (take (n - 0) (drop 0 later)))) e) (sym (pick-same (hasRoom t text and hasRoom t rule) []))
+
+    -- it is a rule, and its normal form is laid into lent memory
+    module _ {rule after : List ℕ} {m : ℕ} (k : length t ≤ length rule) (e : isSome (partsOf (upper (take (n - 0) (drop 0 later)))) ≡ true)
+        (v : Wrote (pen rule 0) (ruleShown (take (n - 0) (drop 0 later))) (pen after m)) where
+      shorter : length (ruleShown (take (n - 0) (drop 0 later))) ≤ length rule
+      shorter = some-is (partsOf (upper (take (n - 0) (drop 0 later)))) e (λ ps q. omega (arith, rule-length (take (n - 0) (drop 0 later)) ps q, ap length laid, object-length t i))
+
+      shown : Landed rule (ruleShown (take (n - 0) (drop 0 later))) after m
+      shown = landed rule (ruleShown (take (n - 0) (drop 0 later))) after m shorter v
+
+      pub shown-within : m ≤ length after
+      shown-within = omega (arith, shown .count, shorter, kept v)
+
+      normal : valueText recur (valueAt t at) ≡ ruleShown (take (n - 0) (drop 0 later))
+      unfolding recurText given
+      normal = some-is (partsOf (upper (take (n - 0) (drop 0 later)))) e (λ ps q. rw (text-of, parts, q) (sym (rule-shown (take (n - 0) (drop 0 later)) ps q)))
+
+      pub rule-text : take (m - 0) (drop 0 after) ≡ pick (hasRoom t text and hasRoom t rule) (valueText recur (valueAt t at)) []
+      rule-text = upto after m ∙ shown .front ∙ sym (rw (room t text h, room t rule k) normal)

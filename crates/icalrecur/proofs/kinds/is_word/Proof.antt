@@ -1,0 +1,48 @@
+-- `icalrecur::kinds::is_word` meets its contract.
+use Prim.Native.Nat.{_-_}
+use mathlib.Core.Path.{_≡_, refl, sym, _∙_}
+use native.Mathlib.Omega.{arith}
+use borrow.Author.Tests.{not-true, not-false}
+use borrow.Author.Needs.{needs}
+use lib.ListN.{length, drop}
+use Rattle.octets.proofs.Classes.{all-on, all-stop, all-end}
+use Rattle.octets.specs.Basics.{all}
+use Rattle.values.specs.Recur.{wordOctet}
+use Rattle.icalrecur.proofs.kinds.is_word.Tie as tie
+use Rattle.icalrecur.proofs.kinds.is_word.Statement.{statement}
+
+abbrev Inv-loop : tie.InvT-loop
+Inv-loop s i₀ i = all wordOctet (drop i s) ≡ all wordOctet s
+
+abbrev μ-loop : tie.MeasureT-loop
+μ-loop s i₀ i = length s - i
+
+loop-holds : tie.Need-loop-holds Inv-loop μ-loop
+loop-holds c = refl
+
+returns : tie.Need-returns Inv-loop μ-loop
+returns c = sym (all-stop wordOctet _ _ (c .before .before .before .loop-test .taken) (sym (c .before .is-word-octet .ensures) ∙ not-true _ (c .if1 .taken))) ∙ c .before .before .before .before .loop .inv
+
+loop-less : tie.Need-loop-less Inv-loop μ-loop
+loop-less c = omega arith
+
+loop-again : tie.Need-loop-again Inv-loop μ-loop
+loop-again c = sym (all-on wordOctet _ _ (c .before .before .before .loop-test .taken) (sym (c .before .is-word-octet .ensures) ∙ not-false _ (c .if1 .left))) ∙ c .before .before .before .before .loop .inv
+
+returns-2 : tie.Need-returns-2 Inv-loop μ-loop
+returns-2 c = sym (all-end wordOctet _ _ (c .loop-test .left)) ∙ c .before .loop .inv
+
+pub is-word-spec : {M : Type 1} → statement M
+is-word-spec =
+    tie.close
+    (tie.spec
+    Inv-loop
+    μ-loop
+    loop-holds
+    (λ c. search needs)
+    (λ c κs. search needs)
+    returns
+    (λ c. search needs)
+    loop-less
+    loop-again
+    returns-2)

@@ -1,0 +1,62 @@
+-- `icalrecur::rules::write_recur` meets its contract.
+use mathlib.Core.Path.{sym, _∙_}
+use borrow.Author.Tests.{not-true, not-false}
+use borrow.Author.Needs.{needs}
+use Rattle.content.proofs.Folding.{none, as-folded}
+use Rattle.icalrecur.proofs.Room.{no-first, no-second}
+use Rattle.icalrecur.proofs.Ruling.{no-text, no-parts, laid-within, shown-within, rule-text}
+use Rattle.icalrecur.proofs.rules.write_recur.Tie as tie
+use Rattle.icalrecur.proofs.rules.write_recur.Statement.{statement}
+
+returns : tie.Need-returns
+returns c = as-folded none (no-first _ _ _ _ (c .if1 .taken))
+
+returns-2 : tie.Need-returns-2
+returns-2 c = as-folded none (no-second _ _ _ _ (c .if2 .taken))
+
+returns-3 : tie.Need-returns-3
+returns-3 c = as-folded none (no-text _ _ (λ z. c .if3 .taken (c .before .tag .ensures ∙ z)) _ _)
+
+part-is-rule-end : tie.Need-part-is-rule-end
+part-is-rule-end c = laid-within (sym (c .before .before .before .before .before .before .before .tag .ensures) ∙ c .before .before .before .before .before .before .if3 .left) (c .before .before .before .before .before .after .ensures) (c .before .before .before .before .before .before .before .before .before .if1 .left) (c .before .before .before .put-members .ensures)
+
+returns-4 : tie.Need-returns-4
+returns-4 c = as-folded none (no-parts (sym (c .before .before .before .before .before .before .before .before .before .before .tag .ensures) ∙ c .before .before .before .before .before .before .before .before .before .if3 .left) (c .before .before .before .before .before .before .before .before .after .ensures) (c .before .before .before .before .before .before .before .before .before .before .before .before .if1 .left) (c .before .before .before .before .before .before .put-members .ensures) _ (sym (c .before .is-rule .ensures) ∙ not-true _ (c .if4 .taken)))
+
+part-put-rule-end : tie.Need-part-put-rule-end
+part-put-rule-end c = laid-within (sym (c .before .before .before .before .before .before .before .before .before .before .before .before .tag .ensures) ∙ c .before .before .before .before .before .before .before .before .before .before .before .if3 .left) (c .before .before .before .before .before .before .before .before .before .before .after .ensures) (c .before .before .before .before .before .before .before .before .before .before .before .before .before .before .if1 .left) (c .before .before .before .before .before .before .before .before .put-members .ensures)
+
+part-fold-all-end : tie.Need-part-fold-all-end
+part-fold-all-end c = shown-within (sym (c .before .before .before .before .before .before .before .before .before .before .before .before .before .before .before .before .before .before .tag .ensures) ∙ c .before .before .before .before .before .before .before .before .before .before .before .before .before .before .before .before .before .if3 .left) (c .before .before .before .before .before .before .before .before .before .before .before .before .before .before .before .before .after .ensures) (c .before .before .before .before .before .before .before .before .before .before .before .before .before .before .before .before .before .before .before .before .if1 .left) (c .before .before .before .before .before .before .before .before .before .before .before .before .before .before .put-members .ensures) (c .before .before .before .before .before .before .before .before .before .before .before .before .before .before .before .before .before .before .before .if2 .left) (sym (c .before .before .before .before .before .before .before .before .before .is-rule .ensures) ∙ not-false _ (c .before .before .before .before .before .before .before .before .if4 .left)) (c .before .before .before .before .put-rule .ensures)
+
+returns-5 : tie.Need-returns-5
+returns-5 c = as-folded (c .before .before .fold-all .ensures) (rule-text (sym (c .before .before .before .before .before .before .before .before .before .before .before .before .before .before .before .before .before .before .before .before .before .before .tag .ensures) ∙ c .before .before .before .before .before .before .before .before .before .before .before .before .before .before .before .before .before .before .before .before .before .if3 .left) (c .before .before .before .before .before .before .before .before .before .before .before .before .before .before .before .before .before .before .before .before .after .ensures) (c .before .before .before .before .before .before .before .before .before .before .before .before .before .before .before .before .before .before .before .before .before .before .before .before .if1 .left) (c .before .before .before .before .before .before .before .before .before .before .before .before .before .before .before .before .before .before .put-members .ensures) (c .before .before .before .before .before .before .before .before .before .before .before .before .before .before .before .before .before .before .before .before .before .before .before .if2 .left) (sym (c .before .before .before .before .before .before .before .before .before .before .before .before .before .is-rule .ensures) ∙ not-false _ (c .before .before .before .before .before .before .before .before .before .before .before .before .if4 .left)) (c .before .before .before .before .before .before .before .before .put-rule .ensures))
+
+pub write-recur-spec : {M : Type 1} → statement M
+write-recur-spec =
+    tie.close
+    (tie.spec
+    returns
+    returns-2
+    (λ c κs. search needs)
+    returns-3
+    (λ c κs. search needs)
+    (λ c κs. search needs)
+    (λ c. search needs)
+    (λ c. search needs)
+    part-is-rule-end
+    (λ c κs. search needs)
+    (λ c. search needs)
+    returns-4
+    (λ c. search needs)
+    (λ c. search needs)
+    part-put-rule-end
+    (λ c κs. search needs)
+    (λ c. search needs)
+    (λ c. search needs)
+    part-fold-all-end
+    (λ c κs. search needs)
+    (λ c. search needs)
+    (λ c. search needs)
+    (λ c. search needs)
+    returns-5)

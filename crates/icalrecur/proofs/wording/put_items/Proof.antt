@@ -1,0 +1,57 @@
+-- `icalrecur::wording::put_items` meets its contract.
+use Prim.Native.Nat.{_-_}
+use mathlib.Core.Path.{_≡_, refl, sym, _∙_}
+use native.Mathlib.Omega.{arith}
+use borrow.Author.Needs.{needs}
+use lib.ListN.{length}
+use Rattle.octets.proofs.Pen.{as-text, nothing, Leads, leads-start, leads-on, leads-last}
+use Rattle.octets.specs.Pen.{pen}
+use Rattle.calendar.specs.Walk.{sortSaid}
+use Rattle.json.specs.Tape.{tagEnd}
+use Rattle.tape.specs.Decode.{tagAt, itemsAt}
+use Rattle.icalrecur.specs.Wording.{itemsText}
+use Rattle.icalrecur.proofs.Parting.{items-none, items-last, items-more}
+use Rattle.icalrecur.proofs.wording.put_items.Tie as tie
+use Rattle.icalrecur.proofs.wording.put_items.Statement.{statement}
+
+abbrev Inv-loop : tie.InvT-loop
+Inv-loop out₀ at t i sort to₀ from₀ out to from = ((tagAt t from ≡ tagEnd) → ⊥) × (length out ≡ length out₀) × Leads (pen out₀ at) (itemsText (sortSaid sort) (itemsAt t i)) (pen out to) (itemsText (sortSaid sort) (itemsAt t from))
+
+abbrev μ-loop : tie.MeasureT-loop
+μ-loop out₀ at t i sort to₀ from₀ out to from = length t - from
+
+returns : tie.Need-returns Inv-loop μ-loop
+returns c = as-text nothing (items-none _ _ _ (sym (c .before .tag .ensures) ∙ c .if1 .taken))
+
+loop-holds : tie.Need-loop-holds Inv-loop μ-loop
+loop-holds c = (λ e. c .if1 .left (c .before .tag .ensures ∙ e), refl, leads-start)
+
+same-length : tie.Need-same-length Inv-loop μ-loop
+same-length c = omega (arith, c .before .before .before .before .before .before .before .loop .inv .1)
+
+returns-2 : tie.Need-returns-2 Inv-loop μ-loop
+returns-2 c = leads-last (c .before .before .before .before .before .before .before .loop .inv .2) (c .before .before .before .before .before .put-item .ensures) (items-last _ _ _ (c .before .before .behind .ensures) (c .before .before .before .before .before .before .before .loop .inv .0) (sym (c .before .tag2 .ensures) ∙ c .if2 .taken))
+
+loop-less : tie.Need-loop-less Inv-loop μ-loop
+loop-less c = omega (arith, c .before .before .before .before .before .before .behind .ensures .more (c .before .before .before .before .before .before .before .before .before .before .before .loop .inv .0), c .before .before .before .before .before .before .behind .ensures .high)
+
+loop-again : tie.Need-loop-again Inv-loop μ-loop
+loop-again c = (λ e. c .before .before .before .before .if2 .left (c .before .before .before .before .before .tag2 .ensures ∙ e), omega (arith, c .before .before .before .before .before .before .before .before .before .before .before .loop .inv .1), leads-on (leads-on (c .before .before .before .before .before .before .before .before .before .before .before .loop .inv .2) (c .before .before .before .before .before .before .before .before .before .put-item .ensures) (items-more _ _ _ (c .before .before .before .before .before .before .behind .ensures) (c .before .before .before .before .before .before .before .before .before .before .before .loop .inv .0) (λ e. c .before .before .before .before .if2 .left (c .before .before .before .before .before .tag2 .ensures ∙ e)))) (c .before .before .put .ensures) refl)
+
+pub put-items-spec : {M : Type 1} → statement M
+put-items-spec =
+    tie.close
+    (tie.spec
+    Inv-loop
+    μ-loop
+    (λ c κs. search needs)
+    returns
+    loop-holds
+    (λ c κs. search needs)
+    (λ c κs. search needs)
+    (λ c κs. search needs)
+    same-length
+    returns-2
+    (λ c κs. search needs)
+    loop-less
+    loop-again)
