@@ -1,0 +1,89 @@
+-- `properties::params::may_return` meets its contract.
+use Prim.Native.Nat.{_-_}
+use mathlib.Core.Path.{_≡_, refl, sym, ap, _∙_}
+use native.Mathlib.Omega.{arith}
+use borrow.Author.Tests.{not-true, not-false}
+use lib.ListN.{length}
+use Rattle.octets.specs.Basics.{all}
+use Rattle.tape.specs.Decode.{membersAt}
+use Rattle.content.specs.Parameters.{mayReturn}
+use Rattle.converter.specs.Skeleton.{paramsFrom}
+use Rattle.properties.proofs.ParamWalk.{params-end, params-first, params-next, return-none, return-value, return-off, return-on}
+use borrow.Author.Needs.{needs}
+use Rattle.properties.proofs.params.may_return.Statement.{statement}
+use Rattle.properties.proofs.params.may_return.Tie as tie
+
+abbrev Inv-loop : tie.InvT-loop
+Inv-loop t at i₀ key i = all mayReturn (paramsFrom (membersAt t i)) ≡ all mayReturn (paramsFrom (membersAt t at))
+
+abbrev μ-loop : tie.MeasureT-loop
+μ-loop t at i₀ key i = length t - i
+
+loop-holds : tie.Need-loop-holds Inv-loop μ-loop
+loop-holds c = refl
+
+tag-requires : tie.Need-tag-requires Inv-loop μ-loop
+tag-requires c κs = search needs
+
+returns : tie.Need-returns Inv-loop μ-loop
+returns c = sym (ap (all mayReturn) (params-end _ _ (sym (c .before .tag .ensures) ∙ c .if1 .taken)) ∙ return-none) ∙ c .before .before .loop .inv
+
+text-at-requires : tie.Need-text-at-requires Inv-loop μ-loop
+text-at-requires c κs = search needs
+
+sub-same : tie.Need-sub-same Inv-loop μ-loop
+sub-same c = search needs
+
+part-same-start : tie.Need-part-same-start Inv-loop μ-loop
+part-same-start c = search needs
+
+part-same-end : tie.Need-part-same-end Inv-loop μ-loop
+part-same-end c = search needs
+
+slice-aggregate-same : tie.Need-slice-aggregate-same Inv-loop μ-loop
+slice-aggregate-same c = search needs
+
+same-requires : tie.Need-same-requires Inv-loop μ-loop
+same-requires c κs = search needs
+
+returns-2 : tie.Need-returns-2 Inv-loop μ-loop
+returns-2 c = sym (ap (all mayReturn) (params-first _ _ (λ e. c .before .before .before .before .before .if1 .left (c .before .before .before .before .before .before .tag .ensures ∙ e)) (c .before .before .before .before .text-at .ensures)) ∙ return-value _ _ _ (sym (c .before .same .ensures) ∙ c .if2 .taken)) ∙ c .before .before .before .before .before .before .before .loop .inv
+
+are-texts-requires : tie.Need-are-texts-requires Inv-loop μ-loop
+are-texts-requires c κs = search needs
+
+returns-3 : tie.Need-returns-3 Inv-loop μ-loop
+returns-3 c = sym (ap (all mayReturn) (params-first _ _ (λ e. c .before .before .before .before .before .before .before .if1 .left (c .before .before .before .before .before .before .before .before .tag .ensures ∙ e)) (c .before .before .before .before .before .before .text-at .ensures)) ∙ return-off _ _ _ (sym (c .before .before .before .same .ensures) ∙ c .before .before .if2 .left) (sym (c .before .are-texts .ensures) ∙ not-true _ (c .if3 .taken))) ∙ c .before .before .before .before .before .before .before .before .before .loop .inv
+
+behind-requires : tie.Need-behind-requires Inv-loop μ-loop
+behind-requires c κs = search needs
+
+loop-less : tie.Need-loop-less Inv-loop μ-loop
+loop-less c =
+    let k = c .before .before .before .before .before .before .before .text-at .ensures .behind in
+    omega (arith, k .more (λ e. c .before .before .before .before .before .before .before .before .if1 .left (c .before .before .before .before .before .before .before .before .before .tag .ensures ∙ e)), c .behind .ensures .low (k .high), c .behind .ensures .high)
+
+loop-again : tie.Need-loop-again Inv-loop μ-loop
+loop-again c = sym (ap (all mayReturn) (params-next _ _ (λ e. c .before .before .before .before .before .before .before .before .if1 .left (c .before .before .before .before .before .before .before .before .before .tag .ensures ∙ e)) (c .before .before .before .before .before .before .before .text-at .ensures) (c .behind .ensures)) ∙ return-on _ _ _ (sym (c .before .before .before .before .same .ensures) ∙ c .before .before .before .if2 .left) (sym (c .before .before .are-texts .ensures) ∙ not-false _ (c .before .if3 .left))) ∙ c .before .before .before .before .before .before .before .before .before .before .loop .inv
+
+pub may-return-spec : {M : Type 1} → statement M
+may-return-spec =
+    tie.close
+    (tie.spec
+    Inv-loop
+    μ-loop
+    loop-holds
+    tag-requires
+    returns
+    text-at-requires
+    sub-same
+    part-same-start
+    part-same-end
+    slice-aggregate-same
+    same-requires
+    returns-2
+    are-texts-requires
+    returns-3
+    behind-requires
+    loop-less
+    loop-again)

@@ -1,0 +1,84 @@
+-- `properties::writing::write_params` meets its contract.
+use Prim.Native.Nat.{_-_}
+use mathlib.Core.Path.{_≡_, refl, sym, ap, _∙_}
+use native.Mathlib.Omega.{arith}
+use lib.ListN.{length}
+use mathlib.Core.List.{append-assoc}
+use Rattle.tape.specs.Decode.{membersAt}
+use Rattle.content.specs.Folding.{folding}
+use Rattle.content.specs.Write.{paramsText}
+use Rattle.content.proofs.Folding.{Leads, leads-start, leads-on, leads-end}
+use Rattle.converter.specs.Skeleton.{paramsFrom}
+use Rattle.properties.proofs.ParamWalk.{params-end, params-next, params-none, params-more}
+use borrow.Author.Needs.{needs}
+use Rattle.properties.proofs.writing.write_params.Statement.{statement}
+use Rattle.properties.proofs.writing.write_params.Tie as tie
+
+abbrev Inv-loop : tie.InvT-loop
+Inv-loop out₀ t at q₀ i₀ out q i = (length out ≡ length out₀) × Leads (folding out₀ q₀) (paramsText (paramsFrom (membersAt t at))) (folding out q) (paramsText (paramsFrom (membersAt t i)))
+
+abbrev μ-loop : tie.MeasureT-loop
+μ-loop out₀ t at q₀ i₀ out q i = length t - i
+
+loop-holds : tie.Need-loop-holds Inv-loop μ-loop
+loop-holds c = (refl, leads-start)
+
+tag-requires : tie.Need-tag-requires Inv-loop μ-loop
+tag-requires c κs = search needs
+
+same-length : tie.Need-same-length Inv-loop μ-loop
+same-length c = search needs
+
+returns : tie.Need-returns Inv-loop μ-loop
+returns c = leads-end (c .before .before .loop .inv .1) (ap paramsText (params-end _ _ (sym (c .before .tag .ensures) ∙ c .if1 .taken)) ∙ params-none)
+
+text-at-requires : tie.Need-text-at-requires Inv-loop μ-loop
+text-at-requires c κs = search needs
+
+sub-begin-param : tie.Need-sub-begin-param Inv-loop μ-loop
+sub-begin-param c = search needs
+
+part-begin-param-start : tie.Need-part-begin-param-start Inv-loop μ-loop
+part-begin-param-start c = search needs
+
+part-begin-param-end : tie.Need-part-begin-param-end Inv-loop μ-loop
+part-begin-param-end c = search needs
+
+begin-param-requires : tie.Need-begin-param-requires Inv-loop μ-loop
+begin-param-requires c κs = search needs
+
+write-param-values-requires : tie.Need-write-param-values-requires Inv-loop μ-loop
+write-param-values-requires c κs = search needs
+
+behind-requires : tie.Need-behind-requires Inv-loop μ-loop
+behind-requires c κs = search needs
+
+loop-less : tie.Need-loop-less Inv-loop μ-loop
+loop-less c =
+    let k = c .before .before .before .before .before .before .before .before .before .before .text-at .ensures .behind in
+    omega (arith, k .more (λ e. c .before .before .before .before .before .before .before .before .before .before .before .if1 .left (c .before .before .before .before .before .before .before .before .before .before .before .before .tag .ensures ∙ e)), c .behind .ensures .low (k .high), c .behind .ensures .high)
+
+loop-again : tie.Need-loop-again Inv-loop μ-loop
+loop-again c =
+    let e = ap paramsText (params-next _ _ (λ e. c .before .before .before .before .before .before .before .before .before .before .before .if1 .left (c .before .before .before .before .before .before .before .before .before .before .before .before .tag .ensures ∙ e)) (c .before .before .before .before .before .before .before .before .before .before .text-at .ensures) (c .behind .ensures)) ∙ params-more _ _ _ in
+    (omega arith, leads-on (leads-on (c .before .before .before .before .before .before .before .before .before .before .before .before .before .loop .inv .1) (c .before .before .before .before .before .before .before .begin-param .ensures) e) (c .before .before .before .write-param-values .ensures) refl)
+
+pub write-params-spec : {M : Type 1} → statement M
+write-params-spec =
+    tie.close
+    (tie.spec
+    Inv-loop
+    μ-loop
+    loop-holds
+    tag-requires
+    same-length
+    returns
+    text-at-requires
+    sub-begin-param
+    part-begin-param-start
+    part-begin-param-end
+    begin-param-requires
+    write-param-values-requires
+    behind-requires
+    loop-less
+    loop-again)

@@ -1,0 +1,3 @@
+pub mod Standing
+pub mod Ruled
+pub mod ParamValues
