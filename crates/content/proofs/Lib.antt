@@ -23,3 +23,4 @@ pub mod Tested
 pub mod HeadPieces
 pub mod FormParts
 pub mod LineParts
+pub mod WrittenPlain
