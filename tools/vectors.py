@@ -154,8 +154,8 @@ def definitions_of(line):
 def strip(path):
     """Leaves the types of a source file, which definitions cite, and takes its functions away."""
     text = open(path, encoding="utf-8").read()
-    kept = re.findall(r"(?ms)^(?:pub )?(?:struct|enum) \w+ \{.*?^\}$|^(?:pub )?mod \w+;$|^use [^;]*;$|^pub use [^;]*;$", text)
-    kept = [k for k in kept if not (k.startswith(("use ", "pub use ")) and not re.search(r"::\{?[A-Z, ]|::\{?\w*[A-Z]", k))]
+    kept = re.findall(r"(?ms)^(?:pub(?:\(crate\))? )?(?:struct|enum) \w+ \{.*?^\}$|^(?:pub )?mod \w+;$|^use [^;]*;$|^pub use [^;]*;$", text)
+    kept = [k for k in kept if not k.startswith(("use ", "pub use ")) or re.search(r"::[A-Z]\w*[a-z]\w*;$", k)]
     open(path, "w", encoding="utf-8").write("// Types.\n" + "\n".join(kept) + "\n")
 
 

@@ -6,9 +6,9 @@ use mathlib.Core.Bool.{Bool, true, false}
 use mathlib.Core.List.{List, [], _∷_, _++_, map}
 use borrow.Author.Tests.{eqb-true}
 use lib.Dec.{eqb}
-use Rattle.octets.specs.Basics.{octets, pick, _and_, all, filled}
+use Rattle.octets.specs.Basics.{octets, pick, all, filled}
 use Rattle.octets.specs.Pieces.{onto, cut, joined}
-use Rattle.octets.specs.Classes.{isControl, isName, plainOctet, textOctet, lower}
+use Rattle.octets.specs.Classes.{isControl, isName, plainOctet, textOctet}
 use Rattle.octets.specs.Utf8.{utf8, clean}
 use Rattle.octets.proofs.Cases.{cases, never, both, and-true, or-first, apart-not, All, all-All}
 use Rattle.octets.proofs.Classes.{name-lower}
@@ -16,7 +16,7 @@ use Rattle.octets.proofs.Utf8.{ascii, clean-cut}
 use Rattle.octets.proofs.Transducer.{Runs, Keeps, run-all, run-utf8}
 use Rattle.content.specs.Carets.{decodedOctet, caretAfter, decodedFrom, decoded}
 use Rattle.content.specs.Form.{formed}
-use Rattle.content.specs.Line.{Param, Line, quoteAfter, bare, before, behind, pieces, front, unquote, paramValue, paramOf, headed, lineOf}
+use Rattle.content.specs.Line.{Line, quoteAfter, bare, before, behind, pieces, front, unquote, paramValue, paramOf, headed, lineOf}
 use Rattle.content.specs.Parts.{others}
 use Rattle.content.proofs.Separators.{pieces-first, pieces-filled}
 use Rattle.content.proofs.Written.{Writable}

@@ -7,13 +7,13 @@ use mathlib.Core.Logic.{_⊎_, inl, inr}
 use mathlib.Core.List.{List, [], _∷_}
 use mathlib.Core.Option.{Option, none, some}
 use native.Mathlib.Omega.{arith}
-use borrow.Author.Tests.{eq-eqb, eqb-true}
+use borrow.Author.Tests.{eqb-true}
 use lib.Dec.{eqb}
-use Rattle.octets.specs.Basics.{octets, pick, _or_, all, filled, single, same}
+use Rattle.octets.specs.Basics.{octets, _or_, all, filled, single, same}
 use Rattle.octets.specs.Optional.{given}
 use Rattle.octets.specs.Classes.{between, isDigit, isLower, lowerNameOctet, isLowerName}
 use Rattle.octets.specs.Utf8.{clean}
-use Rattle.octets.specs.Answers.{Answer, accepted, unless}
+use Rattle.octets.specs.Answers.{accepted, unless}
 use Rattle.octets.proofs.Cases.{cases, All}
 use Rattle.octets.proofs.Answers.{accepted-same}
 use Rattle.types.specs.Codes.{typeName, codeNamed}
@@ -22,7 +22,7 @@ use Rattle.types.proofs.Types.{code-of-name, name-of-code, not-unknown, name-lo
 use Rattle.json.specs.Tree.{Json, str, string?, number?, octetsOf}
 use Rattle.content.specs.Line.{Param}
 use Rattle.content.specs.Parameters.{isEncoded, mayReturn}
-use Rattle.values.specs.Sorts.{Sort, plain, sortOf}
+use Rattle.values.specs.Sorts.{plain, sortOf}
 use Rattle.values.specs.Read.{valuesOf}
 use Rattle.values.specs.Write.{valuesAre, valuesText}
 use Rattle.values.proofs.Neat.{Neat}
@@ -30,7 +30,8 @@ use Rattle.values.proofs.ValueLaws.{values-are, Valued, values-of, unprocessed-
 use Rattle.converter.specs.Tree.{Property, property}
 use Rattle.converter.specs.Property.{typeOf, codeOf, manyOf, encodingFits, readAs}
 use Rattle.converter.specs.Return.{isUnknown, statedType, writtenSort, firstOctets, takenBy, checked, isDefault, shown}
-use Rattle.converter.proofs.PropertyRead.{Read, read-is, as-read, read-alike, stated-code, stated-type, stated-unlisted, unknown-read}
+use Rattle.converter.proofs.PropertyReading.{read-as, as-read, read-alike, stated-code, stated-type}
+use Rattle.converter.proofs.Older.{stated-older, unprocessed-older}
 use Rattle.converter.proofs.Stating.{Stated, StatedIf}
 
 -- the newer's row, or none
@@ -58,9 +59,9 @@ pub data Way (rn : Option Row) (n : List ℕ) (ps : List Param) (raw : List ℕ)
 pub way : (rn ra : Option Row) → Below rn ra → Typed rn → (n : List ℕ) (v : Option (List ℕ)) (ps : List Param) (raw : List ℕ) (q p : Property) → StatedIf v → clean raw ≡ true
     → readAs ra n v ps raw ≡ accepted q → readAs rn n v ps raw ≡ accepted p → Way rn n ps raw q p
 way rn ra (inl a) w n (some t) ps raw q p s h e f = known t s f (accepted-same (sym (rw a at e) ∙ f))
-way rn ra (inr a) w n (some t) ps raw q p s h e f = known t s f (accepted-same (sym (rw a at e) ∙ stated-unlisted rn n t ps raw p f))
-way rn ra (inr a) w n none ps raw q p s h e f = unknown f (accepted-same (sym (rw a at e) ∙ unknown-read n ps raw h))
-way none ra (inl a) w n none ps raw q p s h e f = unknown f (accepted-same (sym (rw a at e) ∙ unknown-read n ps raw h))
+way rn ra (inr a) w n (some t) ps raw q p s h e f = known t s f (accepted-same (sym (rw a at e) ∙ stated-older rn n t ps raw p f))
+way rn ra (inr a) w n none ps raw q p s h e f = unknown f (accepted-same (sym (rw a at e) ∙ unprocessed-older n ps raw h))
+way none ra (inl a) w n none ps raw q p s h e f = unknown f (accepted-same (sym (rw a at e) ∙ unprocessed-older n ps raw h))
 way (some r) ra (inl a) w n none ps raw q p s h e f =
     known (typeName (r .code)) (type-stated r w) (sym (default-alike r w (typeName (r .code)) (sym (code-of-name (r .code) (w .1))) n ps raw) ∙ f) (accepted-same (sym (rw a at e) ∙ f))
 
@@ -111,23 +112,20 @@ module _ (n : List ℕ) (ps : List Param) (raw : List ℕ) (fine : clean raw ≡
       known-passes = rw (may, s .known, stated-code rb t, fits, sort-is, values-are (sortOf n (codeNamed t)) raw vs (v .held) (manyOf rb) (number rb b))
 
       known-passage : Passage rn rb n ps (property n ps t vs) (property n ps t vs)
-      known-passage = record {
-        name = refl;
-        params = refl;
-        typed = s .named;
-        neat = v .held .neat fine;
-        valued = v .held .one-or-more;
-        passed = property n ps t vs;
-        passes = known-passes;
-        stated = shown-stated rb;
-        line = rw sort-is (v .held .line fine);
-        again = rw sort-is (shown-alike rn rb b w (valuesText (sortOf n (codeNamed t)) vs) ∙ as-read rn n (some t) ps (valuesText (sortOf n (codeNamed t)) vs) (property n ps t vs) (record {
-          values = vs;
-          fits = rw (stated-code rn t) fits;
-          told = rw (stated-code rn t) (v .again);
-          whole = rw (stated-type rn t);
-        }));
-      }
+      known-passage =
+          let x = valuesText (sortOf n (codeNamed t)) vs in
+          record {
+            name = refl;
+            params = refl;
+            typed = s .named;
+            neat = v .held .neat fine;
+            valued = v .held .one-or-more;
+            passed = property n ps t vs;
+            passes = known-passes;
+            stated = shown-stated rb;
+            line = rw sort-is (v .held .line fine);
+            again = rw sort-is (shown-alike rn rb b w x ∙ as-read rn n (some t) ps x vs (rw (stated-code rn t) fits) (rw (stated-code rn t) (v .again)) ∙ rw (stated-type rn t));
+          }
 
   -- "unknown": the value goes as it is, and a row that lists the name takes it as the newer did
   held : Property
@@ -146,7 +144,7 @@ module _ (n : List ℕ) (ps : List Param) (raw : List ℕ) (fine : clean raw ≡
 
   listed-passes : (r : Row) (p : Property) → readAs (some r) n none ps raw ≡ accepted p → checked (some r) held ≡ accepted p
   unfolding held checked unless statedType isUnknown same writtenSort takenBy firstOctets octetsOf string? number? given
-  listed-passes r p e = rw (may, read-is (some r) n none ps raw p e .fits, plain-are (manyOf (some r))) e
+  listed-passes r p e = rw (may, read-as (some r) n none ps raw p e .fits, plain-are (manyOf (some r))) e
 
   unknown-passes : (rn rb : Option Row) → Below rn rb → (p : Property) → readAs rn n none ps raw ≡ accepted p → (o : Property) × (checked rb held ≡ accepted o)
   unknown-passes rn rb (inr b) p e = (held, rw b unlisted-passes)
@@ -174,9 +172,9 @@ module _ (n : List ℕ) (ps : List Param) (raw : List ℕ) (fine : clean raw ≡
   -- THE LAW
   pub passage : (rn rb : Option Row) → Below rn rb → Typed rn → (q p : Property) → Way rn n ps raw q p → Passage rn rb n ps q p
   passage rn rb b w q p (known t s e k) =
-      let r = read-is rn n (some t) ps raw p e in
+      let r = read-as rn n (some t) ps raw p e in
       let f : encodingFits (codeNamed t) (isEncoded ps) ≡ true = rw (stated-code rn t) at (r .fits) in
-      let v : valuesOf n (codeNamed t) (manyOf rn) raw ≡ some (r .values) = rw (stated-code rn t) at (r .told) in
-      let o : property n ps t (r .values) ≡ p = rw (stated-type rn t) at (r .whole) in
-      rw (k, ← o) (known-passage t s rn rb b w (r .values) f v)
+      let v : valuesOf n (codeNamed t) (manyOf rn) raw ≡ some (r .held) = rw (stated-code rn t) at (r .values) in
+      let o : property n ps t (r .held) ≡ p = rw (stated-type rn t) at (r .whole) in
+      rw (k, ← o) (known-passage t s rn rb b w (r .held) f v)
   passage rn rb b w q p (unknown e k) = rw k (unfold held in unknown-passage rn rb b p e)

@@ -1,6 +1,3 @@
-pub mod PropertyRead
-pub mod Stating
-pub mod ByRow
 pub mod Carried
 pub mod Shapes
 pub mod Events
@@ -12,4 +9,8 @@ pub mod PropertyReading
 pub mod Older
 pub mod Held
 pub mod Routes
+pub mod Stating
+pub mod ByRow
+pub mod PropertyTold
+pub mod Carrying
 pub mod Demand3

@@ -4,13 +4,13 @@ use mathlib.Core.Path.{_≡_, refl, ap, _∙_}
 use mathlib.Core.Bool.{Bool, true}
 use mathlib.Core.List.{List, [], _∷_}
 use mathlib.Core.Option.{Option, none, some}
-use Rattle.octets.specs.Basics.{octets, _or_, all, single}
-use Rattle.octets.specs.Optional.{map?, when, guard}
-use Rattle.octets.specs.Classes.{plainOctet, lower}
-use Rattle.octets.specs.Utf8.{utf8, clean}
+use Rattle.octets.specs.Basics.{octets, _or_, single}
+use Rattle.octets.specs.Optional.{when, guard}
+use Rattle.octets.specs.Classes.{lower}
+use Rattle.octets.specs.Utf8.{clean}
 use Rattle.octets.specs.Answers.{accepted, then}
-use Rattle.octets.proofs.Cases.{both}
 use Rattle.octets.proofs.Optional.{guard-is}
+use Rattle.types.specs.Codes.{codeNamed}
 use Rattle.types.specs.Table.{Row, Table, find}
 use Rattle.types.specs.Rows.{Keeps}
 use Rattle.types.proofs.Tables.{Well-formed, kept-found}
@@ -18,12 +18,13 @@ use Rattle.json.specs.Tree.{Json, str}
 use Rattle.content.specs.Line.{Param, Line}
 use Rattle.content.specs.Parameters.{withoutValue, isEncoded}
 use Rattle.values.specs.Sorts.{sortOf}
-use Rattle.values.specs.Read.{readPlain, alone, readValues, valuesOf}
+use Rattle.values.specs.Read.{readValues, valuesOf}
+use Rattle.values.proofs.ValueLaws.{unprocessed-read}
 use Rattle.converter.specs.Tree.{Property, property}
 use Rattle.converter.specs.Property.{typeOf, codeOf, manyOf, encodingFits, readAs, readProperty}
 use Rattle.converter.specs.Claim.{olderHas, readAsOlder}
 use Rattle.converter.proofs.Carried.{LineFine}
-use Rattle.converter.proofs.PropertyReading.{read-as, as-read, read-line, line-read}
+use Rattle.converter.proofs.PropertyReading.{read-as, as-read, stated-code, stated-type, read-line, line-read}
 
 -- where a name may have many, it may have what it had
 many-more : (name : List ℕ) (c : ℕ) (many : Bool) (raw : List ℕ) (vs : List Json) → valuesOf name c many raw ≡ some vs → valuesOf name c true raw ≡ some vs
@@ -33,33 +34,19 @@ many-more name c many raw vs e = rw (guard-is (λ vs. many or single vs) (readVa
 -- by no row: VALUE decides
 pub stated-older : (row : Option Row) (name t : List ℕ) (params : List Param) (raw : List ℕ) (p : Property)
     → readAs row name (some t) params raw ≡ accepted p → readAs none name (some t) params raw ≡ accepted p
+unfolding manyOf
 stated-older row name t params raw p e =
     let r = read-as row name (some t) params raw p e in
-    as-read none name (some t) params raw (r .held) (coded row (r .fits)) (valued row (r .values)) ∙ ap accepted (typed row (r .held) ∙ r .whole)
-  where
-    coded : (row : Option Row) → encodingFits (codeOf row (some t)) (isEncoded params) ≡ true → encodingFits (codeOf none (some t)) (isEncoded params) ≡ true
-    coded none h = h
-    coded (some r) h = unfold codeOf in h
-
-    valued : {vs : List Json} (row : Option Row) → valuesOf name (codeOf row (some t)) (manyOf row) raw ≡ some vs → valuesOf name (codeOf none (some t)) (manyOf none) raw ≡ some vs
-    valued none h = h
-    valued {vs} (some r) h = unfold codeOf manyOf in many-more name _ (r .many) raw vs h
-
-    typed : (row : Option Row) (vs : List Json) → property name params (typeOf none (some t)) vs ≡ property name params (typeOf row (some t)) vs
-    typed none vs = refl
-    typed (some r) vs = unfold typeOf in refl
+    let f : encodingFits (codeNamed t) (isEncoded params) ≡ true = rw (stated-code row t) at (r .fits) in
+    let v : valuesOf name (codeNamed t) (manyOf row) raw ≡ some (r .held) = rw (stated-code row t) at (r .values) in
+    as-read none name (some t) params raw (r .held) (rw (stated-code none t) f) (rw (stated-code none t) (many-more name (codeNamed t) (manyOf row) raw (r .held) v))
+    ∙ ap accepted (rw (stated-type none t) (rw (stated-type row t) at (r .whole)))
 
 -- by no row and without VALUE: the value passes unprocessed
 pub unprocessed-older : (name : List ℕ) (params : List Param) (raw : List ℕ) → clean raw ≡ true
     → readAs none name none params raw ≡ accepted (property name params (octets "unknown") (str raw ∷ []))
-unprocessed-older name params raw h =
-    as-read none name none params raw (str raw ∷ []) (unfold encodingFits codeOf in refl) unprocessed ∙ (unfold typeOf in refl)
-  where
-    plain : all plainOctet raw ≡ true
-    plain = both (utf8 raw) (all plainOctet raw) (unfold clean in h) .1
-
-    unprocessed : valuesOf name (codeOf none none) (manyOf none) raw ≡ some (str raw ∷ [])
-    unprocessed = unfold valuesOf codeOf manyOf sortOf readValues alone readPlain guard when map? in rw plain
+unfolding typeOf codeOf manyOf encodingFits valuesOf sortOf guard when
+unprocessed-older name params raw h = as-read none name none params raw (str raw ∷ []) refl (rw (unprocessed-read raw h))
 
 -- by its name's rows
 pub older-as : (old new : Option Row) → ((r : Row) → old ≡ some r → new ≡ some r) → (name : List ℕ) (type : Option (List ℕ)) (params : List Param) (raw : List ℕ) (p : Property)

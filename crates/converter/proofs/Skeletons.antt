@@ -1,6 +1,6 @@
 -- The jCal of a component: it is printed and parsed, it has the skeleton, and what it holds is the component.
 use Prim.Native.Nat.{ℕ, zero, suc, _+_, _≤_}
-use mathlib.Core.Path.{_≡_, refl, sym, ap, _∙_}
+use mathlib.Core.Path.{_≡_, refl}
 use mathlib.Core.Bool.{true}
 use mathlib.Core.List.{List, [], _∷_, map}
 use native.Mathlib.Omega.{arith}
@@ -13,26 +13,21 @@ use Rattle.octets.specs.Utf8.{utf8}
 use Rattle.octets.specs.Answers.{accepted, unless}
 use Rattle.octets.proofs.Cases.{All, and-true}
 use Rattle.octets.proofs.Limits.{most-levels, most-open}
-use Rattle.octets.proofs.Utf8.{clean-upper}
-use Rattle.json.specs.Tree.{Json, str, itemsOf, listOf, string?, number?, array?, octetsOf, elements, element}
+use Rattle.json.specs.Tree.{str, listOf, string?, number?, array?, octetsOf, elements, element}
 use Rattle.json.specs.Reads.{ok}
 use Rattle.json.specs.Reader.{parseText}
 use Rattle.json.specs.Print.{print}
 use Rattle.json.proofs.Printing.{parse-print}
 use Rattle.content.proofs.Names.{lower-name}
-use Rattle.content.proofs.WrittenClean.{name-clean}
-use Rattle.values.proofs.Neat.{Neat, n-str, n-arr, NeatItems, n-none, n-item, clean-textual, neat-more, neat-items, neat-printable, neat-depth, neat-sound, neat-utf8}
+use Rattle.values.proofs.Neat.{Neat, n-str, n-arr, NeatItems, n-none, n-item, neat-more, neat-items, neat-printable, neat-depth, neat-sound, neat-utf8}
+use Rattle.values.proofs.TextLaws.{list-items}
 use Rattle.converter.specs.Tree.{Property, Component, component, Forest, forestOf, levels, levelsIn}
 use Rattle.converter.specs.Jcal.{propertyJson, jcalOf, jcalsOf}
 use Rattle.converter.specs.Skeleton.{isListOf, isProperty, isComponent, isCalendar, propertyFrom, componentFrom, calendarOf}
 use Rattle.converter.proofs.Carried.{Told}
+use Rattle.converter.proofs.Stating.{name-textual}
 use Rattle.converter.proofs.Shapes.{Made, made, MadeIn, nothing-more, made-more}
 use Rattle.converter.proofs.Events.{IsTop}
-
-list-items : (js : List Json) → listOf (itemsOf js) ≡ js
-unfolding listOf itemsOf
-list-items [] = refl
-list-items (j ∷ js) = ap (λ (l : List Json). j ∷ l) (list-items js)
 
 -- properties
 neat-properties : (d : ℕ) (ps : List Property) → All Told ps → 3 ≤ d → All (Neat d) (map propertyJson ps)
@@ -50,7 +45,7 @@ properties-back (p ∷ ps) h = rw (h .0 .from, properties-back ps (h .1))
 
 -- a name is a neat string
 name-neat : (d : ℕ) (n : List ℕ) → isLowerName n ≡ true → Neat d (str n)
-name-neat d n h = n-str (clean-textual n (sym (clean-upper n) ∙ name-clean n (lower-name n h)))
+name-neat d n h = n-str (name-textual n (lower-name n h))
 
 -- each level of components opens two arrays, and a property three at most
 mutual

@@ -1,17 +1,16 @@
 -- VALUE among parameters: what it states, parameters without it, and the parameters of a line that states a type again.
 use Prim.Native.Nat.{ℕ}
-use mathlib.Core.Path.{_≡_, refl, sym, ap, _∙_}
-use mathlib.Core.Bool.{Bool, true, false, not}
+use mathlib.Core.Path.{_≡_, refl, sym, _∙_}
+use mathlib.Core.Bool.{true, false, not}
 use mathlib.Core.List.{List, [], _∷_, map}
 use mathlib.Core.Option.{Option, none, some}
 use borrow.Author.Tests.{not-true}
-use lib.Dec.{eqb}
-use Rattle.octets.specs.Basics.{octets, pick, _and_, _or_, all, any, filled, same, among, twice}
-use Rattle.octets.specs.Classes.{between, isDigit, isLower, lowerNameOctet, isName, isLowerName, textOctet, upper, lower}
-use Rattle.octets.specs.Utf8.{utf8, clean}
-use Rattle.octets.specs.Answers.{Answer, refused, accepted}
-use Rattle.octets.proofs.Cases.{cases, never, both, neither, and-true, or-false, All, All-weaker}
+use Rattle.octets.specs.Basics.{octets, _and_, all, any, filled, same, among, twice}
+use Rattle.octets.specs.Classes.{between, isDigit, isLower, lowerNameOctet, isName, isLowerName, upper, lower}
+use Rattle.octets.specs.Answers.{accepted}
+use Rattle.octets.proofs.Cases.{cases, never, both, neither, and-true, or-false, All}
 use Rattle.octets.proofs.Classes.{same-is, same-itself, name-lower, lower-name, name-upper}
+use Rattle.octets.proofs.Utf8.{clean-upper}
 use Rattle.octets.proofs.Optional.{missing, some-same}
 use Rattle.octets.proofs.Answers.{not-accepted, accepted-same}
 use Rattle.content.specs.Line.{Param}
@@ -123,15 +122,15 @@ with-writable none ps h = h
 with-writable (some t) ps h = (record { named = unfold isLowerName filled all lowerNameOctet isLower isDigit between in refl; valued = unfold filled in refl }, h)
 
 -- a name is a text
-pub name-textual : (n : List ℕ) → isName n ≡ true → Textual (upper n)
-name-textual n h = clean-textual (upper n) (name-clean n h)
+pub name-textual : (n : List ℕ) → isName n ≡ true → Textual n
+name-textual n h = clean-textual n (sym (clean-upper n) ∙ name-clean n h)
 
 pub with-texts : (v : Option (List ℕ)) (ps : List Param) → StatedIf v → All Texts ps → All Texts (withValue v ps)
-unfolding withValue
+unfolding withValue all
 with-texts none ps s h = h
 with-texts (some t) ps s h =
-    let k = name-textual t (lower-name t (s .named)) in
-    (record { utf = unfold all in and-true (k .encoded) refl; plain = unfold all in and-true (k .texts) refl }, h)
+    let k = name-textual (upper t) (name-upper t (lower-name t (s .named))) in
+    (record { utf = and-true (k .encoded) refl; plain = and-true (k .texts) refl }, h)
 
 -- they pass number 7 on the way back
 param-returns : (p : Param) → called (octets "value") p ≡ false → Texts p → mayReturn p ≡ true

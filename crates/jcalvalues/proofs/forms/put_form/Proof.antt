@@ -1,0 +1,18 @@
+-- `jcalvalues::forms::put_form` meets its contract.
+use Rattle.octets.proofs.Pen.{as-text}
+use Rattle.jcalvalues.proofs.Quoting.{short-shown}
+use borrow.Author.Needs.{needs}
+use Rattle.jcalvalues.proofs.forms.put_form.Statement.{statement}
+use Rattle.jcalvalues.proofs.forms.put_form.Tie as tie
+
+returns : tie.Need-returns
+returns c = as-text (c .before .before .put-short .ensures) (short-shown _ _ (c .before .before .before .extended .ensures))
+
+pub put-form-spec : {M : Type 1} → statement M
+put-form-spec =
+    tie.close
+    (tie.spec
+    (λ c κs. search needs)
+    (λ c κs. search needs)
+    (λ c. search needs)
+    returns)

@@ -1,0 +1,44 @@
+-- `jcalvalues::forms::put_period` meets its contract.
+use Prim.Native.Nat.{ℕ}
+use mathlib.Core.Path.{ap}
+use mathlib.Core.List.{List}
+use Rattle.octets.specs.Classes.{upper}
+use Rattle.octets.proofs.Pen.{as-text}
+use Rattle.calendar.specs.Dates.{dateTimeOf}
+use Rattle.values.specs.Shown.{stringShown, endShown, periodShown}
+use Rattle.values.proofs.Halves.{found-le, first-half, second-half, arrayed}
+use borrow.Author.Needs.{needs}
+use Rattle.jcalvalues.proofs.forms.put_period.Statement.{statement}
+use Rattle.jcalvalues.proofs.forms.put_period.Tie as tie
+
+part-put-form-end : tie.Need-part-put-form-end
+part-put-form-end c = found-le _ _ _ (c .before .before .before .before .before .before .find .ensures)
+
+returns : tie.Need-returns
+unfolding periodShown
+returns c =
+    arrayed _ _ (c .before .before .before .before .before .before .before .before .before .before .before .before .before .before .before .before .before .before .before .before .put .ensures)
+    (as-text (c .before .before .before .before .before .before .before .before .before .before .before .before .before .before .before .put-form .ensures) (ap (λ (l : List ℕ). stringShown (dateTimeOf (upper l))) (first-half _ _ _ (c .before .before .before .before .before .before .before .before .before .before .before .before .before .before .before .before .before .before .before .before .before .before .before .find .ensures))))
+    (c .before .before .before .before .before .before .before .before .before .before .before .put2 .ensures)
+    (as-text (c .before .before .before .before .before .before .put-end .ensures) (ap endShown (second-half _ _ _ (c .before .before .before .before .before .before .before .before .before .before .before .before .before .before .before .before .before .before .before .before .before .before .before .find .ensures) _ (c .before .before .before .before .before .before .before .before .before .before .before .before .before .before .before .before .before .before .before .before .before .before .past .ensures .1))))
+    (c .before .before .put3 .ensures)
+
+pub put-period-spec : {M : Type 1} → statement M
+put-period-spec =
+    tie.close
+    (tie.spec
+    (λ c κs. search needs)
+    (λ c κs. search needs)
+    (λ c κs. search needs)
+    (λ c. search needs)
+    (λ c. search needs)
+    part-put-form-end
+    (λ c κs. search needs)
+    (λ c κs. search needs)
+    (λ c. search needs)
+    (λ c. search needs)
+    (λ c. search needs)
+    (λ c κs. search needs)
+    (λ c κs. search needs)
+    (λ c. search needs)
+    returns)

@@ -1,0 +1,57 @@
+// Dates, times, offsets and periods, written for jCal.
+ghost use Rattle.octets.specs.Classes.{upper};
+ghost use Rattle.octets.specs.Pen.{pen, Wrote};
+ghost use Rattle.calendar.specs.Texts.{formOf, octetsIn};
+ghost use Rattle.json.specs.Print.{printString};
+ghost use Rattle.values.specs.Shown.{stringShown, endShown, periodShown};
+use calendar::parts::find;
+use calendar::texts::Form;
+use calendar::texts::Text;
+use calendar::texts::extended;
+use calendar::texts::is_basic;
+use json::put_string;
+use octets::put;
+use values::simple::past;
+use valuetexts::put_upper_string;
+
+// Writes a short text as a string.
+pub(crate) fn put_short(out: &mut [u8], at: usize, t: Text) -> usize
+    ensures { λ r. ⌜ Wrote (pen (now (out .entry)) at) (printString (octetsIn t)) (pen (now (out .exit)) r) ⌝ }
+{
+    let o = t.octets;
+    let n = t.len;
+    if n < 20 {
+        return put_string(out, at, &o[0..n]);
+    }
+    put_string(out, at, &o[0..20])
+}
+
+// Writes a text of a fixed form in the extended form.
+pub(crate) fn put_form(out: &mut [u8], at: usize, form: Form, s: &[u8]) -> usize
+    ensures { λ r. ⌜ Wrote (pen (now (out .entry)) at) (stringShown (formOf form (upper (now (s .entry))))) (pen (now (out .exit)) r) ⌝ }
+{
+    put_short(out, at, extended(form, s))
+}
+
+// Writes the end of a period.
+fn put_end(out: &mut [u8], at: usize, s: &[u8]) -> usize
+    ensures { λ r. ⌜ Wrote (pen (now (out .entry)) at) (endShown (now (s .entry))) (pen (now (out .exit)) r) ⌝ }
+{
+    if is_basic(Form::DateTime, s) {
+        return put_form(out, at, Form::DateTime, s);
+    }
+    put_upper_string(out, at, s)
+}
+
+// Writes an array of a start and an end.
+pub(crate) fn put_period(out: &mut [u8], at: usize, s: &[u8]) -> usize
+    ensures { λ r. ⌜ Wrote (pen (now (out .entry)) at) (periodShown (now (s .entry))) (pen (now (out .exit)) r) ⌝ }
+{
+    let e = find(s, b'/');
+    let from = past(s, e);
+    let first = put(out, at, b'[');
+    let comma = put_form(out, first, Form::DateTime, &s[0..e]);
+    let second = put(out, comma, b',');
+    let close = put_end(out, second, &s[from..]);
+    put(out, close, b']')
+}

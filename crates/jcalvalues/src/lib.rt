@@ -1,0 +1,8 @@
+// The values of a property for jCal: which raw values stand, and how they stand in a property's array.
+mod forms;
+mod raw;
+mod recur;
+mod single;
+
+pub use raw::holds_values;
+pub use raw::put_values;

@@ -1,0 +1,87 @@
+// The values of a property: which raw values stand, and how they stand in a property's array.
+ghost use mathlib.Core.Path.{_≡_};
+ghost use Rattle.octets.specs.Basics.{_or_, single};
+ghost use Rattle.octets.specs.Optional.{isSome, guard};
+ghost use Rattle.octets.specs.Pen.{pen, Wrote};
+ghost use Rattle.values.specs.Read.{readValues, listed};
+ghost use Rattle.values.specs.Single.{readOne};
+ghost use Rattle.values.specs.Shown.{oneShown, WroteValues};
+ghost use Rattle.values.specs.Coded.{sortSaid};
+ghost use Rattle.jcalvalues.specs.Parts.{commaList};
+use crate::single::holds_one;
+use crate::single::put_one;
+use calendar::parts::find;
+use octets::put;
+use values::Sort;
+use valuetexts::count_texts;
+use valuetexts::put_texts;
+
+// The values between commas stand, and there is one only where there may not be many.
+fn holds_list(sort: Sort, many: bool, raw: &[u8]) -> bool
+    ensures { λ r. ⌜ r ≡ isSome (guard (λ vs. many or single vs) (listed (readOne (sortSaid sort)) (now (raw .entry)))) ⌝ }
+{
+    let mut at = 0;
+    loop {
+        let rest = &raw[at..];
+        let e = find(rest, b',');
+        if !holds_one(sort, &rest[0..e]) {
+            return false;
+        }
+        if e >= rest.len() {
+            return true;
+        }
+        if !many {
+            return false;
+        }
+        at = at + e + 1;
+    }
+}
+
+// The raw value stands: each of its values is one of the sort, and there is one only where there may not be many.
+pub fn holds_values(sort: Sort, many: bool, raw: &[u8]) -> bool
+    ensures { λ r. ⌜ r ≡ isSome (guard (λ vs. many or single vs) (readValues (sortSaid sort) (now (raw .entry)))) ⌝ }
+{
+    if sort.is_text() {
+        let n = count_texts(raw);
+        if many {
+            return n != 0;
+        }
+        return n == 1;
+    }
+    if sort.splits() {
+        return holds_list(sort, many, raw);
+    }
+    holds_one(sort, raw)
+}
+
+// Writes the values between commas, with a comma between them.
+fn put_list(out: &mut [u8], at: usize, sort: Sort, raw: &[u8]) -> usize
+    ensures { λ r. ⌜ Wrote (pen (now (out .entry)) at) (commaList (oneShown (sortSaid sort)) (now (raw .entry))) (pen (now (out .exit)) r) ⌝ }
+{
+    let mut p = at;
+    let mut i = 0;
+    loop {
+        let rest = &raw[i..];
+        let e = find(rest, b',');
+        p = put_one(out, p, sort, &rest[0..e]);
+        if e >= rest.len() {
+            return p;
+        }
+        p = put(out, p, b',');
+        i = i + e + 1;
+    }
+}
+
+// Writes the values of a raw value that stands, each with a comma before it.
+pub fn put_values(out: &mut [u8], at: usize, sort: Sort, raw: &[u8]) -> usize
+    ensures { λ r. ⌜ WroteValues (sortSaid sort) (now (raw .entry)) (pen (now (out .entry)) at) (pen (now (out .exit)) r) ⌝ }
+{
+    let first = put(out, at, b',');
+    if sort.is_text() {
+        return put_texts(out, first, raw);
+    }
+    if sort.splits() {
+        return put_list(out, first, sort, raw);
+    }
+    put_one(out, first, sort, raw)
+}

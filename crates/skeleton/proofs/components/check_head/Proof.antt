@@ -1,0 +1,50 @@
+-- `skeleton::components::check_head` meets its contract.
+use mathlib.Core.Path.{sym, _∙_}
+use Rattle.skeleton.proofs.Lists.{passed, failed}
+use Rattle.skeleton.proofs.Parts.{component-not, component-no-name, heads}
+use borrow.Author.Needs.{needs}
+use Rattle.skeleton.proofs.components.check_head.Statement.{statement}
+use Rattle.skeleton.proofs.components.check_head.Tie as tie
+
+tag-requires : tie.Need-tag-requires
+tag-requires c κs = search needs
+
+returns : tie.Need-returns
+returns c = component-not _ _ (λ e. c .if1 .taken (c .before .tag .ensures ∙ e))
+
+after-requires : tie.Need-after-requires
+after-requires c κs = search needs
+
+check-name-requires : tie.Need-check-name-requires
+check-name-requires c κs = search needs
+
+enum-known-n : tie.Need-enum-known-n
+enum-known-n c = search needs
+
+enum-told : tie.Need-enum-told
+enum-told c = search needs
+
+returns-2 : tie.Need-returns-2
+returns-2 c = component-no-name (c .before .before .before .after .ensures) (sym (c .before .before .before .before .before .tag .ensures) ∙ c .before .before .before .before .if1 .left) (failed _ _ _ _ (c .before .before .check-name .ensures) (c .enum-told .given .1))
+
+check-properties-requires : tie.Need-check-properties-requires
+check-properties-requires c κs = search needs
+
+returns-3 : tie.Need-returns-3
+returns-3 c =
+    let n = passed _ _ _ _ (c .before .before .before .before .check-name .ensures) (c .before .before .n .given .1) in
+    heads (c .before .before .before .before .before .after .ensures) (sym (c .before .before .before .before .before .before .before .tag .ensures) ∙ c .before .before .before .before .before .before .if1 .left) (n .1) (n .0) (c .check-properties .result) (c .check-properties .ensures)
+
+pub check-head-spec : {M : Type 1} → statement M
+check-head-spec =
+    tie.close
+    (tie.spec
+    tag-requires
+    returns
+    after-requires
+    check-name-requires
+    enum-known-n
+    enum-told
+    returns-2
+    check-properties-requires
+    returns-3)

@@ -1,0 +1,68 @@
+-- `skeleton::components::shape_of` meets its contract.
+use mathlib.Core.Path.{sym, _∙_}
+use Rattle.octets.proofs.Limits.{most-open}
+use Rattle.skeleton.proofs.Depths.{nested, nowhere, calendar-is, calendar-not}
+use borrow.Author.Needs.{needs}
+use Rattle.skeleton.proofs.components.shape_of.Statement.{statement}
+use Rattle.skeleton.proofs.components.shape_of.Tie as tie
+
+check-component-requires : tie.Need-check-component-requires
+check-component-requires c κs = search needs
+
+enum-known-c : tie.Need-enum-known-c
+enum-known-c c = search needs
+
+enum-told : tie.Need-enum-told
+enum-told c = search needs
+
+returns : tie.Need-returns
+returns c = calendar-not _ 32 (sym most-open) (nowhere _ _ _ _ (c .before .before .check-component .ensures) (c .enum-told .given .1))
+
+after-requires : tie.Need-after-requires
+after-requires c κs = search needs
+
+text-at-requires : tie.Need-text-at-requires
+text-at-requires c κs = search needs
+
+sub-same : tie.Need-sub-same
+sub-same c = search needs
+
+part-same-start : tie.Need-part-same-start
+part-same-start c = search needs
+
+part-same-end : tie.Need-part-same-end
+part-same-end c = search needs
+
+slice-aggregate-same : tie.Need-slice-aggregate-same
+slice-aggregate-same c = search needs
+
+same-requires : tie.Need-same-requires
+same-requires c κs = search needs
+
+returns-2 : tie.Need-returns-2
+returns-2 c =
+    let n = nested _ _ _ _ (c .before .before .before .before .before .before .before .before .before .check-component .ensures) (c .before .before .before .before .before .before .before .c .given .1) in
+    (calendar-is _ (c .before .before .before .before .before .after .ensures) (c .before .before .before .before .text-at .ensures) 32 (sym most-open) (n .0) ∙ sym (c .before .same .ensures) ∙ c .if1 .taken, rw most-open (n .1))
+
+returns-3 : tie.Need-returns-3
+returns-3 c =
+    let n = nested _ _ _ _ (c .before .before .before .before .before .before .before .before .before .check-component .ensures) (c .before .before .before .before .before .before .before .c .given .1) in
+    calendar-is _ (c .before .before .before .before .before .after .ensures) (c .before .before .before .before .text-at .ensures) 32 (sym most-open) (n .0) ∙ sym (c .before .same .ensures) ∙ c .if1 .left
+
+pub shape-of-spec : {M : Type 1} → statement M
+shape-of-spec =
+    tie.close
+    (tie.spec
+    check-component-requires
+    enum-known-c
+    enum-told
+    returns
+    after-requires
+    text-at-requires
+    sub-same
+    part-same-start
+    part-same-end
+    slice-aggregate-same
+    same-requires
+    returns-2
+    returns-3)
