@@ -4,6 +4,7 @@ pub mod Names
 pub mod Bare
 pub mod Written
 pub mod WrittenForm
+pub mod WrittenOctets
 pub mod WrittenClean
 pub mod Unfolded
 pub mod Physical
