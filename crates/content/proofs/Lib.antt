@@ -4,6 +4,7 @@ pub mod Names
 pub mod Bare
 pub mod Written
 pub mod WrittenForm
+pub mod WrittenOctets
 pub mod WrittenClean
 pub mod Unfolded
 pub mod Physical
@@ -23,3 +24,4 @@ pub mod Tested
 pub mod HeadPieces
 pub mod FormParts
 pub mod LineParts
+pub mod WrittenPlain

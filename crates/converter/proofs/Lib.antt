@@ -14,3 +14,5 @@ pub mod ByRow
 pub mod PropertyTold
 pub mod Carrying
 pub mod Demand3
+pub mod SkeletonNames
+pub mod EveryLine

@@ -32,7 +32,7 @@ unfolding answer
 accepted-writes a t e out h = rw (e, le-leb (length t) (length out) h)
 
 -- it passes 7, 8 and 9 on its way back
-abbrev Passes : Table → Property → Type 0
+abbrev pub Passes : Table → Property → Type 0
 Passes b q = (p : Property) × (checked (find b (q .name)) q ≡ accepted p)
 
 module _ (b : Table) where

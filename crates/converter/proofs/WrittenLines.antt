@@ -38,19 +38,19 @@ pub record Tells (t : Table) (l : List ℕ) (e : Event Property) : Type 0 where
   pub event : Step (λ l p. readProperty t l ≡ accepted p) (eventOf (lineOf l)) e
 
 -- BEGIN and END
-begin-text : (n : List ℕ) → beginLine n ≡ lineText (octets "BEGIN") [] (upper n)
+pub begin-text : (n : List ℕ) → beginLine n ≡ lineText (octets "BEGIN") [] (upper n)
 unfolding beginLine lineText paramsText upper upperOctet isLower between
 begin-text n = refl
 
-end-text : (n : List ℕ) → endLine n ≡ lineText (octets "END") [] (upper n)
+pub end-text : (n : List ℕ) → endLine n ≡ lineText (octets "END") [] (upper n)
 unfolding endLine lineText paramsText upper upperOctet isLower between
 end-text n = refl
 
-begin-name : isName (octets "BEGIN") ≡ true
+pub begin-name : isName (octets "BEGIN") ≡ true
 unfolding isName filled all nameOctet isLetter isUpper isLower isDigit between
 begin-name = refl
 
-end-name : isName (octets "END") ≡ true
+pub end-name : isName (octets "END") ≡ true
 unfolding isName filled all nameOctet isLetter isUpper isLower isDigit between
 end-name = refl
 

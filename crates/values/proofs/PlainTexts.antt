@@ -9,12 +9,12 @@ use borrow.Author.Tests.{eqb-true}
 use lib.Dec.{eqb, leb}
 use lib.ListN.{length}
 use Rattle.octets.specs.Basics.{_and_, all}
-use Rattle.octets.specs.Pieces.{split, joined}
+use Rattle.octets.specs.Pieces.{split}
 use Rattle.octets.specs.Optional.{isSome, when}
 use Rattle.octets.specs.Classes.{between, isDigit, isUpper, isLower, isLetter, isControl, plainOctet}
 use Rattle.octets.specs.Utf8.{utf8, clean}
 use Rattle.octets.specs.Decimal.{isSign, digits, minus, unsigned, integerText}
-use Rattle.octets.proofs.Cases.{cases, never, both, and-true, either, All, All-all, all-All, all-weaker, all-append}
+use Rattle.octets.proofs.Cases.{cases, never, both, and-true, either, All, all-weaker, all-append}
 use Rattle.octets.proofs.Classes.{between-true}
 use Rattle.octets.proofs.Pieces.{joined-split}
 use Rattle.octets.proofs.Utf8.{plain-above}
@@ -22,21 +22,11 @@ use Rattle.octets.proofs.Decimal.{digits-all}
 use Rattle.calendar.specs.Forms.{Slot, digit, sign, letter, added, fits, keeps, basic, dateForm, clockForm, utc, timeForm, dateTimeForm, offsetForm}
 use Rattle.calendar.specs.Dates.{dateIs, timeIs, dateTimeIs, offsetIs, dateText, timeText, dateTimeText, offsetText}
 use Rattle.calendar.specs.Durations.{durationIs, forwardIs, periodEndIs, periodEndText}
-use Rattle.calendar.proofs.Walk.{All-joined}
-use Rattle.calendar.proofs.Readback.{capital, readable, fits-capital, duration-capital}
+use Rattle.calendar.proofs.Readback.{capital, capital-printable, readable, fits-capital, duration-capital}
+use Rattle.content.proofs.WrittenPlain.{Plain, printable-plain, plain-joined}
 use Rattle.values.specs.Simple.{Group, whole, broken, base64Octet, group, groupAfter, isWhole, binaryIs, pointed, floatOf, integerOf}
 use Rattle.values.proofs.Groups.{group-other}
 use Rattle.values.proofs.NumberLaws.{integer-numeral, numeral-clean}
-
-abbrev pub Plain : List ℕ → Type 0
-Plain s = all plainOctet s ≡ true
-
-pub plain-joined : (sep : ℕ) → plainOctet sep ≡ true → (ls : List (List ℕ)) → All Plain ls → Plain (joined sep ls)
-plain-joined sep h ls a = All-all plainOctet (joined sep ls) (All-joined (λ c. plainOctet c ≡ true) sep h ls (each ls a))
-  where
-    each : (ls : List (List ℕ)) → All Plain ls → All (All (λ c. plainOctet c ≡ true)) ls
-    each [] a = tt
-    each (l ∷ ls) a = (all-All plainOctet l (a .0), each ls (a .1))
 
 -- classes of octets that are plain
 digit-plain : (c : ℕ) → isDigit c ≡ true → plainOctet c ≡ true
@@ -44,7 +34,7 @@ unfolding isDigit
 digit-plain c h = let b = between-true (code "0") (code "9") c h in plain-above c (omega arith) (omega arith)
 
 pub capitals-plain : (s : List ℕ) → all capital s ≡ true → Plain s
-capitals-plain s h = all-weaker capital plainOctet (λ c e. let b = between-true 32 95 c e in plain-above c (omega arith) (omega arith)) s h
+capitals-plain s h = printable-plain s (capital-printable s h)
 
 sign-plain : (c : ℕ) → isSign c ≡ true → plainOctet c ≡ true
 unfolding isSign
@@ -164,7 +154,7 @@ pub float-plain : (s : List ℕ) → isSome (floatOf s) ≡ true → Plain s
 unfolding floatOf
 float-plain s h =
     unsigned-plain s (rw (joined-split (code ".") (unsigned s)) at
-    (plain-joined (code ".") (unfold plainOctet isControl in refl) (split (code ".") (unsigned s)) (pieces-plain (split (code ".") (unsigned s)) (when-some _ _ h))))
+    (plain-joined (code ".") (unfold between in refl) (split (code ".") (unsigned s)) (pieces-plain (split (code ".") (unsigned s)) (when-some _ _ h))))
 
 pub integer-plain : (s : List ℕ) → isSome (integerOf s) ≡ true → Plain (integerText s)
 unfolding integerOf clean
