@@ -1,16 +1,16 @@
 -- The component that the lines from a place on make, line by line.
-use Prim.Native.Nat.{ℕ, zero, suc, max, _+_, _≤_, _<_}
+use Prim.Native.Nat.{ℕ, zero, suc, _+_}
 use mathlib.Core.Path.{_≡_, refl, sym, ap, _∙_}
 use mathlib.Core.Bool.{Bool, true, false}
 use mathlib.Core.List.{List, [], _∷_, _++_, map, append-assoc}
-use Rattle.octets.specs.Basics.{octets, pick, _and_, all}
-use Rattle.octets.specs.Answers.{Answer, refused, accepted, then}
-use Rattle.octets.proofs.Cases.{both}
+use Rattle.octets.specs.Basics.{octets, _and_, all}
+use Rattle.octets.specs.Answers.{Answer, refused, accepted}
+use Rattle.octets.proofs.Cases.{never, both}
 use Rattle.octets.proofs.Answers.{not-accepted, accepted-same, then-accepted}
-use Rattle.json.specs.Tree.{Json, str, arr, Items, noItems, item, itemsOf}
+use Rattle.json.specs.Tree.{Json, Items, noItems, item, itemsOf}
 use Rattle.json.specs.Print.{print, firstItem, moreItems, printString}
 use Rattle.content.specs.Line.{Line}
-use Rattle.converter.specs.Tree.{Property, Component, component, Forest, leaf, grow}
+use Rattle.converter.specs.Tree.{Property, component, leaf, grow}
 use Rattle.converter.specs.Structure.{Event, begins, ends, holds, stray}
 use Rattle.converter.specs.Growth.{behindEvent, eachProperty, Level, level, innermost, around, withProperty, withComponent, levelsFrom, outermost, treeOf}
 use Rattle.converter.specs.Jcal.{propertyJson, jcalOf, jcalsOf}
@@ -149,6 +149,12 @@ pub component-head : (f : Line → Answer Property) (n : List ℕ) (es : List (E
     → print (jcalOf (componentAt f n es)) ≡ headText f n es ++ (subsText f true es ++ octets "]")
 unfolding headText
 component-head f n es = component-text f n es ∙ simp append-assoc
+
+-- an answer that is accepted
+pub accepted-or : (a : Answer Property) → isAccepted a ≡ true → a ≡ accepted (propertyOr a)
+unfolding isAccepted propertyOr
+accepted-or (refused n) h = never h refl
+accepted-or (accepted p) h = refl
 
 -- an event in front of those that are accepted
 behind-accepted {ℓ} : {P : Type ℓ} {B : Type 0} (e : Event B) (a : Answer (List (Event B))) (ps : List (Event B)) → behindEvent e a ≡ accepted ps

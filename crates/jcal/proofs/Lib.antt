@@ -3,4 +3,7 @@ pub mod Telling
 pub mod Stacks
 pub mod Levels
 pub mod Depths
-pub mod Strings
+pub mod Walking
+pub mod Subcomponents
+pub mod Turns
+pub mod Stages

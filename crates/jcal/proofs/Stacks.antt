@@ -2,36 +2,36 @@
 use Prim.Native.Nat.{ℕ, zero, suc, _+_, _-_, _≤_, _<_}
 use mathlib.Core.Path.{_≡_, refl, sym, ap, _∙_}
 use mathlib.Core.Bool.{Bool, true, false}
-use mathlib.Core.List.{List, [], _∷_, map}
+use mathlib.Core.List.{List, [], _∷_}
 use native.Mathlib.Numerals.{add-one}
 use native.Mathlib.Omega.{arith}
 use borrow.Author.Tests.{le-leb, lt-leb}
 use lib.Dec.{eqb, leb, eqb·suc-zero}
 use lib.ListN.{length, getD, set, take, drop, length-set}
 use lib.Seq.{getD-set-same, getD-set-other}
-use Rattle.octets.specs.Basics.{octets, pick, same}
+use Rattle.octets.specs.Basics.{octets, same}
 use Rattle.octets.specs.Classes.{lowerOctet, isUpper, between, lower, sameName}
 use Rattle.octets.specs.Limits.{mostLevels}
-use Rattle.octets.specs.Answers.{Answer, refused, accepted, number}
+use Rattle.octets.specs.Answers.{number}
 use Rattle.octets.specs.declared.Refusal.{Refusal}
 use Rattle.octets.specs.declared.Refusal.the-variants.{NotPaired, TooDeep}
 use Rattle.octets.proofs.Limits.{most-levels}
 use Rattle.octets.proofs.Positions.{ended}
 use Rattle.content.specs.Line.{Line}
 use Rattle.content.specs.Scan.{until}
-use Rattle.content.specs.Buffer.{isLf, linesIn}
+use Rattle.content.specs.Buffer.{isLf}
 use Rattle.content.proofs.Scanning.{scan-is}
 use Rattle.content.proofs.Buffer.{line-here, lines-none}
 use Rattle.content.proofs.Walking.{same-lower}
-use Rattle.converter.specs.Structure.{Event, begins, ends, holds, stray, Nest, fresh, closed, inside, fault, left, nest, nestAfter, verdict}
-use Rattle.jcal.specs.Events.{eventAt, eventsIn, lineFrom, LineAt, nameFrom, told, restOf, Tells}
-use Rattle.jcal.specs.Nesting.{stack, inner, nestOf, aroundOf, Nests, passed, Judged}
+use Rattle.converter.specs.Structure.{Event, begins, ends, holds, stray, fresh, closed, inside, fault, left, nest, nestAfter, verdict}
+use Rattle.jcal.specs.Events.{eventAt, eventsIn, lineFrom, LineAt, nameFrom, told, Tells}
+use Rattle.jcal.specs.Nesting.{stack, inner, nestOf, aroundOf, Nests, Judged}
 use Rattle.jcal.specs.declared.events.Kind.{Kind}
 use Rattle.jcal.specs.declared.events.Kind.the-variants.{Opens, Closes, Plain, Broken}
 use Rattle.jcal.specs.declared.nesting.Nesting.{Nesting}
 use Rattle.jcal.specs.declared.nesting.Nesting.the-variants.{Unbegun, Within, Complete, Wrong}
-use Rattle.jcal.specs.declared.Tested.{Tested}
-use Rattle.jcal.specs.declared.Tested.the-variants.{Passed, Failed}
+use Rattle.jcalproperties.specs.declared.Tested.the-variants.{Passed, Failed}
+use Rattle.jcalproperties.specs.Passed.{passed}
 use Rattle.jcal.proofs.Telling.{line-is}
 
 -- a name is nothing where it has no octets
@@ -57,7 +57,7 @@ module _ (s : List ℕ) where
   inner-set xs d v h = rw (getD-set-same xs (d + 1) v 0 h, stack-set xs (d + 1) (d + 1) v (omega arith), add-one)
 
   -- the name of a component between two places
-  name-part : (at e : ℕ) → e ≡ at + length (until isLf (drop at s)) → lower (take (e - at) (drop at s)) ≡ nameFrom s at
+  pub name-part : (at e : ℕ) → e ≡ at + length (until isLf (drop at s)) → lower (take (e - at) (drop at s)) ≡ nameFrom s at
   unfolding nameFrom lineFrom
   name-part at e q = ap lower (scan-is isLf s at e q)
 

@@ -48,3 +48,7 @@ pub record Tells (s : List ℕ) (i e : ℕ) (k : Kind) : Type 0 where
   pub is : told s i k ≡ eventAt (lineFrom s i)
   pub within : restOf i k ≤ e
   pub ends : e ≡ restOf i k + length (until isLf (drop (restOf i k) s))
+
+-- the first line begins a component, whose name stands from n to e
+abbrev pub Outermost : List ℕ → ℕ → ℕ → Type 0
+Outermost s e n = Tells s 0 e (Opens n)

@@ -4,13 +4,13 @@ use mathlib.Core.Path.{_≡_}
 use mathlib.Core.List.{List, [], _∷_}
 use lib.ListN.{length, getD}
 use Rattle.octets.specs.Limits.{mostLevels}
-use Rattle.octets.specs.Answers.{Answer, refused, accepted, number}
+use Rattle.octets.specs.Answers.{number}
+use Rattle.jcalproperties.specs.Passed.{passed}
+use Rattle.jcalproperties.specs.declared.Tested.{Tested}
 use Rattle.converter.specs.Structure.{Nest, fresh, closed, inside, fault, verdict}
 use Rattle.jcal.specs.Events.{nameFrom}
 use Rattle.jcal.specs.declared.nesting.Nesting.{Nesting}
 use Rattle.jcal.specs.declared.nesting.Nesting.the-variants.{Unbegun, Within, Complete, Wrong}
-use Rattle.jcal.specs.declared.Tested.{Tested}
-use Rattle.jcal.specs.declared.Tested.the-variants.{Passed, Failed}
 
 -- the names at the first d places, the last one first
 unfoldable pub stack : List ℕ → List ℕ → ℕ → List (List ℕ)
@@ -38,11 +38,6 @@ pub record Nests (s xs : List ℕ) (n : Nest) (t : Nesting) : Type 0 where
   pub is : nestOf s xs t ≡ n
   pub few : aroundOf t < mostLevels
   pub room : length xs ≡ mostLevels
-
--- what a test of the whole text answers
-unfoldable pub passed : Tested → Answer (Unit {0})
-passed Passed = accepted tt
-passed (Failed r) = refused (number r)
 
 -- the answer behind the last line
 abbrev pub Judged : Nesting → Tested → Type 0

@@ -3,8 +3,8 @@ use Prim.Native.Nat.{ℕ, zero, suc}
 use mathlib.Core.Bool.{Bool, true, false}
 use mathlib.Core.List.{List, [], _∷_, _++_, map}
 use Rattle.octets.specs.Basics.{octets, pick}
-use Rattle.octets.specs.Answers.{Answer, refused, accepted}
-use Rattle.json.specs.Tree.{Json, Items, itemsOf}
+use Rattle.octets.specs.Answers.{Answer, refused, accepted, then}
+use Rattle.json.specs.Tree.{Items, itemsOf}
 use Rattle.json.specs.Print.{firstItem, moreItems, printString}
 use Rattle.content.specs.Line.{Line}
 use Rattle.converter.specs.Tree.{Property, property, Component, component}
@@ -34,6 +34,13 @@ reads f (begins n) = true
 reads f (ends n) = true
 reads f (holds l) = isAccepted (f l)
 reads f stray = true
+
+-- 7, 8 or 9 of a line, if it is a property
+unfoldable pub eventTested : (Line → Answer Property) → Event Line → Answer (Unit {0})
+eventTested f (begins n) = accepted tt
+eventTested f (ends n) = accepted tt
+eventTested f (holds l) = then (f l) (λ _. accepted tt)
+eventTested f stray = accepted tt
 
 -- the events behind the END of the component in whose lines they begin, where k components are open within it
 unfoldable pub behindEnd : ℕ → List (Event Line) → List (Event Line)

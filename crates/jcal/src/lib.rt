@@ -1,13 +1,9 @@
 // The conversion of iCalendar to jCal.
+mod components;
+mod conversion;
 mod events;
-mod names;
 mod nesting;
+mod testing;
 
+pub use conversion::to_jcal;
 pub use nesting::test_structure;
-use octets::Refusal;
-
-// What a test of the whole text answers.
-pub enum Tested {
-    Passed,
-    Failed(Refusal),
-}

@@ -1,5 +1,4 @@
 // Names in lowercase as JSON strings.
-ghost use mathlib.Core.Path.{_≡_};
 ghost use Rattle.octets.specs.Classes.{lower};
 ghost use Rattle.octets.specs.Pen.{pen, Wrote};
 ghost use Rattle.json.specs.Print.{escaped, printString};
@@ -21,7 +20,7 @@ fn put_escaped(out: &mut [u8], at: usize, c: u8) -> usize
 }
 
 // Writes a name in lowercase.
-pub(crate) fn put_name(out: &mut [u8], at: usize, name: &[u8]) -> usize
+pub fn put_name(out: &mut [u8], at: usize, name: &[u8]) -> usize
     ensures { λ r. ⌜ Wrote (pen (now (out .entry)) at) (printString (lower (now (name .entry)))) (pen (now (out .exit)) r) ⌝ }
 {
     let mut to = put(out, at, b'"');

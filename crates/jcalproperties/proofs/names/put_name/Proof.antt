@@ -1,4 +1,4 @@
--- `jcal::names::put_name` meets its contract.
+-- `jcalproperties::names::put_name` meets its contract.
 use Prim.Native.Nat.{_-_}
 use mathlib.Core.Path.{_≡_}
 use native.Mathlib.Omega.{arith}
@@ -8,9 +8,9 @@ use Rattle.octets.proofs.Pen.{Leads, leads-on, leads-last, then}
 use Rattle.octets.specs.Classes.{lower}
 use Rattle.octets.specs.Pen.{pen}
 use Rattle.json.specs.Print.{quoted, printString}
-use Rattle.jcal.proofs.Strings.{name-on, name-none}
-use Rattle.jcal.proofs.names.put_name.Statement.{statement}
-use Rattle.jcal.proofs.names.put_name.Tie as tie
+use Rattle.jcalproperties.proofs.Strings.{name-on, name-none}
+use Rattle.jcalproperties.proofs.names.put_name.Statement.{statement}
+use Rattle.jcalproperties.proofs.names.put_name.Tie as tie
 
 abbrev Inv-loop : tie.InvT-loop
 Inv-loop out₀ at name to₀ i₀ out to i = (length out ≡ length out₀) × Leads (pen out₀ to₀) (quoted (lower name)) (pen out to) (quoted (lower (drop i name)))

@@ -1,12 +1,12 @@
--- `jcal::names::put_escaped` meets its contract.
+-- `jcalproperties::names::put_escaped` meets its contract.
 use mathlib.Core.Path.{_≡_}
 use mathlib.Core.List.{[], _∷_}
 use borrow.Author.Tests.{ne-eqb}
+use borrow.Author.Needs.{needs}
 use Rattle.octets.proofs.Pen.{as-text}
 use Rattle.json.specs.Print.{escaped}
-use borrow.Author.Needs.{needs}
-use Rattle.jcal.proofs.names.put_escaped.Statement.{statement}
-use Rattle.jcal.proofs.names.put_escaped.Tie as tie
+use Rattle.jcalproperties.proofs.names.put_escaped.Statement.{statement}
+use Rattle.jcalproperties.proofs.names.put_escaped.Tie as tie
 
 returns : tie.Need-returns
 unfolding escaped

@@ -1,0 +1,243 @@
+-- From one test of the conversion to the next: what a test that fails answers, and what one that passes leaves to the next.
+use Prim.Native.Nat.{ℕ, _+_, _-_, _≤_, _<_}
+use mathlib.Core.Path.{_≡_, refl, sym, ap, _∙_}
+use mathlib.Core.Bool.{Bool, true, false}
+use mathlib.Core.List.{List, [], _∷_}
+use native.Mathlib.Omega.{arith}
+use borrow.Author.Tests.{le-leb, lt-leb}
+use lib.ListN.{length, take, drop}
+use Rattle.octets.specs.Basics.{all}
+use Rattle.octets.specs.Utf8.{clean}
+use Rattle.octets.specs.Limits.{mostText, mostLevels}
+use Rattle.octets.specs.Answers.{Answer, refused, accepted, then, unless, number, outcome}
+use Rattle.octets.specs.declared.Refusal.{Refusal}
+use Rattle.octets.specs.declared.Converted.{Converted}
+use Rattle.octets.specs.declared.Converted.the-variants.{Written, Refused}
+use Rattle.octets.proofs.Cases.{never}
+use Rattle.octets.proofs.Positions.{upto}
+use Rattle.octets.proofs.Answers.{not-accepted, accepted-same}
+use Rattle.json.specs.Print.{print}
+use Rattle.types.specs.Rows.{tableOf}
+use Rattle.types.specs.Table.{Table}
+use Rattle.types.specs.Laid.{tableIn, roomForRows, readRows}
+use Rattle.types.proofs.Reading.{Read-table, rows-written, rows-refused}
+use Rattle.content.specs.Line.{Line, lineOf}
+use Rattle.content.specs.Lines.{linesOf, laidOut}
+use Rattle.content.specs.Form.{formed}
+use Rattle.content.specs.Buffer.{linesIn}
+use Rattle.content.specs.Reading.{tested, linesTold, LaidWithin, ReadLines}
+use Rattle.content.specs.declared.reading.Lines.{Lines}
+use Rattle.content.specs.declared.reading.Lines.the-variants.{Laid, NotClean, NotFormed, NoRoom}
+use Rattle.content.proofs.Unfolding.{laid-short}
+use Rattle.converter.specs.Tree.{Property, Component, levels}
+use Rattle.converter.specs.Structure.{Event, begins, ends, holds, stray, Nest, fresh, closed, inside, fault, nestAfter, verdict, structured}
+use Rattle.converter.specs.Growth.{eachProperty, treeOf}
+use Rattle.converter.specs.Jcal.{jcalOf}
+use Rattle.converter.specs.Property.{readProperty}
+use Rattle.converter.specs.ToJcal.{readLinesBy, readLines, reading, toJcal}
+use Rattle.jcal.specs.Events.{eventsIn, lineFrom, LineAt, nameFrom, told, Tells}
+use Rattle.jcal.specs.Walk.{isAccepted, reads, componentAt}
+use Rattle.jcal.specs.Stages.{propertiesJcal, eventsJcal, linesJcal}
+use Rattle.jcal.specs.declared.events.Kind.the-variants.{Opens, Closes, Plain, Broken}
+use Rattle.jcal.proofs.Levels.{Grown, grown, tree-is}
+use Rattle.jcal.proofs.Depths.{Passes, passes}
+use Rattle.jcal.proofs.Walking.{events-told}
+
+refused-same : {A : Type 0} {m n : ℕ} → _≡_ {A = Answer A} (refused m) (refused n) → m ≡ n
+refused-same e = cc
+
+-- a refusal stands, whatever comes behind
+then-refused : {A B C : Type 0} (a : Answer A) (g : A → B) (h : A → Answer C) (n : ℕ) → refused n ≡ then a (λ x. accepted (g x)) → refused n ≡ then a h
+unfolding then
+then-refused (refused m) g h n e = ap refused (refused-same e)
+then-refused (accepted x) g h n e = not-accepted e
+
+then-accepts : {A B : Type 0} (a : Answer A) (g : A → B) (b : B) → accepted b ≡ then a (λ x. accepted (g x)) → isAccepted a ≡ true
+unfolding then isAccepted
+then-accepts (refused m) g b e = not-accepted (sym e)
+then-accepts (accepted x) g b e = refl
+
+-- 7, 8 and 9
+pub properties-passed : (f : Line → Answer Property) (es : List (Event Line)) → accepted tt ≡ then (eachProperty f es) (λ _. accepted (tt {0})) → isAccepted (eachProperty f es) ≡ true
+properties-passed f es e = then-accepts (eachProperty f es) (λ _. tt {0}) tt e
+
+module _ (f : Line → Answer Property) (es : List (Event Line)) where
+  pub properties-failed : (n : ℕ) → refused n ≡ then (eachProperty f es) (λ _. accepted (tt {0})) → refused n ≡ propertiesJcal f es
+  unfolding propertiesJcal
+  properties-failed n e = then-refused (eachProperty f es) (λ _. tt {0}) _ n e
+
+-- 5 and 6
+verdict-refused : {A B C : Type 0} (s : Nest) (a : A) (b : B) (h : B → Answer C) (n : ℕ) → refused n ≡ verdict s a → refused n ≡ then (verdict s b) h
+unfolding verdict then
+verdict-refused fresh a b h n e = ap refused (refused-same e)
+verdict-refused closed a b h n e = not-accepted e
+verdict-refused (inside m ms) a b h n e = ap refused (refused-same e)
+verdict-refused (fault k) a b h n e = ap refused (refused-same e)
+
+verdict-closed : {A : Type 0} (s : Nest) (a b : A) → accepted b ≡ verdict s a → s ≡ closed
+unfolding verdict
+verdict-closed fresh a b e = not-accepted (sym e)
+verdict-closed closed a b e = refl
+verdict-closed (inside m ms) a b e = not-accepted (sym e)
+verdict-closed (fault k) a b e = not-accepted (sym e)
+
+pub structure-passed : (es : List (Event Line)) → accepted tt ≡ verdict (nestAfter fresh es) (tt {0}) → nestAfter fresh es ≡ closed
+structure-passed es e = verdict-closed (nestAfter fresh es) tt tt e
+
+module _ (f : Line → Answer Property) (es : List (Event Line)) where
+  pub structure-failed : (n : ℕ) → refused n ≡ verdict (nestAfter fresh es) (tt {0}) → refused n ≡ eventsJcal f es
+  unfolding eventsJcal structured
+  structure-failed n e = verdict-refused (nestAfter fresh es) tt es (propertiesJcal f) n e
+
+  pub paired : nestAfter fresh es ≡ closed → propertiesJcal f es ≡ eventsJcal f es
+  unfolding eventsJcal structured verdict then
+  paired h = rw h
+
+-- 3 and 4
+tested-refused : (a b : Bool) (ls : List (List ℕ)) {C : Type 0} (g : Unit {0} → Answer Component) (h : Component → Answer C) (n : ℕ)
+    → refused n ≡ unless 3 a (λ _. unless 4 b (λ _. accepted ls)) → refused n ≡ then (unless 3 a (λ _. unless 4 b g)) h
+unfolding unless then
+tested-refused true true ls g h n e = not-accepted e
+tested-refused true false ls g h n e = ap refused (refused-same e)
+tested-refused false b ls g h n e = ap refused (refused-same e)
+
+tested-accepted : (a b : Bool) (ls ms : List (List ℕ)) {C : Type 0} (g : Unit {0} → Answer Component) (h : Component → Answer C)
+    → accepted ms ≡ unless 3 a (λ _. unless 4 b (λ _. accepted ls)) → (ms ≡ ls) × (then (unless 3 a (λ _. unless 4 b g)) h ≡ then (g tt) h)
+unfolding unless then
+tested-accepted true true ls ms g h e = (accepted-same e, refl)
+tested-accepted true false ls ms g h e = not-accepted (sym e)
+tested-accepted false b ls ms g h e = not-accepted (sym e)
+
+module _ (f : Line → Answer Property) where
+  properties-tree : (a : Answer (List (Event Property))) → then (then a (λ ps. accepted (treeOf ps))) (λ c. accepted (print (jcalOf c))) ≡ then a (λ ps. accepted (print (jcalOf (treeOf ps))))
+  unfolding then
+  properties-tree (refused n) = refl
+  properties-tree (accepted ps) = refl
+
+  events-tree : (a : Answer (List (Event Line)))
+      → then (then a (λ es. then (eachProperty f es) (λ ps. accepted (treeOf ps)))) (λ c. accepted (print (jcalOf c))) ≡ then a (propertiesJcal f)
+  unfolding propertiesJcal then
+  events-tree (refused n) = refl
+  events-tree (accepted es) = properties-tree (eachProperty f es)
+
+  module _ (text b after : List ℕ) (r : Lines) (l : length text < length b) (k : ReadLines text b after r) where
+    told-tested : linesTold after r ≡ tested (linesOf text)
+    told-tested = rw (le-leb (length (laidOut (linesOf text))) (length b) (omega (arith, laid-short text))) at (k .told)
+
+    lines-failed : (n : ℕ) → linesTold after r ≡ refused n → refused n ≡ linesJcal f (linesOf text)
+    unfolding linesJcal readLinesBy tested
+    lines-failed n e = tested-refused (all clean (linesOf text)) (all formed (linesOf text)) (linesOf text) _ _ n (sym e ∙ told-tested)
+
+    pub lines-unclean : r ≡ NotClean → refused 3 ≡ linesJcal f (linesOf text)
+    lines-unclean q = lines-failed 3 (unfold linesTold in rw q)
+
+    pub lines-unformed : r ≡ NotFormed → refused 4 ≡ linesJcal f (linesOf text)
+    lines-unformed q = lines-failed 4 (unfold linesTold in rw q)
+
+    pub lines-roomless : r ≡ NoRoom → refused 10 ≡ linesJcal f (linesOf text)
+    lines-roomless q = lines-failed 10 (unfold linesTold in rw q)
+
+    lines-accepted : (n : ℕ) → linesTold after r ≡ accepted (linesIn (take n after)) → eventsJcal f (eventsIn (take (n - 0) (drop 0 after))) ≡ linesJcal f (linesOf text)
+    unfolding linesJcal readLinesBy tested eventsJcal eventsIn
+    lines-accepted n e =
+        let t = tested-accepted (all clean (linesOf text)) (all formed (linesOf text)) (linesOf text) (linesIn (take n after)) _ (λ c. accepted (print (jcalOf c))) (sym e ∙ told-tested) in
+        sym (t .1 ∙ events-tree _ ∙ rw (upto after n, t .0))
+
+    pub lines-laid : (n : ℕ) → r ≡ Laid n → eventsJcal f (eventsIn (take (n - 0) (drop 0 after))) ≡ linesJcal f (linesOf text)
+    lines-laid n q = lines-accepted n (unfold linesTold in rw q)
+
+pub laid-within : (m n : ℕ) (r : Lines) → LaidWithin m r → r ≡ Laid n → n ≤ m
+laid-within m n r h q = rw q at h
+
+-- 1 and 2
+module _ (hex text : List ℕ) where
+  pub text-long : mostText < length text → refused 1 ≡ toJcal hex text
+  unfolding toJcal reading unless then
+  text-long h = rw (lt-leb (length text) mostText h)
+
+  module _ (h : length text ≤ mostText) where
+    rows-wrong : (n : ℕ) → tableOf hex ≡ refused n → refused n ≡ toJcal hex text
+    unfolding toJcal reading unless then
+    rows-wrong n e = rw (le-leb (length text) mostText h, e)
+
+    rows-right : (t : Table) → tableOf hex ≡ accepted t → linesJcal (readProperty t) (linesOf text) ≡ toJcal hex text
+    unfolding toJcal reading unless then linesJcal readLines
+    rows-right t e = rw (le-leb (length text) mostText h, e)
+
+-- the rows that are read
+module _ (hex o b : List ℕ) (r : Converted) (h : roomForRows ≤ length o) (k : outcome r b ≡ readRows hex o) where
+  pub rows-read : (n : ℕ) → r ≡ Written n → Read-table hex b n
+  rows-read n q = rows-written hex o b h n (rw q at k)
+
+  module _ (text : List ℕ) (l : length text ≤ mostText) where
+    pub rows-laid : (n : ℕ) → r ≡ Written n → linesJcal (readProperty (tableIn (take (n - 0) (drop 0 b)))) (linesOf text) ≡ toJcal hex text
+    rows-laid n q = rows-right hex text l _ (rw (upto b n) (rows-read n q .table))
+
+    pub rows-malformed : (w : Refusal) → r ≡ Refused w → refused (number w) ≡ toJcal hex text
+    rows-malformed w q = let e = rows-refused hex o b h w (rw q at k) in rw (e .1) (rows-wrong hex text l 2 (e .0))
+
+-- the calendar
+not-fresh {ℓ} : {P : Type ℓ} → _≡_ {A = Nest} fresh closed → P
+not-fresh e = let z : _≡_ {A = ℕ} 0 1 = cc in absurd (omega arith)
+
+pub some-line : (s : List ℕ) → nestAfter fresh (eventsIn s) ≡ closed → 0 < length s
+unfolding eventsIn linesIn nestAfter
+some-line [] h = not-fresh h
+some-line (c ∷ s) h = omega arith
+
+accepted-is {ℓ} : {P : Type ℓ} {A : Type 0} (a : Answer A) → isAccepted a ≡ true → ((x : A) → a ≡ accepted x → P) → P
+unfolding isAccepted
+accepted-is (refused n) h k = never h refl
+accepted-is (accepted x) h k = k x refl
+
+-- the first line is a BEGIN
+module _ (s : List ℕ) (e : ℕ) (h : LineAt s 0 e) (p : nestAfter fresh (eventsIn s) ≡ closed) where
+  other-first {ℓ} : {P : Type ℓ} (v : Event Line) → eventsIn s ≡ v ∷ eventsIn (drop (e + 1) s) → ((n : List ℕ) → v ≡ begins n → P) → P
+  other-first v q k =
+      let g = passes (λ _. refused 0) (eventsIn s) p in
+      let a : begins (g .name) ∷ g .body ≡ v ∷ eventsIn (drop (e + 1) s) = sym (g .begun) ∙ q in
+      let b : v ≡ begins (g .name) = cc in
+      k (g .name) b
+
+  pub closes-first {ℓ} : {P : Type ℓ} (n : ℕ) → Tells s 0 e (Closes n) → P
+  unfolding told
+  closes-first n t = other-first (ends (nameFrom s n)) (events-told s 0 e (Closes n) h t) (λ m q. let z : _≡_ {A = ℕ} 0 1 = cc in absurd (omega arith))
+
+  pub plain-first {ℓ} : {P : Type ℓ} → Tells s 0 e Plain → P
+  unfolding told
+  plain-first t = other-first (holds (lineOf (lineFrom s 0))) (events-told s 0 e Plain h t) (λ m q. let z : _≡_ {A = ℕ} 0 1 = cc in absurd (omega arith))
+
+  pub broken-first {ℓ} : {P : Type ℓ} → Tells s 0 e Broken → P
+  unfolding told
+  broken-first t = other-first stray (events-told s 0 e Broken h t) (λ m q. let z : _≡_ {A = ℕ} 0 1 = cc in absurd (omega arith))
+
+module _ (f : Line → Answer Property) (s : List ℕ) (e : ℕ) (h : LineAt s 0 e) (p : nestAfter fresh (eventsIn s) ≡ closed) where
+  abbrev next : List (Event Line)
+  next = eventsIn (drop (e + 1) s)
+
+  begun : Passes f (eventsIn s)
+  begun = passes f (eventsIn s) p
+
+  module _ (n : ℕ) (t : Tells s 0 e (Opens n)) where
+    first-opens : eventsIn s ≡ begins (nameFrom s n) ∷ next
+    unfolding told
+    first-opens = events-told s 0 e (Opens n) h t
+
+    pub calendar-few : levels (componentAt f (nameFrom s n) next) ≤ mostLevels
+    calendar-few =
+        let a : begins (begun .name) ∷ begun .body ≡ begins (nameFrom s n) ∷ next = sym (begun .begun) ∙ first-opens in
+        let b : begun .name ≡ nameFrom s n = cc in
+        let c : begun .body ≡ next = cc in
+        rw (← b, ← c) (begun .few)
+
+    module _ (q : isAccepted (eachProperty f (eventsIn s)) ≡ true) where
+      grows {ℓ} : {P : Type ℓ} → ((ps : List (Event Property)) → eachProperty f (eventsIn s) ≡ accepted ps → Grown f (begins (nameFrom s n) ∷ next) ps → P) → P
+      grows k = accepted-is (eachProperty f (eventsIn s)) q (λ ps a. k ps a (grown f (begins (nameFrom s n) ∷ next) ps (rw first-opens at a)))
+
+      pub calendar-accepts : all (reads f) next ≡ true
+      unfolding all reads
+      calendar-accepts = grows (λ ps a g. g .accepts)
+
+      pub calendar-text : accepted (print (jcalOf (componentAt f (nameFrom s n) next))) ≡ propertiesJcal f (eventsIn s)
+      unfolding propertiesJcal then
+      calendar-text = grows (λ ps a g. rw (a, tree-is f (nameFrom s n) next ps g))

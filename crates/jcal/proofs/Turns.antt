@@ -1,0 +1,82 @@
+-- The tests of the properties, line by line.
+use Prim.Native.Nat.{ℕ, _+_, _≤_}
+use mathlib.Core.Path.{_≡_, refl, sym, ap, _∙_}
+use mathlib.Core.List.{List, _∷_}
+use lib.ListN.{length, drop}
+use Rattle.octets.specs.Answers.{Answer, refused, accepted, then, number}
+use Rattle.octets.specs.declared.Refusal.{Refusal}
+use Rattle.content.specs.Line.{Line, lineOf}
+use Rattle.converter.specs.Tree.{Property}
+use Rattle.converter.specs.Structure.{Event, begins, ends, holds, stray}
+use Rattle.converter.specs.Growth.{behindEvent, eachProperty}
+use Rattle.jcalproperties.specs.Passed.{passed}
+use Rattle.jcalproperties.specs.declared.Tested.{Tested}
+use Rattle.jcalproperties.specs.declared.Tested.the-variants.{Passed, Failed}
+use Rattle.jcal.specs.Events.{eventAt, eventsIn, lineFrom, LineAt, told, Tells}
+use Rattle.jcal.specs.Walk.{eventTested}
+use Rattle.jcal.specs.declared.events.Kind.the-variants.{Opens, Closes, Plain, Broken}
+use Rattle.jcal.proofs.Stacks.{events-here, events-none}
+
+-- what a returned `Tested` says, where it is known which
+pub passed-as : {r : Tested} {a : Answer (Unit {0})} → passed r ≡ a → r ≡ Passed → accepted tt ≡ a
+unfolding passed
+passed-as e q = rw q at e
+
+pub failed-as : {r : Tested} {w : Refusal} {a : Answer (Unit {0})} → passed r ≡ a → r ≡ Failed w → refused (number w) ≡ a
+unfolding passed
+failed-as e q = rw q at e
+
+-- what the tests of all properties answer
+abbrev pub eachTested : (Line → Answer Property) → List (Event Line) → Answer (Unit {0})
+eachTested f es = then (eachProperty f es) (λ _. accepted tt)
+
+behind-tested : (e : Event Property) (a : Answer (List (Event Property))) → then (behindEvent e a) (λ _. accepted (tt {0})) ≡ then a (λ _. accepted tt)
+unfolding then behindEvent
+behind-tested e (refused n) = refl
+behind-tested e (accepted es) = refl
+
+module _ (f : Line → Answer Property) where
+  holds-tested : (a : Answer Property) (es : List (Event Line)) → then (then a (λ b. behindEvent (holds b) (eachProperty f es))) (λ _. accepted tt) ≡ then (then a (λ _. accepted (tt {0}))) (λ _. eachTested f es)
+  unfolding then
+  holds-tested (refused n) es = refl
+  holds-tested (accepted b) es = behind-tested (holds b) (eachProperty f es)
+
+  turn : (e : Event Line) (es : List (Event Line)) → eachTested f (e ∷ es) ≡ then (eventTested f e) (λ _. eachTested f es)
+  unfolding eachProperty eventTested
+  turn (begins n) es = behind-tested (begins n) (eachProperty f es) ∙ (unfold then in refl)
+  turn (ends n) es = behind-tested (ends n) (eachProperty f es) ∙ (unfold then in refl)
+  turn (holds l) es = holds-tested (f l) es
+  turn stray es = unfold then in refl
+
+  module _ (s : List ℕ) (i : ℕ) where
+    pub turn-none : length s ≤ i → accepted tt ≡ eachTested f (eventsIn (drop i s))
+    unfolding eachProperty then
+    turn-none h = rw (events-none s i h)
+
+    module _ (e : ℕ) (h : LineAt s i e) where
+      here : eachTested f (eventsIn (drop i s)) ≡ then (eventTested f (eventAt (lineFrom s i))) (λ _. eachTested f (eventsIn (drop (e + 1) s)))
+      here = ap (eachTested f) (events-here s i e h) ∙ turn (eventAt (lineFrom s i)) (eventsIn (drop (e + 1) s))
+
+      pub turn-on : accepted tt ≡ eventTested f (eventAt (lineFrom s i)) → eachTested f (eventsIn (drop i s)) ≡ eachTested f (eventsIn (drop (e + 1) s))
+      turn-on t = here ∙ ap (λ (a : Answer (Unit {0})). then a (λ _. eachTested f (eventsIn (drop (e + 1) s)))) (sym t) ∙ (unfold then in refl)
+
+      pub turn-off : (n : ℕ) → refused n ≡ eventTested f (eventAt (lineFrom s i)) → refused n ≡ eachTested f (eventsIn (drop i s))
+      turn-off n t = sym (here ∙ ap (λ (a : Answer (Unit {0})). then a (λ _. eachTested f (eventsIn (drop (e + 1) s)))) (sym t) ∙ (unfold then in refl))
+
+-- the test of a line of which is told
+module _ (f : Line → Answer Property) (s : List ℕ) (i e : ℕ) where
+  pub opens-tested : (n : ℕ) → Tells s i e (Opens n) → accepted tt ≡ eventTested f (eventAt (lineFrom s i))
+  unfolding told eventTested
+  opens-tested n t = rw (← t .is)
+
+  pub closes-tested : (n : ℕ) → Tells s i e (Closes n) → accepted tt ≡ eventTested f (eventAt (lineFrom s i))
+  unfolding told eventTested
+  closes-tested n t = rw (← t .is)
+
+  pub broken-tested : Tells s i e Broken → accepted tt ≡ eventTested f (eventAt (lineFrom s i))
+  unfolding told eventTested
+  broken-tested t = rw (← t .is)
+
+  pub plain-tested : Tells s i e Plain → then (f (lineOf (lineFrom s i))) (λ _. accepted (tt {0})) ≡ eventTested f (eventAt (lineFrom s i))
+  unfolding told eventTested
+  plain-tested t = rw (← t .is)

@@ -1,0 +1,23 @@
+-- `jcal::components::put_comma` meets its contract.
+use borrow.Author.Needs.{needs}
+use Rattle.octets.proofs.Pen.{nothing}
+use Rattle.jcal.specs.Walk.{comma}
+use Rattle.jcal.proofs.components.put_comma.Statement.{statement}
+use Rattle.jcal.proofs.components.put_comma.Tie as tie
+
+returns : tie.Need-returns
+unfolding comma
+returns c = rw (c .if1 .taken) nothing
+
+put-requires : tie.Need-put-requires
+put-requires c κs = search needs
+
+same-length : tie.Need-same-length
+same-length c = search needs
+
+returns-2 : tie.Need-returns-2
+unfolding comma
+returns-2 c = rw (c .before .before .before .before .if1 .left) (c .before .before .put .ensures)
+
+pub put-comma-spec : {M : Type 1} → statement M
+put-comma-spec = tie.close (tie.spec returns put-requires same-length returns-2)

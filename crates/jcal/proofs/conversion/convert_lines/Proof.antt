@@ -1,0 +1,52 @@
+-- `jcal::conversion::convert_lines` meets its contract.
+use Prim.Native.Nat.{ℕ}
+use mathlib.Core.List.{List}
+use mathlib.Core.Path.{ap, _∙_}
+use Rattle.octets.specs.Answers.{Answer, answer}
+use Rattle.jcal.proofs.Stages.{structure-failed, structure-passed, paired}
+use Rattle.jcal.proofs.Turns.{passed-as, failed-as}
+-- `jcal::conversion::convert_lines` meets its contract.
+use borrow.Author.Needs.{needs}
+use Rattle.jcal.proofs.conversion.convert_lines.Statement.{statement}
+use Rattle.jcal.proofs.conversion.convert_lines.Tie as tie
+
+test-structure-requires : tie.Need-test-structure-requires
+test-structure-requires c κs = search needs
+
+enum-told : tie.Need-enum-told
+enum-told c = search needs
+
+convert-paired-requires : tie.Need-convert-paired-requires
+convert-paired-requires c κs = structure-passed _ (passed-as (c .before .before .before .test-structure .ensures) (c .before .enum-told .given .1))
+
+enum-known-why : tie.Need-enum-known-why
+enum-known-why c = search needs
+
+refuse-requires : tie.Need-refuse-requires
+refuse-requires c κs = search needs
+
+same-length : tie.Need-same-length
+same-length c = search needs
+
+returns : tie.Need-returns
+returns c = c .before .before .convert-paired .ensures ∙ ap (λ (a : Answer (List ℕ)). answer a (c .before .before .before .before .before .before .before .before .before .before .args .out .now)) (paired _ _ (structure-passed _ (passed-as (c .before .before .before .before .before .before .test-structure .ensures) (c .before .before .before .before .enum-told .given .1))))
+
+same-length-2 : tie.Need-same-length-2
+same-length-2 c = search needs
+
+returns-2 : tie.Need-returns-2
+returns-2 c = c .before .before .refuse .ensures ∙ ap (λ (a : Answer (List ℕ)). answer a (c .before .before .before .before .before .before .before .before .before .before .before .args .out .now)) (structure-failed _ _ _ (failed-as (c .before .before .before .before .before .before .before .test-structure .ensures) (c .before .before .before .before .before .why .given .1)))
+
+pub convert-lines-spec : {M : Type 1} → statement M
+convert-lines-spec =
+    tie.close
+    (tie.spec
+    test-structure-requires
+    enum-told
+    convert-paired-requires
+    enum-known-why
+    refuse-requires
+    same-length
+    returns
+    same-length-2
+    returns-2)

@@ -1,0 +1,52 @@
+-- `jcal::conversion::convert_paired` meets its contract.
+use Prim.Native.Nat.{ℕ}
+use mathlib.Core.List.{List}
+use mathlib.Core.Path.{ap, _∙_}
+use Rattle.octets.specs.Answers.{Answer, answer}
+use Rattle.jcal.proofs.Stages.{properties-failed, properties-passed}
+use Rattle.jcal.proofs.Turns.{passed-as, failed-as}
+-- `jcal::conversion::convert_paired` meets its contract.
+use borrow.Author.Needs.{needs}
+use Rattle.jcal.proofs.conversion.convert_paired.Statement.{statement}
+use Rattle.jcal.proofs.conversion.convert_paired.Tie as tie
+
+test-properties-requires : tie.Need-test-properties-requires
+test-properties-requires c κs = search needs
+
+enum-told : tie.Need-enum-told
+enum-told c = search needs
+
+write-calendar-requires : tie.Need-write-calendar-requires
+write-calendar-requires c κs = (c .before .before .before .before .before .before .before .pre, properties-passed _ _ (passed-as (c .before .before .before .test-properties .ensures) (c .before .enum-told .given .1)))
+
+enum-known-why : tie.Need-enum-known-why
+enum-known-why c = search needs
+
+refuse-requires : tie.Need-refuse-requires
+refuse-requires c κs = search needs
+
+same-length : tie.Need-same-length
+same-length c = search needs
+
+returns : tie.Need-returns
+returns c = c .before .before .write-calendar .ensures
+
+same-length-2 : tie.Need-same-length-2
+same-length-2 c = search needs
+
+returns-2 : tie.Need-returns-2
+returns-2 c = c .before .before .refuse .ensures ∙ ap (λ (a : Answer (List ℕ)). answer a (c .before .before .before .before .before .before .before .before .before .before .before .args .out .now)) (properties-failed _ _ _ (failed-as (c .before .before .before .before .before .before .before .test-properties .ensures) (c .before .before .before .before .before .why .given .1)))
+
+pub convert-paired-spec : {M : Type 1} → statement M
+convert-paired-spec =
+    tie.close
+    (tie.spec
+    test-properties-requires
+    enum-told
+    write-calendar-requires
+    enum-known-why
+    refuse-requires
+    same-length
+    returns
+    same-length-2
+    returns-2)

@@ -1,0 +1,48 @@
+-- `jcal::conversion::outermost_name` meets its contract.
+use Rattle.jcal.proofs.Stages.{closes-first, plain-first, broken-first}
+use Rattle.jcal.proofs.Telling.{told-as}
+-- `jcal::conversion::outermost_name` meets its contract.
+use borrow.Author.Needs.{needs}
+use Rattle.jcal.proofs.conversion.outermost_name.Statement.{statement}
+use Rattle.jcal.proofs.conversion.outermost_name.Tie as tie
+
+kind-at-requires : tie.Need-kind-at-requires
+kind-at-requires c κs = c .before .pre .0
+
+enum-known-name : tie.Need-enum-known-name
+enum-known-name c = search needs
+
+enum-told : tie.Need-enum-told
+enum-told c = search needs
+
+enum-told-2 : tie.Need-enum-told-2
+enum-told-2 c = search needs
+
+enum-told-3 : tie.Need-enum-told-3
+enum-told-3 c = search needs
+
+returns : tie.Need-returns
+returns c = told-as (c .before .before .before .kind-at .ensures) (c .before .name .given .1)
+
+returns-2 : tie.Need-returns-2
+returns-2 c = closes-first _ _ (c .before .before .before .before .pre .0) (c .before .before .before .before .pre .1) _ (told-as (c .before .before .kind-at .ensures) (c .enum-told .given .1))
+
+returns-3 : tie.Need-returns-3
+returns-3 c = plain-first _ _ (c .before .before .before .before .pre .0) (c .before .before .before .before .pre .1) (told-as (c .before .before .kind-at .ensures) (c .enum-told2 .given .1))
+
+returns-4 : tie.Need-returns-4
+returns-4 c = broken-first _ _ (c .before .before .before .before .pre .0) (c .before .before .before .before .pre .1) (told-as (c .before .before .kind-at .ensures) (c .enum-told3 .given .1))
+
+pub outermost-name-spec : {M : Type 1} → statement M
+outermost-name-spec =
+    tie.close
+    (tie.spec
+    kind-at-requires
+    enum-known-name
+    enum-told
+    enum-told-2
+    enum-told-3
+    returns
+    returns-2
+    returns-3
+    returns-4)

@@ -1,0 +1,33 @@
+-- `jcal::conversion::to_jcal` meets its contract.
+use native.Mathlib.Omega.{arith}
+use Rattle.octets.proofs.Limits.{most-text}
+use Rattle.types.proofs.Reading.{room-is}
+-- `jcal::conversion::to_jcal` meets its contract.
+use borrow.Author.Needs.{needs}
+use Rattle.jcal.proofs.conversion.to_jcal.Statement.{statement}
+use Rattle.jcal.proofs.conversion.to_jcal.Tie as tie
+
+slice-aggregate-convert : tie.Need-slice-aggregate-convert
+slice-aggregate-convert c = search needs
+
+slice-aggregate-convert-2 : tie.Need-slice-aggregate-convert-2
+slice-aggregate-convert-2 c = search needs
+
+convert-requires : tie.Need-convert-requires
+convert-requires c κs = (omega (arith, room-is), omega (arith, most-text))
+
+same-length : tie.Need-same-length
+same-length c = search needs
+
+returns : tie.Need-returns
+returns c = c .before .before .before .before .convert .ensures
+
+pub to-jcal-spec : {M : Type 1} → statement M
+to-jcal-spec =
+    tie.close
+    (tie.spec
+    slice-aggregate-convert
+    slice-aggregate-convert-2
+    convert-requires
+    same-length
+    returns)

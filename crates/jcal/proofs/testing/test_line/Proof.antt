@@ -1,0 +1,68 @@
+-- `jcal::testing::test_line` meets its contract.
+use mathlib.Core.Path.{_∙_}
+use borrow.Author.Needs.{needs}
+use Rattle.jcalproperties.specs.Passed.{passed}
+use Rattle.jcal.proofs.Turns.{opens-tested, closes-tested, plain-tested, broken-tested}
+use Rattle.jcal.proofs.Telling.{told-as, line-is, line-high}
+use Rattle.jcal.proofs.testing.test_line.Statement.{statement}
+use Rattle.jcal.proofs.testing.test_line.Tie as tie
+
+kind-at-requires : tie.Need-kind-at-requires
+kind-at-requires c κs = c .before .before .pre
+
+enum-told : tie.Need-enum-told
+enum-told c = search needs
+
+enum-told-2 : tie.Need-enum-told-2
+enum-told-2 c = search needs
+
+enum-told-3 : tie.Need-enum-told-3
+enum-told-3 c = search needs
+
+sub-test-property : tie.Need-sub-test-property
+sub-test-property c = search needs
+
+part-test-property-start : tie.Need-part-test-property-start
+part-test-property-start c = search needs
+
+part-test-property-end : tie.Need-part-test-property-end
+part-test-property-end c = line-high _ _ _ (c .before .before .before .before .before .pre)
+
+test-property-requires : tie.Need-test-property-requires
+test-property-requires c κs = search needs
+
+enum-told-4 : tie.Need-enum-told-4
+enum-told-4 c = search needs
+
+returns : tie.Need-returns
+unfolding passed
+returns c = opens-tested _ _ _ _ _ (told-as (c .before .before .kind-at .ensures) (c .enum-told .given .1))
+
+returns-2 : tie.Need-returns-2
+unfolding passed
+returns-2 c = closes-tested _ _ _ _ _ (told-as (c .before .before .kind-at .ensures) (c .enum-told2 .given .1))
+
+returns-3 : tie.Need-returns-3
+returns-3 c = rw (line-is (c .before .before .before .before .before .before .before .args .buf .now) (c .before .before .before .before .before .before .before .args .i) (c .before .before .before .before .before .before .before .args .e) (c .before .before .before .before .before .before .before .pre)) at (c .test-property .ensures) ∙ plain-tested _ _ _ _ (told-as (c .before .before .before .before .kind-at .ensures) (c .before .before .enum-told3 .given .1))
+
+returns-4 : tie.Need-returns-4
+unfolding passed
+returns-4 c = broken-tested _ _ _ _ (told-as (c .before .before .kind-at .ensures) (c .enum-told4 .given .1))
+
+pub test-line-spec : {M : Type 1} → statement M
+test-line-spec =
+    tie.close
+    (tie.spec
+    kind-at-requires
+    enum-told
+    enum-told-2
+    enum-told-3
+    sub-test-property
+    part-test-property-start
+    part-test-property-end
+    test-property-requires
+    enum-told-4
+    returns
+    returns-2
+    returns-3
+    returns-4)

@@ -1,0 +1,70 @@
+-- `jcal::testing::test_properties` meets its contract.
+use Prim.Native.Nat.{_-_}
+use mathlib.Core.Path.{_≡_, refl, sym, _∙_}
+use native.Mathlib.Omega.{arith}
+use borrow.Author.Needs.{needs}
+use lib.ListN.{length, drop}
+use Rattle.types.specs.Laid.{tableIn}
+use Rattle.content.proofs.Scanning.{scan-high}
+use Rattle.content.specs.Buffer.{isLf}
+use Rattle.converter.specs.Property.{readProperty}
+use Rattle.jcalproperties.specs.Passed.{passed}
+use Rattle.jcal.specs.Events.{eventsIn}
+use Rattle.jcal.proofs.Turns.{passed-as, failed-as, eachTested, turn-none, turn-on, turn-off}
+use Rattle.jcal.proofs.testing.test_properties.Statement.{statement}
+use Rattle.jcal.proofs.testing.test_properties.Tie as tie
+
+abbrev Inv-loop : tie.InvT-loop
+Inv-loop buf rows i₀ i = eachTested (readProperty (tableIn rows)) (eventsIn buf) ≡ eachTested (readProperty (tableIn rows)) (eventsIn (drop i buf))
+
+abbrev μ-loop : tie.MeasureT-loop
+μ-loop buf rows i₀ i = length buf - i
+
+loop-holds : tie.Need-loop-holds Inv-loop μ-loop
+loop-holds c = refl
+
+line-end-requires : tie.Need-line-end-requires Inv-loop μ-loop
+line-end-requires c κs = search needs
+
+test-line-requires : tie.Need-test-line-requires Inv-loop μ-loop
+test-line-requires c κs = record { within = c .before .loop-test .taken; ends = c .line-end .ensures }
+
+enum-told : tie.Need-enum-told Inv-loop μ-loop
+enum-told c = search needs
+
+add-i : tie.Need-add-i Inv-loop μ-loop
+add-i c = omega (arith, scan-high isLf (c .before .before .before .before .before .before .before .before .args .buf .now) (c .before .before .before .before .before .loop .i) _ (c .before .before .before .line-end .ensures) (omega arith))
+
+loop-less : tie.Need-loop-less Inv-loop μ-loop
+loop-less c = omega (arith, scan-high isLf (c .before .before .before .before .before .before .before .before .args .buf .now) (c .before .before .before .before .before .loop .i) _ (c .before .before .before .line-end .ensures) (omega arith))
+
+loop-again : tie.Need-loop-again Inv-loop μ-loop
+loop-again c = c .before .before .before .before .before .loop .inv ∙ turn-on _ (c .before .before .before .before .before .before .before .before .args .buf .now) (c .before .before .before .before .before .loop .i) (c .before .before .before .line-end .result) (record { within = c .before .before .before .before .loop-test .taken; ends = c .before .before .before .line-end .ensures }) (passed-as (c .before .before .test-line .ensures) (c .enum-told .given .1))
+
+enum-known-why : tie.Need-enum-known-why Inv-loop μ-loop
+enum-known-why c = search needs
+
+returns : tie.Need-returns Inv-loop μ-loop
+unfolding passed
+returns c = turn-off _ (c .before .before .before .before .before .before .before .before .before .args .buf .now) (c .before .before .before .before .before .before .loop .i) (c .before .before .before .before .line-end .result) (record { within = c .before .before .before .before .before .loop-test .taken; ends = c .before .before .before .before .line-end .ensures }) _ (failed-as (c .before .before .before .test-line .ensures) (c .before .why .given .1)) ∙ sym (c .before .before .before .before .before .before .loop .inv)
+
+returns-2 : tie.Need-returns-2 Inv-loop μ-loop
+unfolding passed
+returns-2 c = turn-none _ (c .before .before .before .before .args .buf .now) (c .before .loop .i) (c .loop-test .left) ∙ sym (c .before .loop .inv)
+
+pub test-properties-spec : {M : Type 1} → statement M
+test-properties-spec =
+    tie.close
+    (tie.spec
+    Inv-loop
+    μ-loop
+    loop-holds
+    line-end-requires
+    test-line-requires
+    enum-told
+    add-i
+    loop-less
+    loop-again
+    enum-known-why
+    returns
+    returns-2)

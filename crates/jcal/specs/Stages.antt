@@ -1,0 +1,23 @@
+-- The conversion from each of its tests on, as the code goes from one to the next.
+use Prim.Native.Nat.{ℕ}
+use mathlib.Core.List.{List}
+use Rattle.octets.specs.Answers.{Answer, accepted, then}
+use Rattle.json.specs.Print.{print}
+use Rattle.content.specs.Line.{Line}
+use Rattle.converter.specs.Tree.{Property}
+use Rattle.converter.specs.Structure.{Event, structured}
+use Rattle.converter.specs.Growth.{eachProperty, treeOf}
+use Rattle.converter.specs.Jcal.{jcalOf}
+use Rattle.converter.specs.ToJcal.{readLinesBy}
+
+-- from 7, 8 and 9 on
+unfoldable pub propertiesJcal : (Line → Answer Property) → List (Event Line) → Answer (List ℕ)
+propertiesJcal f es = then (eachProperty f es) (λ ps. accepted (print (jcalOf (treeOf ps))))
+
+-- from 5 and 6 on
+unfoldable pub eventsJcal : (Line → Answer Property) → List (Event Line) → Answer (List ℕ)
+eventsJcal f es = then (structured es) (propertiesJcal f)
+
+-- from 3 on
+unfoldable pub linesJcal : (Line → Answer Property) → List (List ℕ) → Answer (List ℕ)
+linesJcal f ls = then (readLinesBy f ls) (λ c. accepted (print (jcalOf c)))

@@ -1,0 +1,117 @@
+// The conversion to jCal: the tests in the order of their numbers, each over the whole text before the next.
+ghost use mathlib.Core.Path.{_≡_};
+ghost use mathlib.Core.Bool.{true};
+ghost use Prim.Native.Nat.{_≤_, _<_};
+ghost use lib.ListN.{length};
+ghost use Rattle.octets.specs.Limits.{mostText};
+ghost use Rattle.octets.specs.Answers.{outcome, answer};
+ghost use Rattle.types.specs.Laid.{tableIn, roomForRows};
+ghost use Rattle.content.specs.Lines.{linesOf};
+ghost use Rattle.converter.specs.Structure.{fresh, closed, nestAfter};
+ghost use Rattle.converter.specs.Growth.{eachProperty};
+ghost use Rattle.converter.specs.Property.{readProperty};
+ghost use Rattle.converter.specs.ToJcal.{toJcal};
+ghost use Rattle.jcal.specs.Events.{eventsIn, LineAt, Outermost};
+ghost use Rattle.jcal.specs.Walk.{isAccepted};
+ghost use Rattle.jcal.specs.Stages.{propertiesJcal, eventsJcal, linesJcal};
+use crate::components::put_component;
+use crate::events::Kind;
+use crate::events::kind_at;
+use crate::nesting::test_structure;
+use crate::testing::test_properties;
+use content::Lines;
+use content::line_end;
+use content::read_lines;
+use jcalproperties::Tested;
+use octets::Converted;
+use octets::MOST_LEVELS;
+use octets::MOST_TEXT;
+use octets::Refusal;
+use octets::finish;
+use octets::refuse;
+use types::read_rows;
+
+// The place of the outermost component's name in the first line, which ends at e.
+fn outermost_name(lines: &[u8], e: usize) -> usize
+    requires { ⌜ LineAt (now lines) 0 e ⌝ }
+    requires { ⌜ nestAfter fresh (eventsIn (now lines)) ≡ closed ⌝ }
+    ensures { λ r. ⌜ Outermost (now (lines .entry)) e r ⌝ }
+{
+    match kind_at(lines, 0, e) {
+        Kind::Opens(name) => name,
+        Kind::Closes(_) => 0,
+        Kind::Plain => 0,
+        Kind::Broken => 0,
+    }
+}
+
+// Writes the calendar of lines that pass every test.
+fn write_calendar(lines: &[u8], rows: &[u8], out: &mut [u8]) -> Converted
+    requires { ⌜ nestAfter fresh (eventsIn (now lines)) ≡ closed ⌝ }
+    requires { ⌜ isAccepted (eachProperty (readProperty (tableIn (now rows))) (eventsIn (now lines))) ≡ true ⌝ }
+    ensures { λ r. ⌜ outcome r (now (out .exit)) ≡ answer (propertiesJcal (readProperty (tableIn (now (rows .entry)))) (eventsIn (now (lines .entry)))) (now (out .entry)) ⌝ }
+{
+    let e = line_end(lines, 0);
+    let name = outermost_name(lines, e);
+    let p = put_component(lines, rows, name, e, MOST_LEVELS, out, 0);
+    let at = p.at;
+    finish(out, at)
+}
+
+// Converts lines that pair: tests 7, 8 and 9.
+fn convert_paired(lines: &[u8], rows: &[u8], out: &mut [u8]) -> Converted
+    requires { ⌜ nestAfter fresh (eventsIn (now lines)) ≡ closed ⌝ }
+    ensures { λ r. ⌜ outcome r (now (out .exit)) ≡ answer (propertiesJcal (readProperty (tableIn (now (rows .entry)))) (eventsIn (now (lines .entry)))) (now (out .entry)) ⌝ }
+{
+    match test_properties(lines, rows) {
+        Tested::Passed => write_calendar(lines, rows, out),
+        Tested::Failed(why) => refuse(out, why),
+    }
+}
+
+// Converts clean content lines: tests 5 and 6.
+fn convert_lines(lines: &[u8], rows: &[u8], out: &mut [u8]) -> Converted
+    ensures { λ r. ⌜ outcome r (now (out .exit)) ≡ answer (eventsJcal (readProperty (tableIn (now (rows .entry)))) (eventsIn (now (lines .entry)))) (now (out .entry)) ⌝ }
+{
+    match test_structure(lines) {
+        Tested::Passed => convert_paired(lines, rows, out),
+        Tested::Failed(why) => refuse(out, why),
+    }
+}
+
+// Converts a text whose lines have room in the buffer: tests 3 and 4.
+fn convert_text(text: &[u8], rows: &[u8], buf: &mut [u8], out: &mut [u8]) -> Converted
+    requires { ⌜ length (now text) < length (now buf) ⌝ }
+    ensures { λ r. ⌜ outcome r (now (out .exit)) ≡ answer (linesJcal (readProperty (tableIn (now (rows .entry)))) (linesOf (now (text .entry)))) (now (out .entry)) ⌝ }
+{
+    match read_lines(text, buf) {
+        Lines::Laid(n) => convert_lines(&buf[0..n], rows, out),
+        Lines::NotClean => refuse(out, Refusal::NotClean),
+        Lines::NotFormed => refuse(out, Refusal::NotContentLine),
+        Lines::NoRoom => refuse(out, Refusal::NoRoom),
+    }
+}
+
+// Converts a text with the rows of a file, in buffers that have room for any: tests 1 and 2.
+fn convert(text: &[u8], hex: &[u8], rows: &mut [u8], buf: &mut [u8], out: &mut [u8]) -> Converted
+    requires { ⌜ roomForRows ≤ length (now rows) ⌝ }
+    requires { ⌜ mostText < length (now buf) ⌝ }
+    ensures { λ r. ⌜ outcome r (now (out .exit)) ≡ answer (toJcal (now (hex .entry)) (now (text .entry))) (now (out .entry)) ⌝ }
+{
+    if MOST_TEXT < text.len() {
+        return refuse(out, Refusal::TextTooLong);
+    }
+    match read_rows(hex, rows) {
+        Converted::Written(n) => convert_text(text, &rows[0..n], buf, out),
+        Converted::Refused(why) => refuse(out, why),
+    }
+}
+
+// Turns an iCalendar text into jCal, by the default types and the rows of a rows.hex.
+pub fn to_jcal(text: &[u8], rows: &[u8], out: &mut [u8]) -> Converted
+    ensures { λ r. ⌜ outcome r (now (out .exit)) ≡ answer (toJcal (now (rows .entry)) (now (text .entry))) (now (out .entry)) ⌝ }
+{
+    let mut table = [0u8; 2240];
+    let mut buf = [0u8; 65537];
+    convert(text, rows, &mut table, &mut buf, out)
+}

@@ -1,0 +1,46 @@
+// Numbers 7, 8 and 9 of the properties in text order: the first one in fault decides.
+ghost use mathlib.Core.Path.{_≡_};
+ghost use Rattle.octets.specs.Answers.{accepted, then};
+ghost use Rattle.types.specs.Laid.{tableIn};
+ghost use Rattle.converter.specs.Property.{readProperty};
+ghost use Rattle.converter.specs.Growth.{eachProperty};
+ghost use Rattle.jcal.specs.Events.{eventAt, eventsIn, lineFrom, LineAt};
+ghost use Rattle.jcalproperties.specs.Passed.{passed};
+ghost use Rattle.jcal.specs.Walk.{eventTested};
+use crate::events::Kind;
+use crate::events::kind_at;
+use content::line_end;
+use jcalproperties::Tested;
+use jcalproperties::test_property;
+
+// Tests 7, 8 and 9 of the line from i to e, if it is a property.
+fn test_line(buf: &[u8], i: usize, e: usize, rows: &[u8]) -> Tested
+    requires { ⌜ LineAt (now buf) i e ⌝ }
+    ensures { λ r. ⌜ passed r ≡ eventTested (readProperty (tableIn (now (rows .entry)))) (eventAt (lineFrom (now (buf .entry)) i)) ⌝ }
+{
+    match kind_at(buf, i, e) {
+        Kind::Opens(_) => Tested::Passed,
+        Kind::Closes(_) => Tested::Passed,
+        Kind::Plain => test_property(&buf[i..e], rows),
+        Kind::Broken => Tested::Passed,
+    }
+}
+
+// Tests 7, 8 and 9, at the first property in fault.
+pub(crate) fn test_properties(buf: &[u8], rows: &[u8]) -> Tested
+    ensures { λ r. ⌜ passed r ≡ then (eachProperty (readProperty (tableIn (now (rows .entry)))) (eventsIn (now (buf .entry)))) (λ _. accepted tt) ⌝ }
+{
+    let mut i = 0;
+    while i < buf.len() {
+        let e = line_end(buf, i);
+        match test_line(buf, i, e, rows) {
+            Tested::Passed => {
+                i = e + 1;
+            }
+            Tested::Failed(why) => {
+                return Tested::Failed(why);
+            }
+        }
+    }
+    Tested::Passed
+}

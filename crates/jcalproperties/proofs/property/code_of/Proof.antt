@@ -1,0 +1,66 @@
+-- `jcalproperties::property::code_of` meets its contract.
+use mathlib.Core.Path.{_∙_}
+use borrow.Author.Needs.{needs}
+use lib.ListN.{length}
+use Rattle.content.specs.Kinds.{kindOf}
+use Rattle.converter.specs.Property.{codeOf}
+use Rattle.jcalproperties.specs.Shown.{namedType}
+use Rattle.jcalproperties.proofs.Typing.{bounded-as}
+use Rattle.jcalproperties.proofs.property.code_of.Statement.{statement}
+use Rattle.jcalproperties.proofs.property.code_of.Tie as tie
+
+enum-told : tie.Need-enum-told
+enum-told c = search needs
+
+default-code-requires : tie.Need-default-code-requires
+default-code-requires c κs = search needs
+
+enum-known-kind : tie.Need-enum-known-kind
+enum-known-kind c = search needs
+
+sub-code-named : tie.Need-sub-code-named
+sub-code-named c = bounded-as (length (c .before .before .before .before .args .params .now)) _ (c .before .before .before .before .pre) (c .before .kind .given .1) .0
+
+part-code-named-start : tie.Need-part-code-named-start
+part-code-named-start c = bounded-as (length (c .before .before .before .before .args .params .now)) _ (c .before .before .before .before .pre) (c .before .kind .given .1) .0
+
+part-code-named-end : tie.Need-part-code-named-end
+part-code-named-end c = bounded-as (length (c .before .before .before .before .args .params .now)) _ (c .before .before .before .before .pre) (c .before .kind .given .1) .1
+
+code-named-requires : tie.Need-code-named-requires
+code-named-requires c κs = search needs
+
+enum-told-2 : tie.Need-enum-told-2
+enum-told-2 c = search needs
+
+default-code-requires-2 : tie.Need-default-code-requires-2
+default-code-requires-2 c κs = search needs
+
+returns : tie.Need-returns
+unfolding kindOf namedType
+returns c = c .default-code .ensures ∙ rw (c .before .enum-told .given .1)
+
+returns-2 : tie.Need-returns-2
+unfolding kindOf namedType codeOf
+returns-2 c = c .code-named .ensures ∙ rw (c .before .before .before .kind .given .1)
+
+returns-3 : tie.Need-returns-3
+unfolding kindOf namedType
+returns-3 c = c .default-code2 .ensures ∙ rw (c .before .enum-told2 .given .1)
+
+pub code-of-spec : {M : Type 1} → statement M
+code-of-spec =
+    tie.close
+    (tie.spec
+    enum-told
+    default-code-requires
+    enum-known-kind
+    sub-code-named
+    part-code-named-start
+    part-code-named-end
+    code-named-requires
+    enum-told-2
+    default-code-requires-2
+    returns
+    returns-2
+    returns-3)

@@ -1,0 +1,60 @@
+-- `jcalproperties::property::put_default` meets its contract.
+use borrow.Author.Needs.{needs}
+use Rattle.octets.proofs.Pen.{then, as-text}
+use Rattle.json.specs.Print.{printString, quoted, escaped}
+use Rattle.types.specs.Laid.{rowFound}
+use Rattle.converter.specs.Property.{typeOf}
+use Rattle.jcalproperties.proofs.Typing.{type-quoted}
+use Rattle.jcalproperties.proofs.property.put_default.Statement.{statement}
+use Rattle.jcalproperties.proofs.property.put_default.Tie as tie
+
+enum-known-found : tie.Need-enum-known-found
+enum-known-found c = search needs
+
+put-requires : tie.Need-put-requires
+put-requires c κs = search needs
+
+put-type-name-requires : tie.Need-put-type-name-requires
+put-type-name-requires c κs = search needs
+
+put-requires-2 : tie.Need-put-requires-2
+put-requires-2 c κs = search needs
+
+enum-told : tie.Need-enum-told
+enum-told c = search needs
+
+slice-aggregate-put-all : tie.Need-slice-aggregate-put-all
+slice-aggregate-put-all c = search needs
+
+put-all-requires : tie.Need-put-all-requires
+put-all-requires c κs = search needs
+
+same-length : tie.Need-same-length
+same-length c = search needs
+
+returns : tie.Need-returns
+unfolding typeOf rowFound
+returns c = rw (c .before .before .before .before .before .before .before .before .before .before .before .before .before .found .given .1) (as-text (then (then (c .before .before .before .before .before .before .before .before .before .before .put .ensures) (c .before .before .before .before .before .before .put-type-name .ensures)) (c .before .before .put2 .ensures)) (type-quoted _))
+
+same-length-2 : tie.Need-same-length-2
+same-length-2 c = search needs
+
+returns-2 : tie.Need-returns-2
+unfolding typeOf rowFound printString quoted escaped
+returns-2 c = rw (c .before .before .before .before .before .enum-told .given .1) (c .before .before .put-all .ensures)
+
+pub put-default-spec : {M : Type 1} → statement M
+put-default-spec =
+    tie.close
+    (tie.spec
+    enum-known-found
+    put-requires
+    put-type-name-requires
+    put-requires-2
+    enum-told
+    slice-aggregate-put-all
+    put-all-requires
+    same-length
+    returns
+    same-length-2
+    returns-2)

@@ -1,0 +1,90 @@
+-- `jcalproperties::property::put_property` meets its contract.
+use borrow.Author.Needs.{needs}
+use Rattle.jcalproperties.proofs.Typing.{parts-line, parts-wrote}
+use Rattle.jcalproperties.proofs.property.put_property.Statement.{statement}
+use Rattle.jcalproperties.proofs.property.put_property.Tie as tie
+
+parts-of-requires : tie.Need-parts-of-requires
+parts-of-requires c κs = search needs
+
+sub-name : tie.Need-sub-name
+sub-name c = search needs
+
+part-name-start : tie.Need-part-name-start
+part-name-start c = search needs
+
+part-name-end : tie.Need-part-name-end
+part-name-end c = search needs
+
+sub-params : tie.Need-sub-params
+sub-params c = search needs
+
+part-params-start : tie.Need-part-params-start
+part-params-start c = search needs
+
+part-params-end : tie.Need-part-params-end
+part-params-end c = search needs
+
+find-requires : tie.Need-find-requires
+find-requires c κs = search needs
+
+value-type-requires : tie.Need-value-type-requires
+value-type-requires c κs = search needs
+
+code-of-requires : tie.Need-code-of-requires
+code-of-requires c κs = search needs
+
+sort-of-requires : tie.Need-sort-of-requires
+sort-of-requires c κs = search needs
+
+put-front-requires : tie.Need-put-front-requires
+put-front-requires c κs = search needs
+
+put-type-requires : tie.Need-put-type-requires
+put-type-requires c κs = search needs
+
+sub-put-values : tie.Need-sub-put-values
+sub-put-values c = search needs
+
+part-put-values-start : tie.Need-part-put-values-start
+part-put-values-start c = search needs
+
+part-put-values-end : tie.Need-part-put-values-end
+part-put-values-end c = search needs
+
+put-values-requires : tie.Need-put-values-requires
+put-values-requires c κs = search needs
+
+put-requires : tie.Need-put-requires
+put-requires c κs = search needs
+
+same-length : tie.Need-same-length
+same-length c = search needs
+
+returns : tie.Need-returns
+returns c = rw (← parts-line (c .before .before .before .before .before .before .before .before .before .before .before .before .before .before .before .before .before .before .before .before .before .before .before .before .before .before .before .args .line .now) (c .before .before .before .before .before .before .before .before .before .before .before .before .before .before .before .before .before .before .before .before .before .before .before .parts-of .result) (c .before .before .before .before .before .before .before .before .before .before .before .before .before .before .before .before .before .before .before .before .before .before .before .parts-of .ensures)) (parts-wrote _ _ _ _ _ (c .before .before .before .before .before .before .before .before .before .before .before .before .before .before .before .before .before .before .before .before .find .ensures) _ _ _ (c .before .before .before .before .before .before .before .before .before .before .before .before .before .before .before .before .before .before .before .value-type .ensures .is) (c .before .before .before .before .before .before .before .before .before .before .before .before .before .before .before .before .before .before .code-of .ensures) (c .before .before .before .before .before .before .before .before .before .before .before .before .before .before .before .before .before .sort-of .ensures) (c .before .before .before .before .before .before .before .before .before .before .before .before .before .before .before .put-front .ensures) (c .before .before .before .before .before .before .before .before .before .before .before .put-type .ensures) (c .before .before .before .before .before .before .put-values .ensures) (c .before .before .put .ensures))
+
+pub put-property-spec : {M : Type 1} → statement M
+put-property-spec =
+    tie.close
+    (tie.spec
+    parts-of-requires
+    sub-name
+    part-name-start
+    part-name-end
+    sub-params
+    part-params-start
+    part-params-end
+    find-requires
+    value-type-requires
+    code-of-requires
+    sort-of-requires
+    put-front-requires
+    put-type-requires
+    sub-put-values
+    part-put-values-start
+    part-put-values-end
+    put-values-requires
+    put-requires
+    same-length
+    returns)
