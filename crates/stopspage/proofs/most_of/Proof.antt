@@ -1,5 +1,6 @@
 -- `stopspage::most_of` meets its contract: each test decides as in the definition.
 use mathlib.Core.Path.{sym, _∙_}
+use native.Mathlib.Omega.{arith}
 use borrow.Author.Tests.{not-true, not-false}
 use borrow.Author.Needs.{needs}
 use Rattle.stopspage.proofs.Numbers.{no-digits, zeros, too-many, is-most}
@@ -22,10 +23,10 @@ value-of-requires : tie.Need-value-of-requires
 value-of-requires c κs = search needs
 
 returns-3 : tie.Need-returns-3
-returns-3 c = too-many _ (sym (c .before .before .before .before .before .all-digits .ensures) ∙ not-false _ (c .before .before .before .before .if1 .left)) _ (c .before .before .before .leading-zeros .ensures .0) (c .before .before .before .leading-zeros .ensures .1) (c .before .before .if2 .left) _ (c .before .value-of .ensures) (c .if3 .taken)
+returns-3 c = too-many _ (sym (c .before .before .before .before .before .all-digits .ensures) ∙ not-false _ (c .before .before .before .before .if1 .left)) _ (c .before .before .before .leading-zeros .ensures .0) (c .before .before .before .leading-zeros .ensures .1) (c .before .before .if2 .left) _ (c .before .value-of .ensures) (omega arith)
 
 returns-4 : tie.Need-returns-4
-returns-4 c = is-most _ (sym (c .before .before .before .before .before .all-digits .ensures) ∙ not-false _ (c .before .before .before .before .if1 .left)) _ (c .before .before .before .leading-zeros .ensures .0) (c .before .before .before .leading-zeros .ensures .1) (c .before .before .if2 .left) _ (c .before .value-of .ensures) (c .if3 .left)
+returns-4 c = is-most _ (sym (c .before .before .before .before .before .all-digits .ensures) ∙ not-false _ (c .before .before .before .before .if1 .left)) _ (c .before .before .before .leading-zeros .ensures .0) (c .before .before .before .leading-zeros .ensures .1) (c .before .before .if2 .left) _ (c .before .value-of .ensures) (omega arith)
 
 pub most-of-spec : {M : Type 1} → statement M
 most-of-spec =
