@@ -1,0 +1,1 @@
+// 01's cases to prove together.
