@@ -1,4 +1,5 @@
-// Runs the cases of data/cases. A line is a type, one or many, a property's name, a raw value, and its values in jCal or "refused", with tabs between.
+// Runs the cases of data/: `cases` has the examples of the RFCs and others, `vectors` has values of whole calendars.
+// A line is a type, one or many, a property's name, a raw value, and its values in jCal or "refused", with tabs between; a raw value may hold tabs.
 ghost use Prim.Native.Nat.{_≤_};
 ghost use lib.ListN.{length};
 use calendar::parts::find;
@@ -29,6 +30,20 @@ fn end_of(s: &[u8], sep: u8) -> usize
     if e < s.len() { e } else { s.len() }
 }
 
+// Where the last tab stands, or the end.
+fn last_tab(s: &[u8]) -> usize
+    ensures { λ r. ⌜ r ≤ length (now (s .entry)) ⌝ }
+{
+    let mut i = s.len();
+    while 0 < i {
+        i -= 1;
+        if s[i] == b'\t' {
+            return i;
+        }
+    }
+    s.len()
+}
+
 // Where what lies behind it begins.
 fn behind(s: &[u8], e: usize) -> usize
     ensures { λ r. ⌜ r ≤ length (now (s .entry)) ⌝ }
@@ -57,7 +72,7 @@ fn gives(sort: Sort, many: bool, raw: &[u8], want: &[u8]) -> bool {
 
 // A raw value, and what it must give.
 fn holds(sort: Sort, many: bool, s: &[u8]) -> bool {
-    let e = end_of(s, b'\t');
+    let e = last_tab(s);
     let from = behind(s, e);
     gives(sort, many, &s[0..e], &s[from..])
 }
@@ -110,9 +125,17 @@ fn run_all(text: &[u8]) -> u64 {
     n
 }
 
-fn main() {
+// Runs the cases of a file, and says how many there are.
+fn run_file(path: &[u8]) {
     let mut text = [0u8; 65536];
-    let n = load(b"cases", &mut text);
+    let n = load(path, &mut text);
     io::print_decimal(1, run_all(&text[0..n]));
-    io::write_all(1, b" cases\n");
+    io::write_all(1, b" in ");
+    io::write_all(1, path);
+    io::write_all(1, b"\n");
+}
+
+fn main() {
+    run_file(b"cases");
+    run_file(b"vectors");
 }

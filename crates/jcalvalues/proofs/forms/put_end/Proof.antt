@@ -9,11 +9,15 @@ use Rattle.jcalvalues.proofs.forms.put_end.Tie as tie
 
 returns : tie.Need-returns
 unfolding endShown
-returns c = as-text (c .before .before .put-form .ensures) (end-moment _ _ (sym (c .before .before .before .before .before .is-basic .ensures) ∙ c .before .before .before .before .if1 .taken))
+returns c =
+    let is-basic = c .before .before .before .before .before .is-basic in
+    as-text (c .before .before .put-form .ensures) (end-moment _ _ (sym (is-basic .ensures) ∙ c .before .before .before .before .if1 .taken))
 
 returns-2 : tie.Need-returns-2
 unfolding endShown
-returns-2 c = as-text (c .before .before .put-upper-string .ensures) (end-other _ _ (sym (c .before .before .before .before .before .is-basic .ensures) ∙ c .before .before .before .before .if1 .left))
+returns-2 c =
+    let is-basic = c .before .before .before .before .before .is-basic in
+    as-text (c .before .before .put-upper-string .ensures) (end-other _ _ (sym (is-basic .ensures) ∙ c .before .before .before .before .if1 .left))
 
 pub put-end-spec : {M : Type 1} → statement M
 put-end-spec =

@@ -17,10 +17,16 @@ part-put-form-end c = found-le _ _ _ (c .before .before .before .before .before 
 returns : tie.Need-returns
 unfolding periodShown
 returns c =
-    arrayed _ _ (c .before .before .before .before .before .before .before .before .before .before .before .before .before .before .before .before .before .before .before .before .put .ensures)
-    (as-text (c .before .before .before .before .before .before .before .before .before .before .before .before .before .before .before .put-form .ensures) (ap (λ (l : List ℕ). stringShown (dateTimeOf (upper l))) (first-half _ _ _ (c .before .before .before .before .before .before .before .before .before .before .before .before .before .before .before .before .before .before .before .before .before .before .before .find .ensures))))
-    (c .before .before .before .before .before .before .before .before .before .before .before .put2 .ensures)
-    (as-text (c .before .before .before .before .before .before .put-end .ensures) (ap endShown (second-half _ _ _ (c .before .before .before .before .before .before .before .before .before .before .before .before .before .before .before .before .before .before .before .before .before .before .before .find .ensures) _ (c .before .before .before .before .before .before .before .before .before .before .before .before .before .before .before .before .before .before .before .before .before .before .past .ensures .1))))
+    let put = c .before .before .before .before .before .before .before .before .before .before .before .before .before .before .before .before .before .before .before .before .put in
+    let put-form = c .before .before .before .before .before .before .before .before .before .before .before .before .before .before .before .put-form in
+    let find = c .before .before .before .before .before .before .before .before .before .before .before .before .before .before .before .before .before .before .before .before .before .before .before .find in
+    let put2 = c .before .before .before .before .before .before .before .before .before .before .before .put2 in
+    let put-end = c .before .before .before .before .before .before .put-end in
+    let past = c .before .before .before .before .before .before .before .before .before .before .before .before .before .before .before .before .before .before .before .before .before .before .past in
+    arrayed _ _ (put .ensures)
+    (as-text (put-form .ensures) (ap (λ (l : List ℕ). stringShown (dateTimeOf (upper l))) (first-half _ _ _ (find .ensures))))
+    (put2 .ensures)
+    (as-text (put-end .ensures) (ap endShown (second-half _ _ _ (find .ensures) _ (past .ensures .1))))
     (c .before .before .put3 .ensures)
 
 pub put-period-spec : {M : Type 1} → statement M

@@ -19,17 +19,21 @@ part-put-string-end : tie.Need-part-put-string-end
 part-put-string-end c = rw (wide (c .before .before .before .before .before)) (omega (arith, c .before .before .if1 .taken))
 
 returns : tie.Need-returns
-returns c = as-text (c .before .before .put-string .ensures) (ap printString (upto (c .before .before .before .before .before .before .before .before .before .args .t .octets) (c .before .before .before .before .before .before .before .before .before .args .t .len)))
+returns c =
+    let args = c .before .before .before .before .before .before .before .before .before .args in
+    as-text (c .before .before .put-string .ensures) (ap printString (upto (args .t .octets) (args .t .len)))
 
 part-put-string-end-2 : tie.Need-part-put-string-end-2
 part-put-string-end-2 c = rw (wide (c .before .before .before .before .before)) (omega arith)
 
 returns-2 : tie.Need-returns-2
 returns-2 c =
-    let o = c .before .before .before .before .before .before .before .before .before .args .t .octets in
-    let n = c .before .before .before .before .before .before .before .before .before .args .t .len in
+    let args = c .before .before .before .before .before .before .before .before .before .args in
+    let if1 = c .before .before .before .before .before .before .if1 in
+    let o = args .t .octets in
+    let n = args .t .len in
     let w = wide (c .before .before .before .before .before .before .before .before .before) in
-    as-text (c .before .before .put-string2 .ensures) (ap printString (upto o 20 ∙ take-all 20 o (rw w (omega arith)) ∙ sym (take-all n o (rw w (c .before .before .before .before .before .before .if1 .left)))))
+    as-text (c .before .before .put-string2 .ensures) (ap printString (upto o 20 ∙ take-all 20 o (rw w (omega arith)) ∙ sym (take-all n o (rw w (if1 .left)))))
 
 pub put-short-spec : {M : Type 1} → statement M
 put-short-spec =

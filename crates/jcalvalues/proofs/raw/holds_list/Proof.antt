@@ -1,5 +1,6 @@
 -- `jcalvalues::raw::holds_list` meets its contract: the values that are passed stand.
-use Prim.Native.Nat.{_-_, _≤_}
+use Prim.Native.Nat.{_-_, _≤_, _<_}
+use Prim.Native.Char.{code}
 use mathlib.Core.Path.{_≡_, refl, sym, _∙_}
 use native.Mathlib.Omega.{arith}
 use borrow.Author.Tests.{not-true, not-false}
@@ -19,42 +20,54 @@ Inv-loop sort many raw at₀ at = (at ≤ length raw) × (fit many (listed (read
 abbrev μ-loop : tie.MeasureT-loop
 μ-loop sort many raw at₀ at = length raw - at
 
+-- a separator stands ahead
+ahead : (c : tie.Else3 Inv-loop μ-loop) → c .before .before .before .before .before .find .result < length (c .before .before .before .before .before .before .before .before .before .args .raw .now) - c .before .before .before .before .before .before .before .loop .at
+ahead c =
+    let args = c .before .before .before .before .before .before .before .before .before .args in
+    let loop = c .before .before .before .before .before .before .before .loop in
+    let find = c .before .before .before .before .before .find in
+    scanned-in (code ",") (args .raw .now) (loop .at) (find .result) (find .ensures) (c .before .if2 .left)
+
 loop-holds : tie.Need-loop-holds Inv-loop μ-loop
 loop-holds c = (omega arith, refl)
 
 part-holds-one-end : tie.Need-part-holds-one-end Inv-loop μ-loop
 part-holds-one-end c =
-    let e = scanned-le 44 (c .before .before .before .before .args .raw .now) (c .before .before .loop .at) (c .find .result) (c .find .ensures) in
+    let e = scanned-le (code ",") (c .before .before .before .before .args .raw .now) (c .before .before .loop .at) (c .find .result) (c .find .ensures) in
     rw (length-take, length-drop) (omega arith)
 
 returns : tie.Need-returns Inv-loop μ-loop
-returns c = sym (c .before .before .before .before .before .loop .inv .1 ∙ value-wrong (readOne (sortSaid (c .before .before .before .before .before .before .before .args .sort))) (c .before .before .before .before .before .before .before .args .many) (c .before .before .before .before .before .before .before .args .raw .now) (c .before .before .before .before .before .loop .at) (c .before .before .before .find .result) (c .before .holds-one .result) (c .before .before .before .find .ensures) (c .before .holds-one .ensures) (not-true (c .before .holds-one .result) (c .if1 .taken)))
+returns c =
+    let loop = c .before .before .before .before .before .loop in
+    let args = c .before .before .before .before .before .before .before .args in
+    let find = c .before .before .before .find in
+    let holds-one = c .before .holds-one in
+    sym (loop .inv .1 ∙ value-wrong (readOne (sortSaid (args .sort))) (args .many) (args .raw .now) (loop .at) (find .result) (holds-one .result) (find .ensures) (holds-one .ensures) (not-true (holds-one .result) (c .if1 .taken)))
 
 returns-2 : tie.Need-returns-2 Inv-loop μ-loop
-returns-2 c = sym (c .before .before .before .before .before .before .loop .inv .1 ∙ value-last (readOne (sortSaid (c .before .before .before .before .before .before .before .before .args .sort))) (c .before .before .before .before .before .before .before .before .args .many) (c .before .before .before .before .before .before .before .before .args .raw .now) (c .before .before .before .before .before .before .loop .at) (c .before .before .before .before .find .result) (c .before .before .holds-one .result) (c .before .before .before .before .find .ensures) (c .before .before .holds-one .ensures) (not-false (c .before .before .holds-one .result) (c .before .if1 .left)) (c .if2 .taken))
+returns-2 c =
+    let loop = c .before .before .before .before .before .before .loop in
+    let args = c .before .before .before .before .before .before .before .before .args in
+    let find = c .before .before .before .before .find in
+    let holds-one = c .before .before .holds-one in
+    sym (loop .inv .1 ∙ value-last (readOne (sortSaid (args .sort))) (args .many) (args .raw .now) (loop .at) (find .result) (holds-one .result) (find .ensures) (holds-one .ensures) (not-false (holds-one .result) (c .before .if1 .left)) (c .if2 .taken))
 
 returns-3 : tie.Need-returns-3 Inv-loop μ-loop
-returns-3 c = sym (c .before .before .before .before .before .before .before .loop .inv .1 ∙ value-alone (readOne (sortSaid (c .before .before .before .before .before .before .before .before .before .args .sort))) (c .before .before .before .before .before .before .before .before .before .args .many) (c .before .before .before .before .before .before .before .before .before .args .raw .now) (c .before .before .before .before .before .before .before .loop .at) (c .before .before .before .before .before .find .result) (c .before .before .before .holds-one .result) (c .before .before .before .before .before .find .ensures) (c .before .before .before .holds-one .ensures) (c .before .if2 .left) (not-true (c .before .before .before .before .before .before .before .before .before .args .many) (c .if3 .taken)))
-
-add-at : tie.Need-add-at Inv-loop μ-loop
-add-at c =
-    let e = scanned-in 44 (c .before .before .before .before .before .before .before .before .before .args .raw .now) (c .before .before .before .before .before .before .before .loop .at) (c .before .before .before .before .before .find .result) (c .before .before .before .before .before .find .ensures) (c .before .if2 .left) in
-    omega arith
-
-add-at-2 : tie.Need-add-at-2 Inv-loop μ-loop
-add-at-2 c =
-    let e = scanned-in 44 (c .before .before .before .before .before .before .before .before .before .args .raw .now) (c .before .before .before .before .before .before .before .loop .at) (c .before .before .before .before .before .find .result) (c .before .before .before .before .before .find .ensures) (c .before .if2 .left) in
-    omega arith
-
-loop-less : tie.Need-loop-less Inv-loop μ-loop
-loop-less c =
-    let e = scanned-in 44 (c .before .before .before .before .before .before .before .before .before .args .raw .now) (c .before .before .before .before .before .before .before .loop .at) (c .before .before .before .before .before .find .result) (c .before .before .before .before .before .find .ensures) (c .before .if2 .left) in
-    omega arith
+returns-3 c =
+    let loop = c .before .before .before .before .before .before .before .loop in
+    let args = c .before .before .before .before .before .before .before .before .before .args in
+    let find = c .before .before .before .before .before .find in
+    let holds-one = c .before .before .before .holds-one in
+    sym (loop .inv .1 ∙ value-alone (readOne (sortSaid (args .sort))) (args .many) (args .raw .now) (loop .at) (find .result) (holds-one .result) (find .ensures) (holds-one .ensures) (c .before .if2 .left) (not-true (args .many) (c .if3 .taken)))
 
 loop-again : tie.Need-loop-again Inv-loop μ-loop
 loop-again c =
-    let e = scanned-in 44 (c .before .before .before .before .before .before .before .before .before .args .raw .now) (c .before .before .before .before .before .before .before .loop .at) (c .before .before .before .before .before .find .result) (c .before .before .before .before .before .find .ensures) (c .before .if2 .left) in
-    (omega arith, c .before .before .before .before .before .before .before .loop .inv .1 ∙ value-on (readOne (sortSaid (c .before .before .before .before .before .before .before .before .before .args .sort))) (c .before .before .before .before .before .before .before .before .before .args .many) (c .before .before .before .before .before .before .before .before .before .args .raw .now) (c .before .before .before .before .before .before .before .loop .at) (c .before .before .before .before .before .find .result) (c .before .before .before .holds-one .result) (c .before .before .before .before .before .find .ensures) (c .before .before .before .holds-one .ensures) (not-false (c .before .before .before .holds-one .result) (c .before .before .if1 .left)) (c .before .if2 .left) (not-false (c .before .before .before .before .before .before .before .before .before .args .many) (c .if3 .left)))
+    let loop = c .before .before .before .before .before .before .before .loop in
+    let args = c .before .before .before .before .before .before .before .before .before .args in
+    let find = c .before .before .before .before .before .find in
+    let holds-one = c .before .before .before .holds-one in
+    let e = ahead c in
+    (omega arith, loop .inv .1 ∙ value-on (readOne (sortSaid (args .sort))) (args .many) (args .raw .now) (loop .at) (find .result) (holds-one .result) (find .ensures) (holds-one .ensures) (not-false (holds-one .result) (c .before .before .if1 .left)) (c .before .if2 .left) (not-false (args .many) (c .if3 .left)))
 
 pub holds-list-spec : {M : Type 1} → statement M
 holds-list-spec =
@@ -74,7 +87,7 @@ holds-list-spec =
     returns
     returns-2
     returns-3
-    add-at
-    add-at-2
-    loop-less
+    (λ c. omega (arith, ahead c))
+    (λ c. omega (arith, ahead c))
+    (λ c. omega (arith, ahead c))
     loop-again)

@@ -13,10 +13,14 @@ returns-2 : tie.Need-returns-2
 returns-2 c = held-single _ _ (sym (c .before .before .before .is-text .ensures) ∙ c .before .before .if1 .taken) _ (c .before .count-texts .ensures) _ (c .if2 .left)
 
 returns-3 : tie.Need-returns-3
-returns-3 c = c .holds-list .ensures ∙ ap (fit (c .before .before .before .before .before .before .args .many)) (sym (read-listed _ _ (sym (c .before .before .before .before .is-text .ensures) ∙ c .before .before .before .if1 .left) (sym (c .before .before .splits .ensures) ∙ c .before .if3 .taken)))
+returns-3 c =
+    let args = c .before .before .before .before .before .before .args in
+    c .holds-list .ensures ∙ ap (fit (args .many)) (sym (read-listed _ _ (sym (c .before .before .before .before .is-text .ensures) ∙ c .before .before .before .if1 .left) (sym (c .before .before .splits .ensures) ∙ c .before .if3 .taken)))
 
 returns-4 : tie.Need-returns-4
-returns-4 c = c .holds-one .ensures ∙ held-alone (c .before .before .before .before .before .before .args .many) _ ∙ ap (fit (c .before .before .before .before .before .before .args .many)) (sym (read-alone (sortSaid (c .before .before .before .before .before .before .args .sort)) (c .before .before .before .before .before .before .args .raw .now) (sym (c .before .before .before .before .is-text .ensures) ∙ c .before .before .before .if1 .left) (sym (c .before .before .splits .ensures) ∙ c .before .if3 .left)))
+returns-4 c =
+    let args = c .before .before .before .before .before .before .args in
+    c .holds-one .ensures ∙ held-alone (args .many) _ ∙ ap (fit (args .many)) (sym (read-alone (sortSaid (args .sort)) (args .raw .now) (sym (c .before .before .before .before .is-text .ensures) ∙ c .before .before .before .if1 .left) (sym (c .before .before .splits .ensures) ∙ c .before .if3 .left)))
 
 pub holds-values-spec : {M : Type 1} → statement M
 holds-values-spec =

@@ -8,13 +8,26 @@ use Rattle.jcalvalues.proofs.raw.put_values.Statement.{statement}
 use Rattle.jcalvalues.proofs.raw.put_values.Tie as tie
 
 returns : tie.Need-returns
-returns c = wrote-values _ _ (then (c .before .before .before .before .before .before .before .before .put .ensures) (c .before .before .put-texts .ensures)) (texts-values _ _ (sym (c .before .before .before .before .before .is-text .ensures) ∙ c .before .before .before .before .if1 .taken))
+returns c =
+    let put = c .before .before .before .before .before .before .before .before .put in
+    let is-text = c .before .before .before .before .before .is-text in
+    wrote-values _ _ (then (put .ensures) (c .before .before .put-texts .ensures)) (texts-values _ _ (sym (is-text .ensures) ∙ c .before .before .before .before .if1 .taken))
 
 returns-2 : tie.Need-returns-2
-returns-2 c = wrote-values _ _ (then (c .before .before .before .before .before .before .before .before .before .before .put .ensures) (c .before .before .put-list .ensures)) (listed-values _ _ (sym (c .before .before .before .before .before .before .before .is-text .ensures) ∙ c .before .before .before .before .before .before .if1 .left) (sym (c .before .before .before .before .before .splits .ensures) ∙ c .before .before .before .before .if2 .taken))
+returns-2 c =
+    let put = c .before .before .before .before .before .before .before .before .before .before .put in
+    let is-text = c .before .before .before .before .before .before .before .is-text in
+    let if1 = c .before .before .before .before .before .before .if1 in
+    let splits = c .before .before .before .before .before .splits in
+    wrote-values _ _ (then (put .ensures) (c .before .before .put-list .ensures)) (listed-values _ _ (sym (is-text .ensures) ∙ if1 .left) (sym (splits .ensures) ∙ c .before .before .before .before .if2 .taken))
 
 returns-3 : tie.Need-returns-3
-returns-3 c = wrote-values _ _ (then (c .before .before .before .before .before .before .before .before .before .before .put .ensures) (c .before .before .put-one .ensures)) (alone-values _ _ (sym (c .before .before .before .before .before .before .before .is-text .ensures) ∙ c .before .before .before .before .before .before .if1 .left) (sym (c .before .before .before .before .before .splits .ensures) ∙ c .before .before .before .before .if2 .left))
+returns-3 c =
+    let put = c .before .before .before .before .before .before .before .before .before .before .put in
+    let is-text = c .before .before .before .before .before .before .before .is-text in
+    let if1 = c .before .before .before .before .before .before .if1 in
+    let splits = c .before .before .before .before .before .splits in
+    wrote-values _ _ (then (put .ensures) (c .before .before .put-one .ensures)) (alone-values _ _ (sym (is-text .ensures) ∙ if1 .left) (sym (splits .ensures) ∙ c .before .before .before .before .if2 .left))
 
 pub put-values-spec : {M : Type 1} → statement M
 put-values-spec =

@@ -14,7 +14,9 @@ returns c = as-text (c .before .before .put-quoted .ensures) (rw (c .before .bef
 
 returns-2 : tie.Need-returns-2
 unfolding sortSaid itemJsonShown
-returns-2 c = as-text (c .before .before .put-short .ensures) (short-shown _ _ (c .before .before .before .extended-moment .ensures) ∙ rw (c .before .before .before .before .before .enum-told2 .given .1))
+returns-2 c =
+    let enum-told2 = c .before .before .before .before .before .enum-told2 in
+    as-text (c .before .before .put-short .ensures) (short-shown _ _ (c .before .before .before .extended-moment .ensures) ∙ rw (enum-told2 .given .1))
 
 returns-3 : tie.Need-returns-3
 unfolding sortSaid itemJsonShown

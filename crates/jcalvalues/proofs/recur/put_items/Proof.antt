@@ -7,10 +7,17 @@ use Rattle.jcalvalues.proofs.recur.put_items.Statement.{statement}
 use Rattle.jcalvalues.proofs.recur.put_items.Tie as tie
 
 returns : tie.Need-returns
-returns c = as-text (c .before .before .put-item-json .ensures) (items-plain _ _ _ (c .before .before .before .before .before .find .ensures) (c .before .before .before .before .if1 .taken))
+returns c =
+    let find = c .before .before .before .before .before .find in
+    as-text (c .before .before .put-item-json .ensures) (items-plain _ _ _ (find .ensures) (c .before .before .before .before .if1 .taken))
 
 returns-2 : tie.Need-returns-2
-returns-2 c = as-text (wrapped _ _ (c .before .before .before .before .before .before .before .before .before .before .put .ensures) (c .before .before .before .before .before .before .put-item-list .ensures) (c .before .before .put2 .ensures)) (items-array _ _ _ (c .before .before .before .before .before .before .before .before .before .before .before .before .before .find .ensures) (c .before .before .before .before .before .before .before .before .before .before .before .before .if1 .left))
+returns-2 c =
+    let put = c .before .before .before .before .before .before .before .before .before .before .put in
+    let put-item-list = c .before .before .before .before .before .before .put-item-list in
+    let find = c .before .before .before .before .before .before .before .before .before .before .before .before .before .find in
+    let if1 = c .before .before .before .before .before .before .before .before .before .before .before .before .if1 in
+    as-text (wrapped _ _ (put .ensures) (put-item-list .ensures) (c .before .before .put2 .ensures)) (items-array _ _ _ (find .ensures) (if1 .left))
 
 pub put-items-spec : {M : Type 1} → statement M
 put-items-spec =

@@ -19,7 +19,12 @@ part-put-items-end : tie.Need-part-put-items-end
 part-put-items-end c = part-places _ _ (c .before .before .before .before .before .before .before .first-part .ensures) .2
 
 returns : tie.Need-returns
-returns c = part-wrote (c .before .before .before .before .before .before .before .before .before .before .before .before .before .before .args .s .now) (c .before .before .before .before .before .before .before .before .before .before .before .first-part .result) (sortSaid (c .before .before .before .before .sort-of .result)) (c .before .before .before .before .before .before .before .before .before .before .before .first-part .ensures) (c .before .before .before .before .sort-of .ensures) (c .before .before .before .before .before .before .before .before .put-key .ensures) (c .before .before .put-items .ensures)
+returns c =
+    let args = c .before .before .before .before .before .before .before .before .before .before .before .before .before .before .args in
+    let first-part = c .before .before .before .before .before .before .before .before .before .before .before .first-part in
+    let sort-of = c .before .before .before .before .sort-of in
+    let put-key = c .before .before .before .before .before .before .before .before .put-key in
+    part-wrote (args .s .now) (first-part .result) (sortSaid (sort-of .result)) (first-part .ensures) (sort-of .ensures) (put-key .ensures) (c .before .before .put-items .ensures)
 
 pub put-part-spec : {M : Type 1} → statement M
 put-part-spec =

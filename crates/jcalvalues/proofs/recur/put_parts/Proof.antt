@@ -1,5 +1,6 @@
 -- `jcalvalues::recur::put_parts` meets its contract: what is written is followed by the parts ahead.
-use Prim.Native.Nat.{_-_, _≤_}
+use Prim.Native.Nat.{_-_, _≤_, _<_}
+use Prim.Native.Char.{code}
 use mathlib.Core.Path.{_≡_, refl}
 use native.Mathlib.Omega.{arith}
 use lib.ListN.{length, drop, length-take, length-drop}
@@ -20,37 +21,40 @@ Inv-loop out₀ at s p₀ i₀ out p i =
 abbrev μ-loop : tie.MeasureT-loop
 μ-loop out₀ at s p₀ i₀ out p i = length s - i
 
+-- a separator stands ahead
+ahead : (c : tie.After-slice-known3 Inv-loop μ-loop) → c .before .before .before .before .before .before .before .before .before .before .find .result < length (c .before .before .before .before .before .before .before .before .before .before .before .before .before .before .before .args .s .now) - c .before .before .before .before .before .before .before .before .before .before .before .before .loop .i
+ahead c =
+    let args = c .before .before .before .before .before .before .before .before .before .before .before .before .before .before .before .args in
+    let loop = c .before .before .before .before .before .before .before .before .before .before .before .before .loop in
+    let find = c .before .before .before .before .before .before .before .before .before .before .find in
+    scanned-in (code ";") (args .s .now) (loop .i) (find .result) (find .ensures) (c .before .before .before .before .if1 .left)
+
 loop-holds : tie.Need-loop-holds Inv-loop μ-loop
 loop-holds c = (omega arith, refl, leads-start)
 
 part-put-part-end : tie.Need-part-put-part-end Inv-loop μ-loop
 part-put-part-end c =
-    let e = scanned-le 59 (c .before .before .before .before .before .before .args .s .now) (c .before .before .before .loop .i) (c .before .find .result) (c .before .find .ensures) in
+    let args = c .before .before .before .before .before .before .args in
+    let find = c .before .find in
+    let e = scanned-le (code ";") (args .s .now) (c .before .before .before .loop .i) (find .result) (find .ensures) in
     rw (length-take, length-drop) (omega arith)
 
 returns : tie.Need-returns Inv-loop μ-loop
-returns c = leads-last (c .before .before .before .before .before .before .before .before .loop .inv .2) (c .before .before .before .put-part .ensures) (list-last partShown 59 (c .before .before .before .before .before .before .before .before .before .before .before .args .s .now) (c .before .before .before .before .before .before .before .before .loop .i) (c .before .before .before .before .before .before .find .result) (c .before .before .before .before .before .before .find .ensures) (c .if1 .taken))
-
-add-i : tie.Need-add-i Inv-loop μ-loop
-add-i c =
-    let e = scanned-in 59 (c .before .before .before .before .before .before .before .before .before .before .before .before .before .before .before .args .s .now) (c .before .before .before .before .before .before .before .before .before .before .before .before .loop .i) (c .before .before .before .before .before .before .before .before .before .before .find .result) (c .before .before .before .before .before .before .before .before .before .before .find .ensures) (c .before .before .before .before .if1 .left) in
-    omega arith
-
-add-i-2 : tie.Need-add-i-2 Inv-loop μ-loop
-add-i-2 c =
-    let e = scanned-in 59 (c .before .before .before .before .before .before .before .before .before .before .before .before .before .before .before .args .s .now) (c .before .before .before .before .before .before .before .before .before .before .before .before .loop .i) (c .before .before .before .before .before .before .before .before .before .before .find .result) (c .before .before .before .before .before .before .before .before .before .before .find .ensures) (c .before .before .before .before .if1 .left) in
-    omega arith
-
-loop-less : tie.Need-loop-less Inv-loop μ-loop
-loop-less c =
-    let e = scanned-in 59 (c .before .before .before .before .before .before .before .before .before .before .before .before .before .before .before .args .s .now) (c .before .before .before .before .before .before .before .before .before .before .before .before .loop .i) (c .before .before .before .before .before .before .before .before .before .before .find .result) (c .before .before .before .before .before .before .before .before .before .before .find .ensures) (c .before .before .before .before .if1 .left) in
-    omega arith
+returns c =
+    let loop = c .before .before .before .before .before .before .before .before .loop in
+    let args = c .before .before .before .before .before .before .before .before .before .before .before .args in
+    let find = c .before .before .before .before .before .before .find in
+    leads-last (loop .inv .2) (c .before .before .before .put-part .ensures) (list-last partShown (code ";") (args .s .now) (loop .i) (find .result) (find .ensures) (c .if1 .taken))
 
 loop-again : tie.Need-loop-again Inv-loop μ-loop
 loop-again c =
-    let e = scanned-in 59 (c .before .before .before .before .before .before .before .before .before .before .before .before .before .before .before .args .s .now) (c .before .before .before .before .before .before .before .before .before .before .before .before .loop .i) (c .before .before .before .before .before .before .before .before .before .before .find .result) (c .before .before .before .before .before .before .before .before .before .before .find .ensures) (c .before .before .before .before .if1 .left) in
-    let m = list-more partShown 59 (c .before .before .before .before .before .before .before .before .before .before .before .before .before .before .before .args .s .now) (c .before .before .before .before .before .before .before .before .before .before .before .before .loop .i) (c .before .before .before .before .before .before .before .before .before .before .find .result) (c .before .before .before .before .before .before .before .before .before .before .find .ensures) (c .before .before .before .before .if1 .left) in
-    (omega arith, omega arith, leads-on (c .before .before .before .before .before .before .before .before .before .before .before .before .loop .inv .2) (then (c .before .before .before .before .before .before .before .put-part .ensures) (c .before .before .put .ensures)) m)
+    let args = c .before .before .before .before .before .before .before .before .before .before .before .before .before .before .before .args in
+    let loop = c .before .before .before .before .before .before .before .before .before .before .before .before .loop in
+    let find = c .before .before .before .before .before .before .before .before .before .before .find in
+    let put-part = c .before .before .before .before .before .before .before .put-part in
+    let e = ahead c in
+    let m = list-more partShown (code ";") (args .s .now) (loop .i) (find .result) (find .ensures) (c .before .before .before .before .if1 .left) in
+    (omega arith, omega arith, leads-on (loop .inv .2) (then (put-part .ensures) (c .before .before .put .ensures)) m)
 
 pub put-parts-spec : {M : Type 1} → statement M
 put-parts-spec =
@@ -70,7 +74,7 @@ put-parts-spec =
     (λ c. search needs)
     returns
     (λ c κs. search needs)
-    add-i
-    add-i-2
-    loop-less
+    (λ c. omega (arith, ahead c))
+    (λ c. omega (arith, ahead c))
+    (λ c. omega (arith, ahead c))
     loop-again)

@@ -7,7 +7,10 @@ use Rattle.jcalvalues.proofs.single.put_status.Tie as tie
 
 returns : tie.Need-returns
 unfolding statusShown
-returns c = wrapped _ _ (c .before .before .before .before .before .before .before .before .before .before .put .ensures) (c .before .before .before .before .before .before .put-fields .ensures) (c .before .before .put2 .ensures)
+returns c =
+    let put = c .before .before .before .before .before .before .before .before .before .before .put in
+    let put-fields = c .before .before .before .before .before .before .put-fields in
+    wrapped _ _ (put .ensures) (put-fields .ensures) (c .before .before .put2 .ensures)
 
 pub put-status-spec : {M : Type 1} → statement M
 put-status-spec =
