@@ -5,3 +5,4 @@ pub mod Ends
 pub mod Planning
 pub mod Listing
 pub mod Again
+pub mod Worked

@@ -2,3 +2,4 @@ pub mod Cutting
 pub mod Numbers
 pub mod Showing
 pub mod Answering
+pub mod Worked

@@ -1,4 +1,5 @@
 -- `stoplist::runs::run_at` meets its contract: its tests are the definition's.
+use native.Mathlib.Omega.{arith}
 use borrow.Author.Tests.{lt-ltb, le-ltb}
 use borrow.Author.Needs.{needs}
 use Rattle.stoplist.specs.Runs.{runAt}
@@ -10,11 +11,11 @@ is-within-requires c κs = search needs
 
 returns : tie.Need-returns
 unfolding runAt
-returns c = rw (lt-ltb _ _ (c .before .if1 .taken), c .is-within .ensures)
+returns c = rw (lt-ltb (c .before .before .args .at) (c .before .before .args .room) (omega arith), c .is-within .ensures)
 
 returns-2 : tie.Need-returns-2
 unfolding runAt
-returns-2 c = rw (le-ltb _ _ (c .if1 .left))
+returns-2 c = rw (le-ltb (c .before .args .at) (c .before .args .room) (omega arith))
 
 pub run-at-spec : {M : Type 1} → statement M
 run-at-spec = tie.close (tie.spec is-within-requires returns returns-2)
