@@ -1,0 +1,169 @@
+// Runs the cases that data/index names: NAME.ics with the rows of NAME.rows, if there are any, must give NAME.out, a text or the line of a refusal.
+ghost use Prim.Native.Nat.{_≤_};
+ghost use lib.ListN.{length};
+use jcal::to_jcal;
+use octets::Converted;
+use octets::put;
+use octets::put_all;
+use octets::put_decimal;
+use octets::same;
+
+// What a buffer holds where nothing is written.
+const BLANK: u8 = 170;
+
+// Reads a file, and answers its length; 0 where there is none.
+fn load(path: &[u8], buf: &mut [u8]) -> usize
+    ensures { λ r. ⌜ r ≤ length (now (buf .exit)) ⌝ }
+{
+    let fd = os::open_read(path);
+    if fd < 0 {
+        return 0;
+    }
+    let n = io::read_full(fd, buf);
+    libc::close(fd);
+    n
+}
+
+// Reads a file of a case.
+fn load_part(name: &[u8], ending: &[u8], buf: &mut [u8]) -> usize
+    ensures { λ r. ⌜ r ≤ length (now (buf .exit)) ⌝ }
+{
+    let mut path = [0u8; 64];
+    let n = put_all(&mut path, 0, name);
+    let e = put_all(&mut path, n, ending);
+    if 64 < e {
+        return 0;
+    }
+    load(&path[0..e], buf)
+}
+
+// Whether from `from` on there is nothing but b.
+fn rest_is(s: &[u8], from: usize, b: u8) -> bool {
+    let mut i = from;
+    while i < s.len() {
+        if s[i] != b {
+            return false;
+        }
+        i += 1;
+    }
+    true
+}
+
+// The line of a refusal is this one.
+fn is_line(number: u8, want: &[u8]) -> bool {
+    let mut line = [0u8; 32];
+    let a = put_all(&mut line, 0, b"refused ");
+    let b = put_decimal(&mut line, a, number as u64);
+    let n = put(&mut line, b, b'\n');
+    if 32 < n {
+        return false;
+    }
+    same(&line[0..n], want)
+}
+
+// The text stands at the front, and what lies behind is unchanged.
+fn is_text(out: &[u8], n: usize, want: &[u8]) -> bool {
+    if out.len() < n {
+        return false;
+    }
+    if !rest_is(out, n, BLANK) {
+        return false;
+    }
+    same(&out[0..n], want)
+}
+
+// The answer and the buffer are as they must be.
+fn is_answer(r: Converted, out: &[u8], want: &[u8]) -> bool {
+    match r {
+        Converted::Written(n) => is_text(out, n, want),
+        Converted::Refused(why) => {
+            if !rest_is(out, 0, 0) {
+                return false;
+            }
+            is_line(why.number(), want)
+        }
+    }
+}
+
+// The conversion into a buffer of n octets gives what it must.
+fn gives(text: &[u8], rows: &[u8], n: usize, want: &[u8]) -> bool {
+    if 65536 < n {
+        return false;
+    }
+    let mut lent = [BLANK; 65536];
+    let out = &mut lent[0..n];
+    let r = to_jcal(text, rows, out);
+    is_answer(r, out, want)
+}
+
+// A text fits into a buffer of its length, and into no shorter one.
+fn just_fits(text: &[u8], rows: &[u8], n: usize, want: &[u8]) -> bool {
+    if n == 0 {
+        return false;
+    }
+    if !gives(text, rows, n, want) {
+        return false;
+    }
+    gives(text, rows, n - 1, b"refused 10\n")
+}
+
+fn holds(text: &[u8], rows: &[u8], want: &[u8]) -> bool {
+    let mut out = [BLANK; 65536];
+    let r = to_jcal(text, rows, &mut out);
+    if !is_answer(r, &out, want) {
+        return false;
+    }
+    match r {
+        Converted::Written(n) => just_fits(text, rows, n, want),
+        Converted::Refused(_) => true,
+    }
+}
+
+// Runs a case, and says so where it fails.
+fn run(name: &[u8]) {
+    let mut text = [0u8; 65538];
+    let mut rows = [0u8; 8192];
+    let mut want = [0u8; 65537];
+    let n = load_part(name, b".ics", &mut text);
+    let m = load_part(name, b".rows", &mut rows);
+    let k = load_part(name, b".out", &mut want);
+    if !holds(&text[0..n], &rows[0..m], &want[0..k]) {
+        io::write_all(1, b"failed: ");
+        io::write_all(1, name);
+        io::write_all(1, b"\n");
+    }
+}
+
+fn line_end(s: &[u8], from: usize) -> usize
+    requires { ⌜ from ≤ length (now s) ⌝ }
+    ensures { λ r. ⌜ (from ≤ r) × (r ≤ length (now (s .entry))) ⌝ }
+{
+    let mut i = from;
+    while i < s.len() {
+        if s[i] == b'\n' {
+            return i;
+        }
+        i += 1;
+    }
+    i
+}
+
+// Runs the cases, and answers how many there are.
+fn run_all(index: &[u8]) -> u64 {
+    let mut n: u64 = 0;
+    let mut i = 0;
+    while i < index.len() {
+        let e = line_end(index, i);
+        run(&index[i..e]);
+        n += 1;
+        i = e + 1;
+    }
+    n
+}
+
+fn main() {
+    let mut index = [0u8; 16384];
+    let n = load(b"index", &mut index);
+    io::print_decimal(1, run_all(&index[0..n]));
+    io::write_all(1, b" cases\n");
+}
