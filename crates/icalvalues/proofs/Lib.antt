@@ -1,0 +1,5 @@
+pub mod Places
+pub mod Listed
+pub mod Arrays
+pub mod Escapes
+pub mod Sorted

@@ -1,0 +1,50 @@
+-- `icalvalues::testing::all_texts` meets its contract.
+use Prim.Native.Nat.{_-_}
+use mathlib.Core.Path.{_≡_, refl, sym, _∙_}
+use native.Mathlib.Omega.{arith}
+use borrow.Author.Needs.{needs}
+use borrow.Author.Tests.{not-true, not-false}
+use lib.ListN.{length}
+use Rattle.octets.specs.Basics.{all}
+use Rattle.tape.specs.Decode.{listAt}
+use Rattle.values.specs.Texts.{textIs}
+use Rattle.values.specs.Write.{isString}
+use Rattle.icalvalues.proofs.Listed.{listed-end, listed-stop, listed-on}
+use Rattle.icalvalues.proofs.testing.all_texts.Tie as tie
+use Rattle.icalvalues.proofs.testing.all_texts.Statement.{statement}
+
+abbrev Inv-loop : tie.InvT-loop
+Inv-loop t at i₀ i = all (isString textIs) (listAt t i) ≡ all (isString textIs) (listAt t at)
+
+abbrev μ-loop : tie.MeasureT-loop
+μ-loop t at i₀ i = length t - i
+
+loop-holds : tie.Need-loop-holds Inv-loop μ-loop
+loop-holds c = refl
+
+returns : tie.Need-returns Inv-loop μ-loop
+returns c = sym (listed-end _ _ _ (sym (c .before .tag .ensures) ∙ c .if1 .taken)) ∙ c .before .before .loop .inv
+
+returns-2 : tie.Need-returns-2 Inv-loop μ-loop
+returns-2 c = sym (listed-stop _ _ _ (λ z. c .before .before .if1 .left (c .before .before .before .tag .ensures ∙ z)) (sym (c .before .text-stands .ensures) ∙ not-true _ (c .if2 .taken))) ∙ c .before .before .before .before .loop .inv
+
+loop-less : tie.Need-loop-less Inv-loop μ-loop
+loop-less c = omega (arith, c .behind .ensures .more (λ z. c .before .before .before .if1 .left (c .before .before .before .before .tag .ensures ∙ z)), c .behind .ensures .high)
+
+loop-again : tie.Need-loop-again Inv-loop μ-loop
+loop-again c = sym (listed-on _ _ _ (λ z. c .before .before .before .if1 .left (c .before .before .before .before .tag .ensures ∙ z)) (c .behind .ensures) (sym (c .before .before .text-stands .ensures) ∙ not-false _ (c .before .if2 .left))) ∙ c .before .before .before .before .before .loop .inv
+
+pub all-texts-spec : {M : Type 1} → statement M
+all-texts-spec =
+    tie.close
+    (tie.spec
+    Inv-loop
+    μ-loop
+    loop-holds
+    (λ c κs. search needs)
+    returns
+    (λ c κs. search needs)
+    returns-2
+    (λ c κs. search needs)
+    loop-less
+    loop-again)

@@ -1,0 +1,25 @@
+-- `icalvalues::writing::fold_basic` meets its contract.
+use mathlib.Core.Path.{_∙_}
+use borrow.Author.Needs.{needs}
+use Rattle.octets.proofs.Positions.{upto}
+use Rattle.content.proofs.Folding.{as-folded}
+use Rattle.icalvalues.proofs.writing.fold_basic.Tie as tie
+use Rattle.icalvalues.proofs.writing.fold_basic.Statement.{statement}
+
+part-fold-all-end : tie.Need-part-fold-all-end
+part-fold-all-end c = c .before .before .before .basic .ensures .room
+
+returns : tie.Need-returns
+returns c = as-folded (c .before .before .fold-all .ensures) (upto (c .before .before .before .before .before .before .before .basic .result .octets) (c .before .before .before .before .before .before .before .basic .result .len) ∙ c .before .before .before .before .before .before .before .basic .ensures .octets)
+
+pub fold-basic-spec : {M : Type 1} → statement M
+fold-basic-spec =
+    tie.close
+    (tie.spec
+    (λ c κs. search needs)
+    (λ c. search needs)
+    (λ c. search needs)
+    part-fold-all-end
+    (λ c κs. search needs)
+    (λ c. search needs)
+    returns)

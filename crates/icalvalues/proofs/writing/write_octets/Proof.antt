@@ -1,0 +1,20 @@
+-- `icalvalues::writing::write_octets` meets its contract.
+use borrow.Author.Needs.{needs}
+use Rattle.content.proofs.Folding.{as-folded}
+use Rattle.icalvalues.proofs.writing.write_octets.Tie as tie
+use Rattle.icalvalues.proofs.writing.write_octets.Statement.{statement}
+
+returns : tie.Need-returns
+returns c = as-folded (c .before .before .fold-all .ensures) ((c .before .before .before .before .before .text-at .ensures .part))
+
+pub write-octets-spec : {M : Type 1} → statement M
+write-octets-spec =
+    tie.close
+    (tie.spec
+    (λ c κs. search needs)
+    (λ c. search needs)
+    (λ c. search needs)
+    (λ c. search needs)
+    (λ c κs. search needs)
+    (λ c. search needs)
+    returns)

@@ -1,0 +1,22 @@
+-- `icalvalues::writing::write_upper` meets its contract.
+use mathlib.Core.Path.{ap}
+use borrow.Author.Needs.{needs}
+use Rattle.octets.specs.Classes.{upper}
+use Rattle.content.proofs.Folding.{as-folded}
+use Rattle.icalvalues.proofs.writing.write_upper.Tie as tie
+use Rattle.icalvalues.proofs.writing.write_upper.Statement.{statement}
+
+returns : tie.Need-returns
+returns c = as-folded (c .before .before .fold-upper .ensures) (ap upper (c .before .before .before .before .before .text-at .ensures .part))
+
+pub write-upper-spec : {M : Type 1} → statement M
+write-upper-spec =
+    tie.close
+    (tie.spec
+    (λ c κs. search needs)
+    (λ c. search needs)
+    (λ c. search needs)
+    (λ c. search needs)
+    (λ c κs. search needs)
+    (λ c. search needs)
+    returns)

@@ -1,0 +1,288 @@
+// Which JSON values a sort takes.
+ghost use mathlib.Core.Path.{_≡_};
+ghost use Prim.Native.Nat.{_≤_};
+ghost use lib.ListN.{length};
+ghost use Rattle.octets.specs.Basics.{_and_, _or_, all, single};
+ghost use Rattle.octets.specs.Classes.{plainOctet, upper};
+ghost use Rattle.octets.specs.Optional.{isSome};
+ghost use Rattle.calendar.specs.Texts.{formIs};
+ghost use Rattle.calendar.specs.Durations.{durationIs, periodEndIs};
+ghost use Rattle.json.specs.Tree.{boolean?};
+ghost use Rattle.tape.specs.Decode.{valueAt, listAt};
+ghost use Rattle.values.specs.Sorts.{geo, period, status, splits};
+ghost use Rattle.values.specs.Texts.{textIs};
+ghost use Rattle.values.specs.Simple.{binaryIs, floatOf, integerOf};
+ghost use Rattle.values.specs.Write.{isString, isLettered, isNumber, valueIs, valuesAre};
+ghost use Rattle.values.specs.Coded.{sortSaid};
+ghost use Rattle.icalrecur.specs.Room.{hasRoom};
+use calendar::durations::is_duration;
+use calendar::durations::is_extended_period_end;
+use calendar::texts::Form;
+use calendar::texts::is_extended;
+use icalrecur::is_recur;
+use octets::all_plain;
+use octets::all_text;
+use tape::ARRAY;
+use tape::END;
+use tape::FALSE;
+use tape::NUMBER;
+use tape::STRING;
+use tape::TRUE;
+use tape::after;
+use tape::behind;
+use tape::count;
+use tape::tag;
+use tape::text_at;
+use values::Sort;
+use values::simple::is_binary;
+use values::simple::is_float;
+use values::simple::is_integer;
+
+// A string without control characters but tab.
+fn plain_at(t: &[u8], at: usize) -> bool
+    ensures { λ r. ⌜ r ≡ isString (all plainOctet) (valueAt (now (t .entry)) at) ⌝ }
+{
+    if tag(t, at) != STRING {
+        return false;
+    }
+    let s = text_at(t, at);
+    let from = s.from;
+    let to = s.to;
+    all_plain(&t[from..to])
+}
+
+// A string of Base64.
+fn binary_at(t: &[u8], at: usize) -> bool
+    ensures { λ r. ⌜ r ≡ isString binaryIs (valueAt (now (t .entry)) at) ⌝ }
+{
+    if tag(t, at) != STRING {
+        return false;
+    }
+    let s = text_at(t, at);
+    let from = s.from;
+    let to = s.to;
+    is_binary(&t[from..to])
+}
+
+// A string without control characters but tab and newline.
+fn text_stands(t: &[u8], at: usize) -> bool
+    ensures { λ r. ⌜ r ≡ isString textIs (valueAt (now (t .entry)) at) ⌝ }
+{
+    if tag(t, at) != STRING {
+        return false;
+    }
+    let s = text_at(t, at);
+    let from = s.from;
+    let to = s.to;
+    all_text(&t[from..to])
+}
+
+// A string in the extended form.
+fn form_at(t: &[u8], at: usize, form: Form) -> bool
+    ensures { λ r. ⌜ r ≡ isLettered (formIs form) (valueAt (now (t .entry)) at) ⌝ }
+{
+    if tag(t, at) != STRING {
+        return false;
+    }
+    let s = text_at(t, at);
+    let from = s.from;
+    let to = s.to;
+    is_extended(form, &t[from..to])
+}
+
+// A duration.
+fn duration_at(t: &[u8], at: usize) -> bool
+    ensures { λ r. ⌜ r ≡ isLettered durationIs (valueAt (now (t .entry)) at) ⌝ }
+{
+    if tag(t, at) != STRING {
+        return false;
+    }
+    let s = text_at(t, at);
+    let from = s.from;
+    let to = s.to;
+    is_duration(&t[from..to])
+}
+
+// A period's end.
+fn end_at(t: &[u8], at: usize) -> bool
+    ensures { λ r. ⌜ r ≡ isLettered periodEndIs (valueAt (now (t .entry)) at) ⌝ }
+{
+    if tag(t, at) != STRING {
+        return false;
+    }
+    let s = text_at(t, at);
+    let from = s.from;
+    let to = s.to;
+    is_extended_period_end(&t[from..to])
+}
+
+// A number that is a float.
+fn float_at(t: &[u8], at: usize) -> bool
+    ensures { λ r. ⌜ r ≡ isNumber floatOf (valueAt (now (t .entry)) at) ⌝ }
+{
+    if tag(t, at) != NUMBER {
+        return false;
+    }
+    let s = text_at(t, at);
+    let from = s.from;
+    let to = s.to;
+    is_float(&t[from..to])
+}
+
+// A number that is an integer.
+fn integer_at(t: &[u8], at: usize) -> bool
+    ensures { λ r. ⌜ r ≡ isNumber integerOf (valueAt (now (t .entry)) at) ⌝ }
+{
+    if tag(t, at) != NUMBER {
+        return false;
+    }
+    let s = text_at(t, at);
+    let from = s.from;
+    let to = s.to;
+    is_integer(&t[from..to])
+}
+
+fn boolean_at(t: &[u8], at: usize) -> bool
+    ensures { λ r. ⌜ r ≡ isSome (boolean? (valueAt (now (t .entry)) at)) ⌝ }
+{
+    match tag(t, at) {
+        FALSE => true,
+        TRUE => true,
+        _ => false,
+    }
+}
+
+// GEO: an array of two floats.
+fn geo_at(t: &[u8], at: usize) -> bool
+    ensures { λ r. ⌜ r ≡ valueIs geo (valueAt (now (t .entry)) at) ⌝ }
+{
+    if tag(t, at) != ARRAY {
+        return false;
+    }
+    let a = after(t, at);
+    if count(t, a, 3) != 2 {
+        return false;
+    }
+    if !float_at(t, a) {
+        return false;
+    }
+    let b = behind(t, a);
+    float_at(t, b)
+}
+
+// A period: an array of a start, and an end or a duration.
+fn period_at(t: &[u8], at: usize) -> bool
+    ensures { λ r. ⌜ r ≡ valueIs period (valueAt (now (t .entry)) at) ⌝ }
+{
+    if tag(t, at) != ARRAY {
+        return false;
+    }
+    let a = after(t, at);
+    if count(t, a, 3) != 2 {
+        return false;
+    }
+    if !form_at(t, a, Form::DateTime) {
+        return false;
+    }
+    let b = behind(t, a);
+    end_at(t, b)
+}
+
+// The values from `at` to the end of their group are all texts.
+fn all_texts(t: &[u8], at: usize) -> bool
+    ensures { λ r. ⌜ r ≡ all (isString textIs) (listAt (now (t .entry)) at) ⌝ }
+{
+    let mut i = at;
+    loop {
+        if tag(t, i) == END {
+            return true;
+        }
+        if !text_stands(t, i) {
+            return false;
+        }
+        i = behind(t, i);
+    }
+}
+
+// REQUEST-STATUS: an array of two or three texts.
+fn status_at(t: &[u8], at: usize) -> bool
+    ensures { λ r. ⌜ r ≡ valueIs status (valueAt (now (t .entry)) at) ⌝ }
+{
+    if tag(t, at) != ARRAY {
+        return false;
+    }
+    let a = after(t, at);
+    match count(t, a, 4) {
+        2 => all_texts(t, a),
+        3 => all_texts(t, a),
+        _ => false,
+    }
+}
+
+// One value. There is room in `text` for the text of a recurrence rule.
+fn value_at(t: &[u8], at: usize, sort: Sort, text: &mut [u8]) -> bool
+    requires { ⌜ length (now t) ≤ length (now text) ⌝ }
+    ensures { λ r. ⌜ r ≡ valueIs (sortSaid sort) (valueAt (now (t .entry)) at) ⌝ }
+{
+    match sort {
+        Sort::Plain => plain_at(t, at),
+        Sort::Binary => binary_at(t, at),
+        Sort::Boolean => boolean_at(t, at),
+        Sort::Date => form_at(t, at, Form::Date),
+        Sort::DateTime => form_at(t, at, Form::DateTime),
+        Sort::Duration => duration_at(t, at),
+        Sort::Float => float_at(t, at),
+        Sort::Geo => geo_at(t, at),
+        Sort::Integer => integer_at(t, at),
+        Sort::Period => period_at(t, at),
+        Sort::Recur => is_recur(t, at, text),
+        Sort::Text => text_stands(t, at),
+        Sort::Status => status_at(t, at),
+        Sort::Time => form_at(t, at, Form::Time),
+        Sort::UtcOffset => form_at(t, at, Form::Offset),
+    }
+}
+
+// The values from `at` to the end of their group. There is room in `text` for the text of a recurrence rule.
+fn all_stand(t: &[u8], at: usize, sort: Sort, text: &mut [u8]) -> bool
+    requires { ⌜ length (now t) ≤ length (now text) ⌝ }
+    ensures { λ r. ⌜ r ≡ all (valueIs (sortSaid sort)) (listAt (now (t .entry)) at) ⌝ }
+{
+    let mut i = at;
+    loop {
+        if tag(t, i) == END {
+            return true;
+        }
+        if !value_at(t, i, sort, text) {
+            return false;
+        }
+        i = behind(t, i);
+    }
+}
+
+// The values may be several, or there is one.
+fn number_stands(t: &[u8], at: usize, sort: Sort, many: bool) -> bool
+    ensures { λ r. ⌜ r ≡ ((many and splits (sortSaid sort)) or single (listAt (now (t .entry)) at)) ⌝ }
+{
+    if count(t, at, 2) == 1 {
+        return true;
+    }
+    if !many {
+        return false;
+    }
+    sort.splits()
+}
+
+// Whether a sort takes the values from `at` to the end of their group, several of them only where the name may have many and the sort splits.
+// `text` is as long as the tape, or the answer is no; what is left there is the code's choice.
+pub fn are_values(t: &[u8], at: usize, sort: Sort, many: bool, text: &mut [u8]) -> bool
+    ensures { λ r. ⌜ r ≡ (hasRoom (now (t .entry)) (now (text .entry)) and valuesAre many (sortSaid sort) (listAt (now (t .entry)) at)) ⌝ }
+{
+    if text.len() < t.len() {
+        return false;
+    }
+    if !number_stands(t, at, sort, many) {
+        return false;
+    }
+    all_stand(t, at, sort, text)
+}
