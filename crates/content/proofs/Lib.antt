@@ -16,6 +16,7 @@ pub mod CleanLines
 pub mod Forming
 pub mod Separators
 pub mod Walking
+pub mod Tables
 pub mod Tokens
 pub mod Telling
 pub mod Decoding

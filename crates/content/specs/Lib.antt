@@ -11,5 +11,6 @@ pub mod Walk
 pub mod Parts
 pub mod Buffer
 pub mod Kinds
+pub mod Slots
 pub mod Object
 pub mod Reading

@@ -18,6 +18,7 @@ mod params;
 mod parts;
 mod reading;
 mod scan;
+mod twice;
 
 pub use form::all_formed;
 pub use form::is_formed;
@@ -27,9 +28,9 @@ pub use lines::unfold;
 pub use object::put_params;
 pub use params::ValueType;
 pub use params::is_encoded;
-pub use params::name_twice;
 pub use params::value_type;
 pub use parts::Parts;
 pub use parts::parts_of;
 pub use reading::Lines;
 pub use reading::read_lines;
+pub use twice::name_twice;

@@ -4,52 +4,16 @@ ghost use mathlib.Core.List.{map};
 ghost use mathlib.Core.Bool.{false};
 ghost use Prim.Native.Nat.{_-_, _≤_};
 ghost use lib.ListN.{length, take, drop};
-ghost use Rattle.octets.specs.Basics.{single, among};
-ghost use Rattle.octets.specs.Classes.{lower};
-ghost use Rattle.content.specs.Parameters.{nameTwice, token, valueType, isBase64, isEncoded};
+ghost use Rattle.octets.specs.Basics.{single};
+ghost use Rattle.content.specs.Parameters.{token, valueType, isBase64, isEncoded};
 ghost use Rattle.content.specs.Kinds.{Tells};
 ghost use Rattle.content.specs.Line.{pieces, paramValue};
-ghost use Rattle.content.specs.Parts.{paramsIn, nameOf};
+ghost use Rattle.content.specs.Parts.{paramsIn};
 use crate::parts::inner;
 use crate::parts::param_at;
 use crate::scan::next_bare;
 use octets::is_name;
 use octets::same_name;
-
-// Whether a parameter from `from` on has this name.
-fn has_name(s: &[u8], from: usize, name: &[u8]) -> bool
-    ensures { λ r. ⌜ r ≡ among (lower (now (name .entry))) (map nameOf (paramsIn (drop from (now (s .entry))))) ⌝ }
-{
-    let mut e = next_bare(s, from, b';', b';');
-    while e < s.len() {
-        let i = e + 1;
-        let p = param_at(s, i);
-        let n = p.name;
-        if same_name(name, &s[i..n]) {
-            return true;
-        }
-        e = p.end;
-    }
-    false
-}
-
-// Whether a parameter name stands twice.
-pub fn name_twice(s: &[u8]) -> bool
-    ensures { λ r. ⌜ r ≡ nameTwice (paramsIn (now (s .entry))) ⌝ }
-{
-    let mut e = next_bare(s, 0, b';', b';');
-    while e < s.len() {
-        let i = e + 1;
-        let p = param_at(s, i);
-        let n = p.name;
-        let end = p.end;
-        if has_name(s, end, &s[i..n]) {
-            return true;
-        }
-        e = end;
-    }
-    false
-}
 
 // The type that VALUE names, by its bounds in the parameters, if there is a VALUE that names one.
 pub enum ValueType {

@@ -1,4 +1,4 @@
--- `content::params::has_name` meets its contract.
+-- `content::twice::has_name` meets its contract.
 use lib.ListN.{length, drop}
 use native.Mathlib.Omega.{arith}
 use mathlib.Core.List.{map}
@@ -9,8 +9,8 @@ use Rattle.content.specs.Parts.{paramsIn, nameOf}
 use Rattle.octets.specs.Classes.{lower}
 use Rattle.octets.specs.Basics.{among}
 use Rattle.content.proofs.Walking.{Stands, first-stands, first-params, param-next, same-lower, among-none, among-here, among-on}
-use Rattle.content.proofs.params.has_name.Statement.{statement}
-use Rattle.content.proofs.params.has_name.Tie as tie
+use Rattle.content.proofs.twice.has_name.Statement.{statement}
+use Rattle.content.proofs.twice.has_name.Tie as tie
 
 abbrev Inv-loop : tie.InvT-loop
 Inv-loop s from name e₀ e = (among (lower name) (map nameOf (paramsIn (drop from s))) ≡ among (lower name) (map nameOf (paramsIn (drop e s)))) × Stands s e

@@ -1,0 +1,54 @@
+-- `content::twice::slot_of` meets its contract.
+use Prim.Native.Nat.{_-_, _<_}
+use mathlib.Core.Path.{_≡_, _∙_}
+use native.Mathlib.Omega.{arith}
+use borrow.Author.Needs.{needs}
+use lib.ListN.{length, drop}
+use Rattle.octets.specs.Classes.{lower}
+use Rattle.content.specs.Slots.{slotFrom, slotOf}
+use Rattle.content.proofs.Tables.{slot-start, slot-on, slot-end}
+use Rattle.content.proofs.twice.slot_of.Statement.{statement}
+use Rattle.content.proofs.twice.slot_of.Tie as tie
+
+abbrev Inv-loop : tie.InvT-loop
+Inv-loop name h₀ i₀ h i = (h < 16381) × (slotFrom h (lower (drop i name)) ≡ slotOf (lower name))
+
+abbrev μ-loop : tie.MeasureT-loop
+μ-loop name h₀ i₀ h i = length name - i
+
+loop-holds : tie.Need-loop-holds Inv-loop μ-loop
+loop-holds c = (omega arith, slot-start _)
+
+mul-h : tie.Need-mul-h Inv-loop μ-loop
+mul-h c = omega arith
+
+shared-slice-read-lower-octet : tie.Need-shared-slice-read-lower-octet Inv-loop μ-loop
+shared-slice-read-lower-octet c = search needs
+
+lower-octet-requires : tie.Need-lower-octet-requires Inv-loop μ-loop
+lower-octet-requires c κs = search needs
+
+cast-h : tie.Need-cast-h Inv-loop μ-loop
+cast-h c = search needs
+
+add-h : tie.Need-add-h Inv-loop μ-loop
+add-h c = search needs
+
+add-i : tie.Need-add-i Inv-loop μ-loop
+add-i c = search needs
+
+loop-less : tie.Need-loop-less Inv-loop μ-loop
+loop-less c = search needs
+
+loop-again : tie.Need-loop-again Inv-loop μ-loop
+loop-again c =
+    let l = c .before .before .before .loop in
+    (omega arith, rw (c .lower-octet .ensures) (slot-on _ (l .i) (l .h) (c .before .before .loop-test .taken) ∙ l .inv .1))
+
+returns : tie.Need-returns Inv-loop μ-loop
+returns c = let l = c .before .loop in slot-end _ (l .i) (l .h) (c .loop-test .left) ∙ l .inv .1
+
+pub slot-of-spec : {M : Type 1} → statement M
+slot-of-spec =
+    tie.close
+    (tie.spec Inv-loop μ-loop loop-holds mul-h shared-slice-read-lower-octet lower-octet-requires cast-h add-h add-i loop-less loop-again returns)

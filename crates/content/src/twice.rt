@@ -1,0 +1,128 @@
+// Whether a parameter name stands twice. A few are compared with all names behind them; many are found again by a table of slots.
+ghost use mathlib.Core.Path.{_≡_};
+ghost use mathlib.Core.List.{map};
+ghost use lib.ListN.{length, drop};
+ghost use Rattle.octets.specs.Basics.{among};
+ghost use Rattle.octets.specs.Classes.{lower};
+ghost use Rattle.content.specs.Parameters.{nameTwice};
+ghost use Rattle.content.specs.Parts.{paramsIn, nameOf};
+ghost use Rattle.content.specs.Slots.{slotOf, slotIn, Blank, Within};
+use crate::parts::param_at;
+use crate::scan::next_bare;
+use octets::lower_octet;
+use octets::same_name;
+
+// Names that are compared with all behind them.
+const FEW: usize = 8;
+
+// Slots in a table: one for each answer of `slot_of`, and some more behind them.
+const SLOTS: usize = 16640;
+
+// Whether a parameter from `from` on has this name.
+fn has_name(s: &[u8], from: usize, name: &[u8]) -> bool
+    ensures { λ r. ⌜ r ≡ among (lower (now (name .entry))) (map nameOf (paramsIn (drop from (now (s .entry))))) ⌝ }
+{
+    let mut e = next_bare(s, from, b';', b';');
+    while e < s.len() {
+        let i = e + 1;
+        let p = param_at(s, i);
+        let n = p.name;
+        if same_name(name, &s[i..n]) {
+            return true;
+        }
+        e = p.end;
+    }
+    false
+}
+
+// The slot from which on a name is looked for in a table.
+fn slot_of(name: &[u8]) -> usize
+    ensures { λ r. ⌜ r ≡ slotOf (lower (now (name .entry))) ⌝ }
+{
+    let mut h: usize = 0;
+    let mut i = 0;
+    while i < name.len() {
+        h = (h * 257 + lower_octet(name[i]) as usize) % 16381;
+        i += 1;
+    }
+    h
+}
+
+// The slot that holds a name, or the free one for it, or the end of the table.
+fn slot_in(s: &[u8], table: &[usize], name: &[u8]) -> usize
+    requires { ⌜ Within (length (now s)) (now table) ⌝ }
+    ensures { λ r. ⌜ r ≡ slotIn (now (s .entry)) (lower (now (name .entry))) (now (table .entry)) ⌝ }
+{
+    let mut q = slot_of(name);
+    while q < table.len() {
+        let p = table[q];
+        if p == 0 {
+            return q;
+        }
+        let e = next_bare(s, p, b'=', b';');
+        if same_name(name, &s[p..e]) {
+            return q;
+        }
+        q += 1;
+    }
+    q
+}
+
+// Whether a name of the parameters from `from` on stands twice; the table is free.
+fn twice_by(s: &[u8], from: usize, table: &mut [usize]) -> bool
+    requires { ⌜ Blank (now table) ⌝ }
+    ensures { λ r. ⌜ r ≡ nameTwice (paramsIn (drop from (now (s .entry)))) ⌝ }
+{
+    let mut e = next_bare(s, from, b';', b';');
+    while e < s.len() {
+        let i = e + 1;
+        let p = param_at(s, i);
+        let n = p.name;
+        let end = p.end;
+        let q = slot_in(s, table, &s[i..n]);
+        if q < table.len() {
+            if table[q] != 0 {
+                return true;
+            }
+            table[q] = i;
+            e = end;
+        } else {
+            if has_name(s, end, &s[i..n]) {
+                return true;
+            }
+            e = end;
+        }
+    }
+    false
+}
+
+// Whether a name of the parameters from `from` on stands twice, by a table.
+fn twice_many(s: &[u8], from: usize) -> bool
+    ensures { λ r. ⌜ r ≡ nameTwice (paramsIn (drop from (now (s .entry)))) ⌝ }
+{
+    let mut table = [0usize; SLOTS];
+    twice_by(s, from, &mut table)
+}
+
+// Whether a parameter name stands twice.
+pub fn name_twice(s: &[u8]) -> bool
+    ensures { λ r. ⌜ r ≡ nameTwice (paramsIn (now (s .entry))) ⌝ }
+{
+    let mut e = next_bare(s, 0, b';', b';');
+    let mut few = 0;
+    while few < FEW {
+        if s.len() <= e {
+            return false;
+        }
+        let i = e + 1;
+        let p = param_at(s, i);
+        let n = p.name;
+        let end = p.end;
+        if has_name(s, end, &s[i..n]) {
+            return true;
+        }
+        e = end;
+        few += 1;
+    }
+    twice_many(s, e)
+}
