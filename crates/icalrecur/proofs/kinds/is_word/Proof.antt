@@ -21,13 +21,21 @@ loop-holds : tie.Need-loop-holds Inv-loop μ-loop
 loop-holds c = refl
 
 returns : tie.Need-returns Inv-loop μ-loop
-returns c = sym (all-stop wordOctet _ _ (c .before .before .before .loop-test .taken) (sym (c .before .is-word-octet .ensures) ∙ not-true _ (c .if1 .taken))) ∙ c .before .before .before .before .loop .inv
+returns c =
+    let at-is-word-octet = c .before in
+    let at-loop-test = at-is-word-octet .before .before in
+    let at-loop = at-loop-test .before in
+    sym (all-stop wordOctet _ _ (at-loop-test .loop-test .taken) (sym (at-is-word-octet .is-word-octet .ensures) ∙ not-true _ (c .if1 .taken))) ∙ at-loop .loop .inv
 
 loop-less : tie.Need-loop-less Inv-loop μ-loop
 loop-less c = omega arith
 
 loop-again : tie.Need-loop-again Inv-loop μ-loop
-loop-again c = sym (all-on wordOctet _ _ (c .before .before .before .loop-test .taken) (sym (c .before .is-word-octet .ensures) ∙ not-false _ (c .if1 .left))) ∙ c .before .before .before .before .loop .inv
+loop-again c =
+    let at-is-word-octet = c .before in
+    let at-loop-test = at-is-word-octet .before .before in
+    let at-loop = at-loop-test .before in
+    sym (all-on wordOctet _ _ (at-loop-test .loop-test .taken) (sym (at-is-word-octet .is-word-octet .ensures) ∙ not-false _ (c .if1 .left))) ∙ at-loop .loop .inv
 
 returns-2 : tie.Need-returns-2 Inv-loop μ-loop
 returns-2 c = sym (all-end wordOctet _ _ (c .loop-test .left)) ∙ c .before .loop .inv

@@ -12,15 +12,32 @@ returns c = rw (sym (c .before .is-upper .ensures) ∙ c .if1 .taken)
 
 returns-2 : tie.Need-returns-2
 unfolding wordOctet isLetter
-returns-2 c = rw (sym (c .before .before .before .is-upper .ensures) ∙ c .before .before .if1 .left, sym (c .before .is-lower .ensures) ∙ c .if2 .taken)
+returns-2 c =
+    let at-is-lower = c .before in
+    let at-if1 = at-is-lower .before in
+    let at-is-upper = at-if1 .before in
+    rw (sym (at-is-upper .is-upper .ensures) ∙ at-if1 .if1 .left, sym (at-is-lower .is-lower .ensures) ∙ c .if2 .taken)
 
 returns-3 : tie.Need-returns-3
 unfolding wordOctet isLetter
-returns-3 c = rw (sym (c .before .before .before .before .before .is-upper .ensures) ∙ c .before .before .before .before .if1 .left, sym (c .before .before .before .is-lower .ensures) ∙ c .before .before .if2 .left, sym (c .before .is-digit .ensures) ∙ c .if3 .taken)
+returns-3 c =
+    let at-is-digit = c .before in
+    let at-if2 = at-is-digit .before in
+    let at-is-lower = at-if2 .before in
+    let at-if1 = at-is-lower .before in
+    let at-is-upper = at-if1 .before in
+    rw (sym (at-is-upper .is-upper .ensures) ∙ at-if1 .if1 .left, sym (at-is-lower .is-lower .ensures) ∙ at-if2 .if2 .left, sym (at-is-digit .is-digit .ensures) ∙ c .if3 .taken)
 
 returns-4 : tie.Need-returns-4
 unfolding wordOctet isLetter
-returns-4 c = rw (sym (c .before .before .before .before .before .before .is-upper .ensures) ∙ c .before .before .before .before .before .if1 .left, sym (c .before .before .before .before .is-lower .ensures) ∙ c .before .before .before .if2 .left, sym (c .before .before .is-digit .ensures) ∙ c .before .if3 .left) (c .is-sign .ensures)
+returns-4 c =
+    let at-if3 = c .before in
+    let at-is-digit = at-if3 .before in
+    let at-if2 = at-is-digit .before in
+    let at-is-lower = at-if2 .before in
+    let at-if1 = at-is-lower .before in
+    let at-is-upper = at-if1 .before in
+    rw (sym (at-is-upper .is-upper .ensures) ∙ at-if1 .if1 .left, sym (at-is-lower .is-lower .ensures) ∙ at-if2 .if2 .left, sym (at-is-digit .is-digit .ensures) ∙ at-if3 .if3 .left) (c .is-sign .ensures)
 
 pub is-word-octet-spec : {M : Type 1} → statement M
 is-word-octet-spec =

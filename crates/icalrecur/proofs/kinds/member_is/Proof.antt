@@ -10,10 +10,20 @@ returns : tie.Need-returns
 returns c = sym (member-case _ _ (sym (c .before .is-lower-name .ensures) ∙ not-true _ (c .if1 .taken)))
 
 returns-2 : tie.Need-returns-2
-returns-2 c = sym (member-unknown _ _ (rw (c .before .key-of .ensures) at (c .if2 .taken)) (sym (c .before .before .before .is-lower-name .ensures) ∙ not-false _ (c .before .before .if1 .left)))
+returns-2 c =
+    let at-key-of = c .before in
+    let at-if1 = at-key-of .before in
+    let at-is-lower-name = at-if1 .before in
+    sym (member-unknown _ _ (rw (at-key-of .key-of .ensures) at (c .if2 .taken)) (sym (at-is-lower-name .is-lower-name .ensures) ∙ not-false _ (at-if1 .if1 .left)))
 
 returns-3 : tie.Need-returns-3
-returns-3 c = c .kind-is .ensures ∙ sym (member-known _ _ (c .before .sort-of .ensures ∙ rw (c .before .before .before .key-of .ensures)) (rw (c .before .before .before .key-of .ensures) at (c .before .before .if2 .left)) (sym (c .before .before .before .before .before .is-lower-name .ensures) ∙ not-false _ (c .before .before .before .before .if1 .left)))
+returns-3 c =
+    let at-sort-of = c .before in
+    let at-if2 = at-sort-of .before in
+    let at-key-of = at-if2 .before in
+    let at-if1 = at-key-of .before in
+    let at-is-lower-name = at-if1 .before in
+    c .kind-is .ensures ∙ sym (member-known _ _ (at-sort-of .sort-of .ensures ∙ rw (at-key-of .key-of .ensures)) (rw (at-key-of .key-of .ensures) at (at-if2 .if2 .left)) (sym (at-is-lower-name .is-lower-name .ensures) ∙ not-false _ (at-if1 .if1 .left)))
 
 pub member-is-spec : {M : Type 1} → statement M
 member-is-spec =

@@ -25,13 +25,35 @@ returns : tie.Need-returns Inv-loop μ-loop
 returns c = sym (kinds-end _ _ (sym (c .before .tag .ensures) ∙ c .if1 .taken)) ∙ c .before .before .loop .inv
 
 returns-2 : tie.Need-returns-2 Inv-loop μ-loop
-returns-2 c = let m : Keyed _ _ _ _ = record { some = λ z. c .before .before .before .before .before .if1 .left (c .before .before .before .before .before .before .tag .ensures ∙ z); key = c .before .before .before .before .text-at .ensures; next = c .before .before .before .behind .ensures } in sym (member-stops m (sym (c .before .member-is .ensures) ∙ not-true _ (c .if2 .taken))) ∙ c .before .before .before .before .before .before .before .loop .inv
+returns-2 c =
+    let at-member-is = c .before in
+    let at-behind = at-member-is .before .before in
+    let at-text-at = at-behind .before in
+    let at-if1 = at-text-at .before in
+    let at-tag = at-if1 .before in
+    let at-loop = at-tag .before in
+    let m : Keyed _ _ _ _ = record { some = λ z. at-if1 .if1 .left (at-tag .tag .ensures ∙ z); key = at-text-at .text-at .ensures; next = at-behind .behind .ensures } in
+    sym (member-stops m (sym (at-member-is .member-is .ensures) ∙ not-true _ (c .if2 .taken))) ∙ at-loop .loop .inv
 
 loop-less : tie.Need-loop-less Inv-loop μ-loop
-loop-less c = let m : Keyed _ _ _ _ = record { some = λ z. c .before .before .before .before .before .if1 .left (c .before .before .before .before .before .before .tag .ensures ∙ z); key = c .before .before .before .before .text-at .ensures; next = c .before .before .before .behind .ensures } in omega (arith, member-on m, c .before .before .before .behind .ensures .high)
+loop-less c =
+    let at-behind = c .before .before .before in
+    let at-text-at = at-behind .before in
+    let at-if1 = at-text-at .before in
+    let at-tag = at-if1 .before in
+    let m : Keyed _ _ _ _ = record { some = λ z. at-if1 .if1 .left (at-tag .tag .ensures ∙ z); key = at-text-at .text-at .ensures; next = at-behind .behind .ensures } in
+    omega (arith, member-on m, at-behind .behind .ensures .high)
 
 loop-again : tie.Need-loop-again Inv-loop μ-loop
-loop-again c = let m : Keyed _ _ _ _ = record { some = λ z. c .before .before .before .before .before .if1 .left (c .before .before .before .before .before .before .tag .ensures ∙ z); key = c .before .before .before .before .text-at .ensures; next = c .before .before .before .behind .ensures } in sym (member-stands m (sym (c .before .member-is .ensures) ∙ not-false _ (c .if2 .left))) ∙ c .before .before .before .before .before .before .before .loop .inv
+loop-again c =
+    let at-member-is = c .before in
+    let at-behind = at-member-is .before .before in
+    let at-text-at = at-behind .before in
+    let at-if1 = at-text-at .before in
+    let at-tag = at-if1 .before in
+    let at-loop = at-tag .before in
+    let m : Keyed _ _ _ _ = record { some = λ z. at-if1 .if1 .left (at-tag .tag .ensures ∙ z); key = at-text-at .text-at .ensures; next = at-behind .behind .ensures } in
+    sym (member-stands m (sym (at-member-is .member-is .ensures) ∙ not-false _ (c .if2 .left))) ∙ at-loop .loop .inv
 
 pub members-are-spec : {M : Type 1} → statement M
 members-are-spec =

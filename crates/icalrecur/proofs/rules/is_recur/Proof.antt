@@ -13,13 +13,32 @@ returns-2 : tie.Need-returns-2
 returns-2 c = no-rule _ _ (λ z. c .if2 .taken (c .before .tag .ensures ∙ z)) _
 
 returns-3 : tie.Need-returns-3
-returns-3 c = other-kinds (sym (c .before .before .before .before .tag .ensures) ∙ c .before .before .before .if2 .left) (c .before .before .after .ensures) _ (sym (c .before .members-are .ensures) ∙ not-true _ (c .if3 .taken))
+returns-3 c =
+    let at-members-are = c .before in
+    let at-after = at-members-are .before in
+    let at-if2 = at-after .before in
+    let at-tag = at-if2 .before in
+    other-kinds (sym (at-tag .tag .ensures) ∙ at-if2 .if2 .left) (at-after .after .ensures) _ (sym (at-members-are .members-are .ensures) ∙ not-true _ (c .if3 .taken))
 
 part-is-rule-end : tie.Need-part-is-rule-end
-part-is-rule-end c = laid-within (sym (c .before .before .before .before .before .before .before .before .before .tag .ensures) ∙ c .before .before .before .before .before .before .before .before .if2 .left) (c .before .before .before .before .before .before .before .after .ensures) (c .before .before .before .before .before .before .before .before .before .before .if1 .left) (c .before .before .before .put-members .ensures)
+part-is-rule-end c =
+    let at-put-members = c .before .before .before in
+    let at-after = at-put-members .before .before .before .before in
+    let at-if2 = at-after .before in
+    let at-tag = at-if2 .before in
+    let at-if1 = at-tag .before in
+    laid-within (sym (at-tag .tag .ensures) ∙ at-if2 .if2 .left) (at-after .after .ensures) (at-if1 .if1 .left) (at-put-members .put-members .ensures)
 
 returns-4 : tie.Need-returns-4
-returns-4 c = c .is-rule .ensures ∙ tested (sym (c .before .before .before .before .before .before .before .before .before .before .before .tag .ensures) ∙ c .before .before .before .before .before .before .before .before .before .before .if2 .left) (c .before .before .before .before .before .before .before .before .before .after .ensures) (c .before .before .before .before .before .before .before .before .before .before .before .before .if1 .left) (c .before .before .before .before .before .put-members .ensures) (sym (c .before .before .before .before .before .before .before .before .members-are .ensures) ∙ not-false _ (c .before .before .before .before .before .before .before .if3 .left))
+returns-4 c =
+    let at-put-members = c .before .before .before .before .before in
+    let at-if3 = at-put-members .before .before in
+    let at-members-are = at-if3 .before in
+    let at-after = at-members-are .before in
+    let at-if2 = at-after .before in
+    let at-tag = at-if2 .before in
+    let at-if1 = at-tag .before in
+    c .is-rule .ensures ∙ tested (sym (at-tag .tag .ensures) ∙ at-if2 .if2 .left) (at-after .after .ensures) (at-if1 .if1 .left) (at-put-members .put-members .ensures) (sym (at-members-are .members-are .ensures) ∙ not-false _ (at-if3 .if3 .left))
 
 pub is-recur-spec : {M : Type 1} → statement M
 is-recur-spec =

@@ -18,19 +18,59 @@ returns-3 : tie.Need-returns-3
 returns-3 c = as-folded none (no-text _ _ (λ z. c .if3 .taken (c .before .tag .ensures ∙ z)) _ _)
 
 part-is-rule-end : tie.Need-part-is-rule-end
-part-is-rule-end c = laid-within (sym (c .before .before .before .before .before .before .before .tag .ensures) ∙ c .before .before .before .before .before .before .if3 .left) (c .before .before .before .before .before .after .ensures) (c .before .before .before .before .before .before .before .before .before .if1 .left) (c .before .before .before .put-members .ensures)
+part-is-rule-end c =
+    let at-put-members = c .before .before .before in
+    let at-after = at-put-members .before .before in
+    let at-if3 = at-after .before in
+    let at-tag = at-if3 .before in
+    let at-if1 = at-tag .before .before in
+    laid-within (sym (at-tag .tag .ensures) ∙ at-if3 .if3 .left) (at-after .after .ensures) (at-if1 .if1 .left) (at-put-members .put-members .ensures)
 
 returns-4 : tie.Need-returns-4
-returns-4 c = as-folded none (no-parts (sym (c .before .before .before .before .before .before .before .before .before .before .tag .ensures) ∙ c .before .before .before .before .before .before .before .before .before .if3 .left) (c .before .before .before .before .before .before .before .before .after .ensures) (c .before .before .before .before .before .before .before .before .before .before .before .before .if1 .left) (c .before .before .before .before .before .before .put-members .ensures) _ (sym (c .before .is-rule .ensures) ∙ not-true _ (c .if4 .taken)))
+returns-4 c =
+    let at-is-rule = c .before in
+    let at-put-members = at-is-rule .before .before .before .before .before in
+    let at-after = at-put-members .before .before in
+    let at-if3 = at-after .before in
+    let at-tag = at-if3 .before in
+    let at-if1 = at-tag .before .before in
+    as-folded none (no-parts (sym (at-tag .tag .ensures) ∙ at-if3 .if3 .left) (at-after .after .ensures) (at-if1 .if1 .left) (at-put-members .put-members .ensures) _ (sym (at-is-rule .is-rule .ensures) ∙ not-true _ (c .if4 .taken)))
 
 part-put-rule-end : tie.Need-part-put-rule-end
-part-put-rule-end c = laid-within (sym (c .before .before .before .before .before .before .before .before .before .before .before .before .tag .ensures) ∙ c .before .before .before .before .before .before .before .before .before .before .before .if3 .left) (c .before .before .before .before .before .before .before .before .before .before .after .ensures) (c .before .before .before .before .before .before .before .before .before .before .before .before .before .before .if1 .left) (c .before .before .before .before .before .before .before .before .put-members .ensures)
+part-put-rule-end c =
+    let at-put-members = c .before .before .before .before .before .before .before .before in
+    let at-after = at-put-members .before .before in
+    let at-if3 = at-after .before in
+    let at-tag = at-if3 .before in
+    let at-if1 = at-tag .before .before in
+    laid-within (sym (at-tag .tag .ensures) ∙ at-if3 .if3 .left) (at-after .after .ensures) (at-if1 .if1 .left) (at-put-members .put-members .ensures)
 
 part-fold-all-end : tie.Need-part-fold-all-end
-part-fold-all-end c = shown-within (sym (c .before .before .before .before .before .before .before .before .before .before .before .before .before .before .before .before .before .before .tag .ensures) ∙ c .before .before .before .before .before .before .before .before .before .before .before .before .before .before .before .before .before .if3 .left) (c .before .before .before .before .before .before .before .before .before .before .before .before .before .before .before .before .after .ensures) (c .before .before .before .before .before .before .before .before .before .before .before .before .before .before .before .before .before .before .before .before .if1 .left) (c .before .before .before .before .before .before .before .before .before .before .before .before .before .before .put-members .ensures) (c .before .before .before .before .before .before .before .before .before .before .before .before .before .before .before .before .before .before .before .if2 .left) (sym (c .before .before .before .before .before .before .before .before .before .is-rule .ensures) ∙ not-false _ (c .before .before .before .before .before .before .before .before .if4 .left)) (c .before .before .before .before .put-rule .ensures)
+part-fold-all-end c =
+    let at-put-rule = c .before .before .before .before in
+    let at-if4 = at-put-rule .before .before .before .before in
+    let at-is-rule = at-if4 .before in
+    let at-put-members = at-is-rule .before .before .before .before .before in
+    let at-after = at-put-members .before .before in
+    let at-if3 = at-after .before in
+    let at-tag = at-if3 .before in
+    let at-if2 = at-tag .before in
+    let at-if1 = at-if2 .before in
+    shown-within (sym (at-tag .tag .ensures) ∙ at-if3 .if3 .left) (at-after .after .ensures) (at-if1 .if1 .left) (at-put-members .put-members .ensures) (at-if2 .if2 .left) (sym (at-is-rule .is-rule .ensures) ∙ not-false _ (at-if4 .if4 .left)) (at-put-rule .put-rule .ensures)
 
 returns-5 : tie.Need-returns-5
-returns-5 c = as-folded (c .before .before .fold-all .ensures) (rule-text (sym (c .before .before .before .before .before .before .before .before .before .before .before .before .before .before .before .before .before .before .before .before .before .before .tag .ensures) ∙ c .before .before .before .before .before .before .before .before .before .before .before .before .before .before .before .before .before .before .before .before .before .if3 .left) (c .before .before .before .before .before .before .before .before .before .before .before .before .before .before .before .before .before .before .before .before .after .ensures) (c .before .before .before .before .before .before .before .before .before .before .before .before .before .before .before .before .before .before .before .before .before .before .before .before .if1 .left) (c .before .before .before .before .before .before .before .before .before .before .before .before .before .before .before .before .before .before .put-members .ensures) (c .before .before .before .before .before .before .before .before .before .before .before .before .before .before .before .before .before .before .before .before .before .before .before .if2 .left) (sym (c .before .before .before .before .before .before .before .before .before .before .before .before .before .is-rule .ensures) ∙ not-false _ (c .before .before .before .before .before .before .before .before .before .before .before .before .if4 .left)) (c .before .before .before .before .before .before .before .before .put-rule .ensures))
+returns-5 c =
+    let at-fold-all = c .before .before in
+    let at-put-rule = at-fold-all .before .before .before .before .before .before in
+    let at-if4 = at-put-rule .before .before .before .before in
+    let at-is-rule = at-if4 .before in
+    let at-put-members = at-is-rule .before .before .before .before .before in
+    let at-after = at-put-members .before .before in
+    let at-if3 = at-after .before in
+    let at-tag = at-if3 .before in
+    let at-if2 = at-tag .before in
+    let at-if1 = at-if2 .before in
+    as-folded (at-fold-all .fold-all .ensures) (rule-text (sym (at-tag .tag .ensures) ∙ at-if3 .if3 .left) (at-after .after .ensures) (at-if1 .if1 .left) (at-put-members .put-members .ensures) (at-if2 .if2 .left) (sym (at-is-rule .is-rule .ensures) ∙ not-false _ (at-if4 .if4 .left)) (at-put-rule .put-rule .ensures))
 
 pub write-recur-spec : {M : Type 1} → statement M
 write-recur-spec =

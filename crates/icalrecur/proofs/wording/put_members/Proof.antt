@@ -27,16 +27,39 @@ loop-holds : tie.Need-loop-holds Inv-loop μ-loop
 loop-holds c = (λ e. c .if1 .left (c .before .tag .ensures ∙ e), refl, leads-start)
 
 same-length : tie.Need-same-length Inv-loop μ-loop
-same-length c = omega (arith, c .before .before .before .before .before .before .before .before .before .loop .inv .1)
+same-length c =
+    let at-loop = c .before .before .before .before .before .before .before .before .before in
+    omega (arith, at-loop .loop .inv .1)
 
 returns-2 : tie.Need-returns-2 Inv-loop μ-loop
-returns-2 c = let m : Keyed _ _ _ _ = record { some = c .before .before .before .before .before .before .before .before .before .loop .inv .0; key = c .before .before .before .before .before .before .before .before .text-at .ensures; next = c .before .before .behind .ensures } in leads-last (c .before .before .before .before .before .before .before .before .before .loop .inv .2) (c .before .before .before .before .before .put-member .ensures) (members-last m (sym (c .before .tag2 .ensures) ∙ c .if2 .taken))
+returns-2 c =
+    let at-tag2 = c .before in
+    let at-behind = at-tag2 .before in
+    let at-put-member = at-behind .before .before .before in
+    let at-text-at = at-put-member .before .before .before in
+    let at-loop = at-text-at .before in
+    let m : Keyed _ _ _ _ = record { some = at-loop .loop .inv .0; key = at-text-at .text-at .ensures; next = at-behind .behind .ensures } in
+    leads-last (at-loop .loop .inv .2) (at-put-member .put-member .ensures) (members-last m (sym (at-tag2 .tag2 .ensures) ∙ c .if2 .taken))
 
 loop-less : tie.Need-loop-less Inv-loop μ-loop
-loop-less c = let m : Keyed _ _ _ _ = record { some = c .before .before .before .before .before .before .before .before .before .before .before .before .before .loop .inv .0; key = c .before .before .before .before .before .before .before .before .before .before .before .before .text-at .ensures; next = c .before .before .before .before .before .before .behind .ensures } in omega (arith, member-on m, c .before .before .before .before .before .before .behind .ensures .high)
+loop-less c =
+    let at-behind = c .before .before .before .before .before .before in
+    let at-text-at = at-behind .before .before .before .before .before .before in
+    let at-loop = at-text-at .before in
+    let m : Keyed _ _ _ _ = record { some = at-loop .loop .inv .0; key = at-text-at .text-at .ensures; next = at-behind .behind .ensures } in
+    omega (arith, member-on m, at-behind .behind .ensures .high)
 
 loop-again : tie.Need-loop-again Inv-loop μ-loop
-loop-again c = let m : Keyed _ _ _ _ = record { some = c .before .before .before .before .before .before .before .before .before .before .before .before .before .loop .inv .0; key = c .before .before .before .before .before .before .before .before .before .before .before .before .text-at .ensures; next = c .before .before .before .before .before .before .behind .ensures } in (λ e. c .before .before .before .before .if2 .left (c .before .before .before .before .before .tag2 .ensures ∙ e), omega (arith, c .before .before .before .before .before .before .before .before .before .before .before .before .before .loop .inv .1), leads-on (leads-on (c .before .before .before .before .before .before .before .before .before .before .before .before .before .loop .inv .2) (c .before .before .before .before .before .before .before .before .before .put-member .ensures) (members-more m (λ e. c .before .before .before .before .if2 .left (c .before .before .before .before .before .tag2 .ensures ∙ e)))) (c .before .before .put .ensures) refl)
+loop-again c =
+    let at-put = c .before .before in
+    let at-if2 = at-put .before .before in
+    let at-tag2 = at-if2 .before in
+    let at-behind = at-tag2 .before in
+    let at-put-member = at-behind .before .before .before in
+    let at-text-at = at-put-member .before .before .before in
+    let at-loop = at-text-at .before in
+    let m : Keyed _ _ _ _ = record { some = at-loop .loop .inv .0; key = at-text-at .text-at .ensures; next = at-behind .behind .ensures } in
+    (λ e. at-if2 .if2 .left (at-tag2 .tag2 .ensures ∙ e), omega (arith, at-loop .loop .inv .1), leads-on (leads-on (at-loop .loop .inv .2) (at-put-member .put-member .ensures) (members-more m (λ e. at-if2 .if2 .left (at-tag2 .tag2 .ensures ∙ e)))) (at-put .put .ensures) refl)
 
 pub put-members-spec : {M : Type 1} → statement M
 put-members-spec =

@@ -7,10 +7,19 @@ use Rattle.icalrecur.proofs.wording.put_values.Tie as tie
 use Rattle.icalrecur.proofs.wording.put_values.Statement.{statement}
 
 returns : tie.Need-returns
-returns c = as-text (c .before .before .put-items .ensures) (values-array _ _ _ (c .before .before .before .before .after .ensures) (sym (c .before .before .before .before .before .before .tag .ensures) ∙ c .before .before .before .before .before .if1 .taken))
+returns c =
+    let at-put-items = c .before .before in
+    let at-after = at-put-items .before .before in
+    let at-if1 = at-after .before in
+    let at-tag = at-if1 .before in
+    as-text (at-put-items .put-items .ensures) (values-array _ _ _ (at-after .after .ensures) (sym (at-tag .tag .ensures) ∙ at-if1 .if1 .taken))
 
 returns-2 : tie.Need-returns-2
-returns-2 c = as-text (c .before .before .put-item .ensures) (values-plain _ _ _ (λ z. c .before .before .before .before .if1 .left (c .before .before .before .before .before .tag .ensures ∙ z)))
+returns-2 c =
+    let at-put-item = c .before .before in
+    let at-if1 = at-put-item .before .before in
+    let at-tag = at-if1 .before in
+    as-text (at-put-item .put-item .ensures) (values-plain _ _ _ (λ z. at-if1 .if1 .left (at-tag .tag .ensures ∙ z)))
 
 pub put-values-spec : {M : Type 1} → statement M
 put-values-spec =

@@ -26,13 +26,27 @@ returns : tie.Need-returns Inv-loop μ-loop
 returns c = sym (listed-end _ _ _ (sym (c .before .tag .ensures) ∙ c .if1 .taken)) ∙ c .before .before .loop .inv .1
 
 returns-2 : tie.Need-returns-2 Inv-loop μ-loop
-returns-2 c = sym (listed-stop _ _ _ (λ z. c .before .before .before .before .before .if1 .left (c .before .before .before .before .before .before .tag .ensures ∙ z)) (sym (c .before .before .before .value-at .ensures) ∙ not-true _ (c .if2 .taken))) ∙ c .before .before .before .before .before .before .before .loop .inv .1
+returns-2 c =
+    let at-value-at = c .before .before .before in
+    let at-if1 = at-value-at .before .before in
+    let at-tag = at-if1 .before in
+    let at-loop = at-tag .before in
+    sym (listed-stop _ _ _ (λ z. at-if1 .if1 .left (at-tag .tag .ensures ∙ z)) (sym (at-value-at .value-at .ensures) ∙ not-true _ (c .if2 .taken))) ∙ at-loop .loop .inv .1
 
 loop-less : tie.Need-loop-less Inv-loop μ-loop
-loop-less c = omega (arith, c .behind .ensures .more (λ z. c .before .before .before .before .before .before .if1 .left (c .before .before .before .before .before .before .before .tag .ensures ∙ z)), c .behind .ensures .high)
+loop-less c =
+    let at-if1 = c .before .before .before .before .before .before in
+    let at-tag = at-if1 .before in
+    omega (arith, c .behind .ensures .more (λ z. at-if1 .if1 .left (at-tag .tag .ensures ∙ z)), c .behind .ensures .high)
 
 loop-again : tie.Need-loop-again Inv-loop μ-loop
-loop-again c = (omega (arith, c .before .before .before .before .before .before .before .before .loop .inv .0), sym (listed-on _ _ _ (λ z. c .before .before .before .before .before .before .if1 .left (c .before .before .before .before .before .before .before .tag .ensures ∙ z)) (c .behind .ensures) (sym (c .before .before .before .before .value-at .ensures) ∙ not-false _ (c .before .if2 .left))) ∙ c .before .before .before .before .before .before .before .before .loop .inv .1)
+loop-again c =
+    let at-if2 = c .before in
+    let at-value-at = at-if2 .before .before .before in
+    let at-if1 = at-value-at .before .before in
+    let at-tag = at-if1 .before in
+    let at-loop = at-tag .before in
+    (omega (arith, at-loop .loop .inv .0), sym (listed-on _ _ _ (λ z. at-if1 .if1 .left (at-tag .tag .ensures ∙ z)) (c .behind .ensures) (sym (at-value-at .value-at .ensures) ∙ not-false _ (at-if2 .if2 .left))) ∙ at-loop .loop .inv .1)
 
 pub all-stand-spec : {M : Type 1} → statement M
 all-stand-spec =

@@ -14,7 +14,12 @@ returns-2 : tie.Need-returns-2
 returns-2 c = wrong-number _ _ _ _ _ (sym (c .before .number-stands .ensures) ∙ not-true _ (c .if2 .taken))
 
 returns-3 : tie.Need-returns-3
-returns-3 c = c .before .before .all-stand .ensures ∙ right-number _ _ _ _ _ (c .before .before .before .before .before .before .if1 .left) (sym (c .before .before .before .before .before .number-stands .ensures) ∙ not-false _ (c .before .before .before .before .if2 .left))
+returns-3 c =
+    let at-all-stand = c .before .before in
+    let at-if2 = at-all-stand .before .before in
+    let at-number-stands = at-if2 .before in
+    let at-if1 = at-number-stands .before in
+    at-all-stand .all-stand .ensures ∙ right-number _ _ _ _ _ (at-if1 .if1 .left) (sym (at-number-stands .number-stands .ensures) ∙ not-false _ (at-if2 .if2 .left))
 
 pub are-values-spec : {M : Type 1} → statement M
 are-values-spec =

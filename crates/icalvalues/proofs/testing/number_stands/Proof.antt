@@ -9,13 +9,25 @@ use Rattle.icalvalues.proofs.testing.number_stands.Tie as tie
 use Rattle.icalvalues.proofs.testing.number_stands.Statement.{statement}
 
 returns : tie.Need-returns
-returns c = one-value (c .before .before .before .args .many) (sortSaid (c .before .before .before .args .sort)) (listAt (c .before .before .before .args .t .now) (c .before .before .before .args .at)) (c .before .count .result) (c .before .count .ensures) (c .if1 .taken)
+returns c =
+    let at-count = c .before in
+    let at-args = at-count .before .before in
+    one-value (at-args .args .many) (sortSaid (at-args .args .sort)) (listAt (at-args .args .t .now) (at-args .args .at)) (at-count .count .result) (at-count .count .ensures) (c .if1 .taken)
 
 returns-2 : tie.Need-returns-2
-returns-2 c = only-one (c .before .before .before .before .args .many) (sortSaid (c .before .before .before .before .args .sort)) (listAt (c .before .before .before .before .args .t .now) (c .before .before .before .before .args .at)) (c .before .before .count .result) (c .before .before .count .ensures) (c .before .if1 .left) (not-true _ (c .if2 .taken))
+returns-2 c =
+    let at-if1 = c .before in
+    let at-count = at-if1 .before in
+    let at-args = at-count .before .before in
+    only-one (at-args .args .many) (sortSaid (at-args .args .sort)) (listAt (at-args .args .t .now) (at-args .args .at)) (at-count .count .result) (at-count .count .ensures) (at-if1 .if1 .left) (not-true _ (c .if2 .taken))
 
 returns-3 : tie.Need-returns-3
-returns-3 c = c .splits .ensures ∙ may-split (c .before .before .before .before .before .args .many) (sortSaid (c .before .before .before .before .before .args .sort)) (listAt (c .before .before .before .before .before .args .t .now) (c .before .before .before .before .before .args .at)) (c .before .before .before .count .result) (c .before .before .before .count .ensures) (c .before .before .if1 .left) (not-false _ (c .before .if2 .left))
+returns-3 c =
+    let at-if2 = c .before in
+    let at-if1 = at-if2 .before in
+    let at-count = at-if1 .before in
+    let at-args = at-count .before .before in
+    c .splits .ensures ∙ may-split (at-args .args .many) (sortSaid (at-args .args .sort)) (listAt (at-args .args .t .now) (at-args .args .at)) (at-count .count .result) (at-count .count .ensures) (at-if1 .if1 .left) (not-false _ (at-if2 .if2 .left))
 
 pub number-stands-spec : {M : Type 1} → statement M
 number-stands-spec =

@@ -48,7 +48,11 @@ returns-10 c = rw (c .before .enum-told10 .given .1) (c .period-at .ensures)
 
 returns-11 : tie.Need-returns-11
 unfolding sortSaid
-returns-11 c = rw (c .before .before .before .before .enum-told11 .given .1) (rw (room _ _ (c .before .before .before .before .before .before .before .before .pre)) at (c .before .before .is-recur .ensures))
+returns-11 c =
+    let at-is-recur = c .before .before in
+    let at-enum-told11 = at-is-recur .before .before in
+    let at-pre = at-enum-told11 .before .before .before .before in
+    rw (at-enum-told11 .enum-told11 .given .1) (rw (room _ _ (at-pre .pre)) at (at-is-recur .is-recur .ensures))
 
 returns-12 : tie.Need-returns-12
 unfolding sortSaid valueIs

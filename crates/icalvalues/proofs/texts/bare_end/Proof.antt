@@ -18,13 +18,18 @@ loop-holds : tie.Need-loop-holds Inv-loop μ-loop
 loop-holds c = (omega arith, c .pre, bare-none _ _)
 
 returns : tie.Need-returns Inv-loop μ-loop
-returns c = (c .before .before .before .loop .inv .0, c .before .before .before .loop .inv .1, c .before .before .before .loop .inv .2 .is)
+returns c =
+    let at-loop = c .before .before .before in
+    (at-loop .loop .inv .0, at-loop .loop .inv .1, at-loop .loop .inv .2 .is)
 
 loop-less : tie.Need-loop-less Inv-loop μ-loop
 loop-less c = omega arith
 
 loop-again : tie.Need-loop-again Inv-loop μ-loop
-loop-again c = (omega arith, omega arith, bare-more _ _ _ (c .before .before .before .loop .inv .0) (c .before .before .loop-test .taken) (stays _ (λ e. c .match .rest .1 (inr (inr (inr e)))) (λ e. c .match .rest .1 (inr (inr (inl e)))) (λ e. c .match .rest .1 (inr (inl e))) (λ e. c .match .rest .1 (inl e))) (c .before .before .before .loop .inv .2))
+loop-again c =
+    let at-loop-test = c .before .before in
+    let at-loop = at-loop-test .before in
+    (omega arith, omega arith, bare-more _ _ _ (at-loop .loop .inv .0) (at-loop-test .loop-test .taken) (stays _ (λ e. c .match .rest .1 (inr (inr (inr e)))) (λ e. c .match .rest .1 (inr (inr (inl e)))) (λ e. c .match .rest .1 (inr (inl e))) (λ e. c .match .rest .1 (inl e))) (at-loop .loop .inv .2))
 
 returns-2 : tie.Need-returns-2 Inv-loop μ-loop
 returns-2 c = (c .before .loop .inv .0, c .before .loop .inv .1, c .before .loop .inv .2 .is)

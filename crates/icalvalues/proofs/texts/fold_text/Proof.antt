@@ -21,10 +21,21 @@ loop-holds : tie.Need-loop-holds Inv-loop μ-loop
 loop-holds c = (omega arith, refl, leads-start)
 
 returns : tie.Need-returns Inv-loop μ-loop
-returns c = leads-end (leads-on (c .before .before .before .before .before .before .before .loop .inv .2) (c .before .before .before .fold-all .ensures) (c .before .before .before .before .before .before .bare-end .ensures .2)) (text-ended (c .before .before .before .before .before .before .before .before .before .before .args .s .now) (c .before .before .before .before .before .before .bare-end .result) (omega arith))
+returns c =
+    let at-fold-all = c .before .before .before in
+    let at-bare-end = at-fold-all .before .before .before in
+    let at-loop = at-bare-end .before in
+    let at-args = at-loop .before .before .before in
+    leads-end (leads-on (at-loop .loop .inv .2) (at-fold-all .fold-all .ensures) (at-bare-end .bare-end .ensures .2)) (text-ended (at-args .args .s .now) (at-bare-end .bare-end .result) (omega arith))
 
 loop-again : tie.Need-loop-again Inv-loop μ-loop
-loop-again c = (omega arith, omega arith, leads-on (leads-on (c .before .before .before .before .before .before .before .before .before .before .before .before .loop .inv .2) (c .before .before .before .before .before .before .before .before .fold-all .ensures) (c .before .before .before .before .before .before .before .before .before .before .before .bare-end .ensures .2)) (c .before .before .fold-escaped .ensures) (text-here (c .before .before .before .before .before .before .before .before .before .before .before .before .before .before .before .args .s .now) (c .before .before .before .before .before .before .before .before .before .before .before .bare-end .result) (omega arith)))
+loop-again c =
+    let at-fold-escaped = c .before .before in
+    let at-fold-all = at-fold-escaped .before .before .before .before .before .before in
+    let at-bare-end = at-fold-all .before .before .before in
+    let at-loop = at-bare-end .before in
+    let at-args = at-loop .before .before .before in
+    (omega arith, omega arith, leads-on (leads-on (at-loop .loop .inv .2) (at-fold-all .fold-all .ensures) (at-bare-end .bare-end .ensures .2)) (at-fold-escaped .fold-escaped .ensures) (text-here (at-args .args .s .now) (at-bare-end .bare-end .result) (omega arith)))
 
 pub fold-text-spec : {M : Type 1} → statement M
 fold-text-spec =

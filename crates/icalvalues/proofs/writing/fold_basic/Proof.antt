@@ -10,7 +10,10 @@ part-fold-all-end : tie.Need-part-fold-all-end
 part-fold-all-end c = c .before .before .before .basic .ensures .room
 
 returns : tie.Need-returns
-returns c = as-folded (c .before .before .fold-all .ensures) (upto (c .before .before .before .before .before .before .before .basic .result .octets) (c .before .before .before .before .before .before .before .basic .result .len) ∙ c .before .before .before .before .before .before .before .basic .ensures .octets)
+returns c =
+    let at-fold-all = c .before .before in
+    let at-basic = at-fold-all .before .before .before .before .before in
+    as-folded (at-fold-all .fold-all .ensures) (upto (at-basic .basic .result .octets) (at-basic .basic .result .len) ∙ at-basic .basic .ensures .octets)
 
 pub fold-basic-spec : {M : Type 1} → statement M
 fold-basic-spec =

@@ -7,10 +7,21 @@ use Rattle.icalvalues.proofs.writing.fold_integer.Tie as tie
 use Rattle.icalvalues.proofs.writing.fold_integer.Statement.{statement}
 
 returns : tie.Need-returns
-returns c = as-folded (then (c .before .before .before .before .before .before .before .fold-octet .ensures) (c .before .before .fold-trimmed .ensures)) (negative-text _ _ (c .before .before .before .before .before .before .before .before .before .before .before .sign-length .ensures .1) (sym (c .before .before .before .before .before .before .before .before .before .before .is-negative .ensures) ∙ c .before .before .before .before .before .before .before .before .before .if1 .taken))
+returns c =
+    let at-fold-trimmed = c .before .before in
+    let at-fold-octet = at-fold-trimmed .before .before .before .before .before in
+    let at-if1 = at-fold-octet .before .before in
+    let at-is-negative = at-if1 .before in
+    let at-sign-length = at-is-negative .before in
+    as-folded (then (at-fold-octet .fold-octet .ensures) (at-fold-trimmed .fold-trimmed .ensures)) (negative-text _ _ (at-sign-length .sign-length .ensures .1) (sym (at-is-negative .is-negative .ensures) ∙ at-if1 .if1 .taken))
 
 returns-2 : tie.Need-returns-2
-returns-2 c = as-folded (c .before .before .fold-trimmed2 .ensures) (other-text _ _ (c .before .before .before .before .before .before .before .sign-length .ensures .1) (sym (c .before .before .before .before .before .before .is-negative .ensures) ∙ c .before .before .before .before .before .if1 .left))
+returns-2 c =
+    let at-fold-trimmed2 = c .before .before in
+    let at-if1 = at-fold-trimmed2 .before .before .before in
+    let at-is-negative = at-if1 .before in
+    let at-sign-length = at-is-negative .before in
+    as-folded (at-fold-trimmed2 .fold-trimmed2 .ensures) (other-text _ _ (at-sign-length .sign-length .ensures .1) (sym (at-is-negative .is-negative .ensures) ∙ at-if1 .if1 .left))
 
 pub fold-integer-spec : {M : Type 1} → statement M
 fold-integer-spec =

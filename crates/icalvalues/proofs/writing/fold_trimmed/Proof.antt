@@ -7,7 +7,11 @@ use Rattle.icalvalues.proofs.writing.fold_trimmed.Tie as tie
 use Rattle.icalvalues.proofs.writing.fold_trimmed.Statement.{statement}
 
 returns : tie.Need-returns
-returns c = as-folded (c .before .before .fold-all .ensures) (from (c .before .before .before .before .before .before .before .before .args .s .now) (c .before .before .before .before .before .leading-zeros .result) ∙ sym (c .before .before .before .before .before .leading-zeros .ensures .1))
+returns c =
+    let at-fold-all = c .before .before in
+    let at-leading-zeros = at-fold-all .before .before .before in
+    let at-args = at-leading-zeros .before .before .before in
+    as-folded (at-fold-all .fold-all .ensures) (from (at-args .args .s .now) (at-leading-zeros .leading-zeros .result) ∙ sym (at-leading-zeros .leading-zeros .ensures .1))
 
 pub fold-trimmed-spec : {M : Type 1} → statement M
 fold-trimmed-spec =

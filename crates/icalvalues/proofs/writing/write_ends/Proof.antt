@@ -28,10 +28,19 @@ returns : tie.Need-returns Inv-loop μ-loop
 returns c = leads-end (c .before .before .loop .inv .1) (ends-none _ _ (sym (c .before .tag .ensures) ∙ c .if1 .taken))
 
 loop-less : tie.Need-loop-less Inv-loop μ-loop
-loop-less c = omega (arith, c .behind .ensures .more (λ z. c .before .before .before .before .before .before .before .before .before .if1 .left (c .before .before .before .before .before .before .before .before .before .before .tag .ensures ∙ z)), c .behind .ensures .high)
+loop-less c =
+    let at-if1 = c .before .before .before .before .before .before .before .before .before in
+    let at-tag = at-if1 .before in
+    omega (arith, c .behind .ensures .more (λ z. at-if1 .if1 .left (at-tag .tag .ensures ∙ z)), c .behind .ensures .high)
 
 loop-again : tie.Need-loop-again Inv-loop μ-loop
-loop-again c = (omega (arith, c .before .before .before .before .before .before .before .before .before .before .before .loop .inv .0), leads-on (leads-on (c .before .before .before .before .before .before .before .before .before .before .before .loop .inv .1) (c .before .before .before .before .before .before .before .fold-octet .ensures) (ends-more (λ z. c .before .before .before .before .before .before .before .before .before .if1 .left (c .before .before .before .before .before .before .before .before .before .before .tag .ensures ∙ z)) (c .behind .ensures))) (c .before .before .before .write-end .ensures) refl)
+loop-again c =
+    let at-write-end = c .before .before .before in
+    let at-fold-octet = at-write-end .before .before .before .before in
+    let at-if1 = at-fold-octet .before .before in
+    let at-tag = at-if1 .before in
+    let at-loop = at-tag .before in
+    (omega (arith, at-loop .loop .inv .0), leads-on (leads-on (at-loop .loop .inv .1) (at-fold-octet .fold-octet .ensures) (ends-more (λ z. at-if1 .if1 .left (at-tag .tag .ensures ∙ z)) (c .behind .ensures))) (at-write-end .write-end .ensures) refl)
 
 pub write-ends-spec : {M : Type 1} → statement M
 write-ends-spec =

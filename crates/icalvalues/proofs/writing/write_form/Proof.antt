@@ -8,7 +8,11 @@ use Rattle.icalvalues.proofs.writing.write_form.Tie as tie
 use Rattle.icalvalues.proofs.writing.write_form.Statement.{statement}
 
 returns : tie.Need-returns
-returns c = as-folded (c .before .before .fold-basic .ensures) (ap (λ l. formText (c .before .before .before .before .before .before .before .before .args .form) (upper l)) (c .before .before .before .before .before .text-at .ensures .part))
+returns c =
+    let at-fold-basic = c .before .before in
+    let at-text-at = at-fold-basic .before .before .before in
+    let at-args = at-text-at .before .before .before in
+    as-folded (at-fold-basic .fold-basic .ensures) (ap (λ l. formText (at-args .args .form) (upper l)) (at-text-at .text-at .ensures .part))
 
 pub write-form-spec : {M : Type 1} → statement M
 write-form-spec =

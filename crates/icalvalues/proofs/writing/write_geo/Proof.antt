@@ -10,7 +10,12 @@ returns : tie.Need-returns
 returns c = as-folded none (no-geo-text _ _ (λ z. c .if1 .taken (c .before .tag .ensures ∙ z)))
 
 returns-2 : tie.Need-returns-2
-returns-2 c = as-folded (c .before .before .write-numbers .ensures) (geo-text _ _ (c .before .before .before .before .after .ensures) (sym (c .before .before .before .before .before .before .tag .ensures) ∙ c .before .before .before .before .before .if1 .left))
+returns-2 c =
+    let at-write-numbers = c .before .before in
+    let at-after = at-write-numbers .before .before in
+    let at-if1 = at-after .before in
+    let at-tag = at-if1 .before in
+    as-folded (at-write-numbers .write-numbers .ensures) (geo-text _ _ (at-after .after .ensures) (sym (at-tag .tag .ensures) ∙ at-if1 .if1 .left))
 
 pub write-geo-spec : {M : Type 1} → statement M
 write-geo-spec =

@@ -7,7 +7,10 @@ use Rattle.icalvalues.proofs.writing.write_integer.Tie as tie
 use Rattle.icalvalues.proofs.writing.write_integer.Statement.{statement}
 
 returns : tie.Need-returns
-returns c = as-folded (c .before .before .fold-integer .ensures) (ap integerText (c .before .before .before .before .before .text-at .ensures .part))
+returns c =
+    let at-fold-integer = c .before .before in
+    let at-text-at = at-fold-integer .before .before .before in
+    as-folded (at-fold-integer .fold-integer .ensures) (ap integerText (at-text-at .text-at .ensures .part))
 
 pub write-integer-spec : {M : Type 1} → statement M
 write-integer-spec =

@@ -5,7 +5,10 @@ use Rattle.icalvalues.proofs.writing.write_octets.Tie as tie
 use Rattle.icalvalues.proofs.writing.write_octets.Statement.{statement}
 
 returns : tie.Need-returns
-returns c = as-folded (c .before .before .fold-all .ensures) ((c .before .before .before .before .before .text-at .ensures .part))
+returns c =
+    let at-fold-all = c .before .before in
+    let at-text-at = at-fold-all .before .before .before in
+    as-folded (at-fold-all .fold-all .ensures) ((at-text-at .text-at .ensures .part))
 
 pub write-octets-spec : {M : Type 1} → statement M
 write-octets-spec =

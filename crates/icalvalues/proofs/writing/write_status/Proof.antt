@@ -10,7 +10,12 @@ returns : tie.Need-returns
 returns c = as-folded none (no-status-text _ _ (λ z. c .if1 .taken (c .before .tag .ensures ∙ z)))
 
 returns-2 : tie.Need-returns-2
-returns-2 c = as-folded (c .before .before .write-texts .ensures) (status-text _ _ (c .before .before .before .before .after .ensures) (sym (c .before .before .before .before .before .before .tag .ensures) ∙ c .before .before .before .before .before .if1 .left))
+returns-2 c =
+    let at-write-texts = c .before .before in
+    let at-after = at-write-texts .before .before in
+    let at-if1 = at-after .before in
+    let at-tag = at-if1 .before in
+    as-folded (at-write-texts .write-texts .ensures) (status-text _ _ (at-after .after .ensures) (sym (at-tag .tag .ensures) ∙ at-if1 .if1 .left))
 
 pub write-status-spec : {M : Type 1} → statement M
 write-status-spec =

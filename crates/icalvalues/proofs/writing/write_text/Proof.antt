@@ -9,7 +9,10 @@ use Rattle.icalvalues.proofs.writing.write_text.Statement.{statement}
 
 returns : tie.Need-returns
 unfolding valueText
-returns c = as-folded (c .before .before .fold-text .ensures) (ap textText (c .before .before .before .before .before .text-at .ensures .part))
+returns c =
+    let at-fold-text = c .before .before in
+    let at-text-at = at-fold-text .before .before .before in
+    as-folded (at-fold-text .fold-text .ensures) (ap textText (at-text-at .text-at .ensures .part))
 
 pub write-text-spec : {M : Type 1} → statement M
 write-text-spec =

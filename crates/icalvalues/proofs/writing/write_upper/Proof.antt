@@ -7,7 +7,10 @@ use Rattle.icalvalues.proofs.writing.write_upper.Tie as tie
 use Rattle.icalvalues.proofs.writing.write_upper.Statement.{statement}
 
 returns : tie.Need-returns
-returns c = as-folded (c .before .before .fold-upper .ensures) (ap upper (c .before .before .before .before .before .text-at .ensures .part))
+returns c =
+    let at-fold-upper = c .before .before in
+    let at-text-at = at-fold-upper .before .before .before in
+    as-folded (at-fold-upper .fold-upper .ensures) (ap upper (at-text-at .text-at .ensures .part))
 
 pub write-upper-spec : {M : Type 1} → statement M
 write-upper-spec =

@@ -12,7 +12,11 @@ returns-2 : tie.Need-returns-2
 returns-2 c = as-folded none (no-second _ _ _ _ (c .if2 .taken))
 
 returns-3 : tie.Need-returns-3
-returns-3 c = as-folded (c .before .before .before .before .before .before .write-all .ensures) (both-rooms _ _ _ _ (c .before .before .before .before .before .before .before .before .before .before .before .if1 .left) (c .before .before .before .before .before .before .before .before .before .before .if2 .left))
+returns-3 c =
+    let at-write-all = c .before .before .before .before .before .before in
+    let at-if2 = at-write-all .before .before .before .before in
+    let at-if1 = at-if2 .before in
+    as-folded (at-write-all .write-all .ensures) (both-rooms _ _ _ _ (at-if1 .if1 .left) (at-if2 .if2 .left))
 
 pub write-values-spec : {M : Type 1} → statement M
 write-values-spec =
