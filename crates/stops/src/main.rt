@@ -5,7 +5,5 @@ fn main() {
     let n = io::read_full(0, &mut text);
     let mut out = [0u8; 4096];
     let m = stopspage::print_page(&mut out, &text[0..n]);
-    if m <= 4096 {
-        io::write_all(1, &out[0..m]);
-    }
+    io::write_all(1, &out[0..m]);
 }

@@ -2,4 +2,5 @@ pub mod Cutting
 pub mod Numbers
 pub mod Showing
 pub mod Answering
+pub mod Lengths
 pub mod Worked

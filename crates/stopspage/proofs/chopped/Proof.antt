@@ -28,10 +28,14 @@ part-result-end : tie.Need-part-result-end
 part-result-end c = search needs
 
 returns-2 : tie.Need-returns-2
-returns-2 c = let s = c .before .before .before .before .args .s .now in upto s (length s - 1) ∙ chop-return s (length s - 1) (omega arith) (c .before .if2 .taken)
+returns-2 c =
+    let args = c .before .before .before .before .args in
+    let s = args .s .now in upto s (length s - 1) ∙ chop-return s (length s - 1) (omega arith) (c .before .if2 .taken)
 
 returns-3 : tie.Need-returns-3
-returns-3 c = let s = c .before .before .before .args .s .now in chop-other s (length s - 1) (omega arith) (c .if2 .left)
+returns-3 c =
+    let args = c .before .before .before .args in
+    let s = args .s .now in chop-other s (length s - 1) (omega arith) (c .if2 .left)
 
 pub chopped-spec : {M : Type 1} → statement M
 chopped-spec =

@@ -17,16 +17,26 @@ leading-zeros-requires : tie.Need-leading-zeros-requires
 leading-zeros-requires c κs = search needs
 
 returns-2 : tie.Need-returns-2
-returns-2 c = zeros _ (sym (c .before .before .before .all-digits .ensures) ∙ not-false _ (c .before .before .if1 .left)) _ (c .before .leading-zeros .ensures .0) (c .before .leading-zeros .ensures .1) (c .if2 .taken)
+returns-2 c =
+    let all-digits = c .before .before .before .all-digits in
+    zeros _ (sym (all-digits .ensures) ∙ not-false _ (c .before .before .if1 .left)) _ (c .before .leading-zeros .ensures .0) (c .before .leading-zeros .ensures .1) (c .if2 .taken)
 
 value-of-requires : tie.Need-value-of-requires
 value-of-requires c κs = search needs
 
 returns-3 : tie.Need-returns-3
-returns-3 c = too-many _ (sym (c .before .before .before .before .before .all-digits .ensures) ∙ not-false _ (c .before .before .before .before .if1 .left)) _ (c .before .before .before .leading-zeros .ensures .0) (c .before .before .before .leading-zeros .ensures .1) (c .before .before .if2 .left) _ (c .before .value-of .ensures) (omega arith)
+returns-3 c =
+    let all-digits = c .before .before .before .before .before .all-digits in
+    let if1 = c .before .before .before .before .if1 in
+    let leading-zeros = c .before .before .before .leading-zeros in
+    too-many _ (sym (all-digits .ensures) ∙ not-false _ (if1 .left)) _ (leading-zeros .ensures .0) (leading-zeros .ensures .1) (c .before .before .if2 .left) _ (c .before .value-of .ensures) (omega arith)
 
 returns-4 : tie.Need-returns-4
-returns-4 c = is-most _ (sym (c .before .before .before .before .before .all-digits .ensures) ∙ not-false _ (c .before .before .before .before .if1 .left)) _ (c .before .before .before .leading-zeros .ensures .0) (c .before .before .before .leading-zeros .ensures .1) (c .before .before .if2 .left) _ (c .before .value-of .ensures) (omega arith)
+returns-4 c =
+    let all-digits = c .before .before .before .before .before .all-digits in
+    let if1 = c .before .before .before .before .if1 in
+    let leading-zeros = c .before .before .before .leading-zeros in
+    is-most _ (sym (all-digits .ensures) ∙ not-false _ (if1 .left)) _ (leading-zeros .ensures .0) (leading-zeros .ensures .1) (c .before .before .if2 .left) _ (c .before .value-of .ensures) (omega arith)
 
 pub most-of-spec : {M : Type 1} → statement M
 most-of-spec =

@@ -23,19 +23,29 @@ same-length : tie.Need-same-length
 same-length c = search needs
 
 returns : tie.Need-returns
-returns c = as-text (c .before .before .put-bad .ensures) (no-most _ _ _ (ap mostSaid (sym (c .before .before .before .before .enum-told .given .1)) ∙ c .before .before .before .before .before .before .most-of .ensures))
+returns c =
+    let enum-told = c .before .before .before .before .enum-told in
+    let most-of = c .before .before .before .before .before .before .most-of in
+    as-text (c .before .before .put-bad .ensures) (no-most _ _ _ (ap mostSaid (sym (enum-told .given .1)) ∙ most-of .ensures))
 
 list-page-requires : tie.Need-list-page-requires
 list-page-requires c κs = search needs
 
 put-answer-requires : tie.Need-put-answer-requires
-put-answer-requires c κs = most-bound _ _ (ap mostSaid (sym (c .before .before .before .before .n .given .1)) ∙ c .before .before .before .before .before .before .most-of .ensures)
+put-answer-requires c κs =
+    let n = c .before .before .before .before .n in
+    let most-of = c .before .before .before .before .before .before .most-of in
+    most-bound _ _ (ap mostSaid (sym (n .given .1)) ∙ most-of .ensures)
 
 same-length-2 : tie.Need-same-length-2
 same-length-2 c = search needs
 
 returns-2 : tie.Need-returns-2
-returns-2 c = as-text (c .before .before .put-answer .ensures) (page-shown _ _ _ _ (ap mostSaid (sym (c .before .before .before .before .before .before .before .n .given .1)) ∙ c .before .before .before .before .before .before .before .before .before .most-of .ensures) _ _ _ (c .before .before .before .before .before .list-page .ensures))
+returns-2 c =
+    let n = c .before .before .before .before .before .before .before .n in
+    let most-of = c .before .before .before .before .before .before .before .before .before .most-of in
+    let list-page = c .before .before .before .before .before .list-page in
+    as-text (c .before .before .put-answer .ensures) (page-shown _ _ _ _ (ap mostSaid (sym (n .given .1)) ∙ most-of .ensures) _ _ _ (list-page .ensures))
 
 pub print-for-spec : {M : Type 1} → statement M
 print-for-spec =

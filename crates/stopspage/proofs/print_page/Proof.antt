@@ -17,7 +17,9 @@ same-length : tie.Need-same-length
 same-length c = search needs
 
 returns : tie.Need-returns
-returns c = as-text (c .before .before .put-bad .ensures) (too-long (c .before .before .before .before .before .before .before .args .text .now) (rw most-text (omega arith)))
+returns c =
+    let args = c .before .before .before .before .before .before .before .args in
+    as-text (c .before .before .put-bad .ensures) (too-long (args .text .now) (rw most-text (omega arith)))
 
 find-requires : tie.Need-find-requires
 find-requires c κs = search needs
@@ -29,7 +31,11 @@ same-length-2 : tie.Need-same-length-2
 same-length-2 c = search needs
 
 returns-2 : tie.Need-returns-2
-returns-2 c = as-text (c .before .before .put-bad2 .ensures) (one-line (c .before .before .before .before .before .before .before .before .before .args .text .now) (rw most-text (omega arith)) _ (c .before .before .before .before .before .find .ensures) (c .before .before .before .before .if2 .taken))
+returns-2 c =
+    let args = c .before .before .before .before .before .before .before .before .before .args in
+    let find = c .before .before .before .before .before .find in
+    let if2 = c .before .before .before .before .if2 in
+    as-text (c .before .before .put-bad2 .ensures) (one-line (args .text .now) (rw most-text (omega arith)) _ (find .ensures) (if2 .taken))
 
 add-rest : tie.Need-add-rest
 add-rest c = search needs
@@ -53,9 +59,14 @@ same-length-3 : tie.Need-same-length-3
 same-length-3 c = search needs
 
 returns-3 : tie.Need-returns-3
-returns-3 c = let s = c .before .before .before .before .before .before .before .before .before .before .before .before .args .text .now in
-    let n = c .before .before .before .before .before .before .before .before .find .result in
-    as-text (c .before .before .put-bad3 .ensures) (two-lines s (rw most-text (omega arith)) n (c .before .before .before .before .before .before .before .before .find .ensures) (omega arith) _ (rw (from s (n + 1)) at (c .before .before .before .before .before .find2 .ensures)) (rw (from s (n + 1)) at (c .before .before .before .before .if3 .taken)))
+returns-3 c =
+    let args = c .before .before .before .before .before .before .before .before .before .before .before .before .args in
+    let find = c .before .before .before .before .before .before .before .before .find in
+    let find2 = c .before .before .before .before .before .find2 in
+    let if3 = c .before .before .before .before .if3 in
+    let s = args .text .now in
+    let n = find .result in
+    as-text (c .before .before .put-bad3 .ensures) (two-lines s (rw most-text (omega arith)) n (find .ensures) (omega arith) _ (rw (from s (n + 1)) at (find2 .ensures)) (rw (from s (n + 1)) at (if3 .taken)))
 
 sub-print-third : tie.Need-sub-print-third
 sub-print-third c = search needs
@@ -94,12 +105,17 @@ same-length-4 : tie.Need-same-length-4
 same-length-4 c = search needs
 
 returns-4 : tie.Need-returns-4
-returns-4 c = let s = c .before .before .before .before .before .before .before .before .before .before .before .before .before .before .before .args .text .now in
-    let n = c .before .before .before .before .before .before .before .before .before .before .before .find .result in
-    let m = c .before .before .before .before .before .before .before .before .find2 .result in
+returns-4 c =
+    let args = c .before .before .before .before .before .before .before .before .before .before .before .before .before .before .before .args in
+    let find = c .before .before .before .before .before .before .before .before .before .before .before .find in
+    let find2 = c .before .before .before .before .before .before .before .before .find2 in
+    let if3 = c .before .before .before .before .before .before .before .if3 in
+    let s = args .text .now in
+    let n = find .result in
+    let m = find2 .result in
     as-text (c .before .before .print-third .ensures)
     (rw (from s (n + 1), upto s n, upto (drop (n + 1) s) m, from (drop (n + 1) s) (m + 1))
-    (third-line s (rw most-text (omega arith)) n (c .before .before .before .before .before .before .before .before .before .before .before .find .ensures) (omega arith) m (rw (from s (n + 1)) at (c .before .before .before .before .before .before .before .before .find2 .ensures)) (rw (from s (n + 1)) at (c .before .before .before .before .before .before .before .if3 .left))))
+    (third-line s (rw most-text (omega arith)) n (find .ensures) (omega arith) m (rw (from s (n + 1)) at (find2 .ensures)) (rw (from s (n + 1)) at (if3 .left))))
 
 pub print-page-spec : {M : Type 1} → statement M
 print-page-spec =

@@ -23,7 +23,12 @@ same-length : tie.Need-same-length
 same-length c = search needs
 
 returns : tie.Need-returns
-returns c = as-text (c .before .before .print-for .ensures) (rw (c .before .before .before .before .before .before .chopped .ensures, c .before .before .before .before .before .chopped2 .ensures) (third-open _ _ _ _ (c .before .before .before .before .before .before .before .find .ensures) (c .before .before .before .before .if1 .taken)))
+returns c =
+    let chopped = c .before .before .before .before .before .before .chopped in
+    let chopped2 = c .before .before .before .before .before .chopped2 in
+    let find = c .before .before .before .before .before .before .before .find in
+    let if1 = c .before .before .before .before .if1 in
+    as-text (c .before .before .print-for .ensures) (rw (chopped .ensures, chopped2 .ensures) (third-open _ _ _ _ (find .ensures) (if1 .taken)))
 
 add-if2 : tie.Need-add-if2
 add-if2 c = search needs
@@ -47,7 +52,14 @@ same-length-2 : tie.Need-same-length-2
 same-length-2 c = search needs
 
 returns-2 : tie.Need-returns-2
-returns-2 c = as-text (c .before .before .print-for2 .ensures) (rw (c .before .before .before .before .before .before .before .before .before .chopped .ensures, c .before .before .before .before .before .before .before .before .chopped2 .ensures, c .before .before .before .chopped3 .ensures, upto (c .before .before .before .before .before .before .before .before .before .before .before .before .before .before .before .args .s .now) (c .before .before .before .before .before .before .before .before .before .before .find .result)) (third-ended _ _ _ _ (c .before .before .before .before .before .before .before .before .before .before .find .ensures) (c .before .before .before .before .before .before .if2 .taken)))
+returns-2 c =
+    let chopped = c .before .before .before .before .before .before .before .before .before .chopped in
+    let chopped2 = c .before .before .before .before .before .before .before .before .chopped2 in
+    let chopped3 = c .before .before .before .chopped3 in
+    let args = c .before .before .before .before .before .before .before .before .before .before .before .before .before .before .before .args in
+    let find = c .before .before .before .before .before .before .before .before .before .before .find in
+    let if2 = c .before .before .before .before .before .before .if2 in
+    as-text (c .before .before .print-for2 .ensures) (rw (chopped .ensures, chopped2 .ensures, chopped3 .ensures, upto (args .s .now) (find .result)) (third-ended _ _ _ _ (find .ensures) (if2 .taken)))
 
 put-bad-requires : tie.Need-put-bad-requires
 put-bad-requires c κs = search needs
@@ -56,7 +68,10 @@ same-length-3 : tie.Need-same-length-3
 same-length-3 c = search needs
 
 returns-3 : tie.Need-returns-3
-returns-3 c = as-text (c .before .before .put-bad .ensures) (third-more _ _ _ _ (c .before .before .before .before .before .before .before .before .find .ensures) (omega arith) (c .before .before .before .before .if2 .left))
+returns-3 c =
+    let find = c .before .before .before .before .before .before .before .before .find in
+    let if2 = c .before .before .before .before .if2 in
+    as-text (c .before .before .put-bad .ensures) (third-more _ _ _ _ (find .ensures) (omega arith) (if2 .left))
 
 pub print-third-spec : {M : Type 1} → statement M
 print-third-spec =

@@ -40,13 +40,20 @@ same-length : tie.Need-same-length
 same-length c = search needs
 
 returns : tie.Need-returns
-returns c = rw (c .before .before .before .before .before .before .before .before .before .before .before .listed .given .1) (as-text (then (c .before .before .before .before .before .before .put-head .ensures) (c .before .before .put-stops .ensures)) (rw (c .before .before .before .before .before .before .before .before .before .fewer .ensures) (page-head _ _ _ (omega arith))))
+returns c =
+    let listed = c .before .before .before .before .before .before .before .before .before .before .before .listed in
+    let put-head = c .before .before .before .before .before .before .put-head in
+    let fewer = c .before .before .before .before .before .before .before .before .before .fewer in
+    rw (listed .given .1) (as-text (then (put-head .ensures) (c .before .before .put-stops .ensures)) (rw (fewer .ensures) (page-head _ _ _ (omega arith))))
 
 same-length-2 : tie.Need-same-length-2
 same-length-2 c = search needs
 
 returns-2 : tie.Need-returns-2
-returns-2 c = rw (c .before .before .before .before .before .before .before .listed2 .given .1) (as-text (c .before .before .put-head2 .ensures) (rw (c .before .before .before .number .ensures) (page-number _ _ _)))
+returns-2 c =
+    let listed2 = c .before .before .before .before .before .before .before .listed2 in
+    let number = c .before .before .before .number in
+    rw (listed2 .given .1) (as-text (c .before .before .put-head2 .ensures) (rw (number .ensures) (page-number _ _ _)))
 
 pub put-answer-spec : {M : Type 1} → statement M
 put-answer-spec =

@@ -19,7 +19,10 @@ same-length c = search needs
 
 returns : tie.Need-returns
 unfolding headShown
-returns c = then (c .before .before .before .before .before .before .before .before .before .before .put-all .ensures) (then (c .before .before .before .before .before .before .put-decimal .ensures) (c .before .before .put .ensures))
+returns c =
+    let put-all = c .before .before .before .before .before .before .before .before .before .before .put-all in
+    let put-decimal = c .before .before .before .before .before .before .put-decimal in
+    then (put-all .ensures) (then (put-decimal .ensures) (c .before .before .put .ensures))
 
 pub put-head-spec : {M : Type 1} → statement M
 put-head-spec =

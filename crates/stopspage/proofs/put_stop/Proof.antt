@@ -25,7 +25,12 @@ same-length c = search needs
 
 returns : tie.Need-returns
 unfolding stopShown momentShown dateShown
-returns c = then (c .before .before .before .before .before .before .before .before .before .before .before .before .before .before .before .before .before .before .put-decimal .ensures) (then (c .before .before .before .before .before .before .before .before .before .before .before .before .before .before .put .ensures) (then (then (c .before .before .before .before .before .before .before .before .before .before .put-three .ensures) (c .before .before .before .before .before .before .put-time .ensures)) (c .before .before .put2 .ensures)))
+returns c =
+    let put-decimal = c .before .before .before .before .before .before .before .before .before .before .before .before .before .before .before .before .before .before .put-decimal in
+    let put = c .before .before .before .before .before .before .before .before .before .before .before .before .before .before .put in
+    let put-three = c .before .before .before .before .before .before .before .before .before .before .put-three in
+    let put-time = c .before .before .before .before .before .before .put-time in
+    then (put-decimal .ensures) (then (put .ensures) (then (then (put-three .ensures) (put-time .ensures)) (c .before .before .put2 .ensures)))
 
 pub put-stop-spec : {M : Type 1} → statement M
 put-stop-spec =

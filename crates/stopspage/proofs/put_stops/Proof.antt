@@ -39,13 +39,19 @@ loop-less : tie.Need-loop-less Inv-loop μ-loop
 loop-less c = search needs
 
 loop-again : tie.Need-loop-again Inv-loop μ-loop
-loop-again c = (omega arith, omega arith, leads-on (c .before .before .before .before .before .before .loop .inv .2) (c .before .before .put-stop .ensures) (stops-on _ (c .before .before .before .before .before .before .before .before .args .t3) (c .before .before .before .before .before .before .before .before .args .n) (c .before .before .before .before .before .before .loop .i) (c .before .before .before .before .before .loop-test .taken) (omega arith)))
+loop-again c =
+    let loop = c .before .before .before .before .before .before .loop in
+    let args = c .before .before .before .before .before .before .before .before .args in
+    let loop-test = c .before .before .before .before .before .loop-test in
+    (omega arith, omega arith, leads-on (loop .inv .2) (c .before .before .put-stop .ensures) (stops-on _ (args .t3) (args .n) (loop .i) (loop-test .taken) (omega arith)))
 
 same-length : tie.Need-same-length Inv-loop μ-loop
 same-length c = search needs
 
 returns : tie.Need-returns Inv-loop μ-loop
-returns c = leads-end (c .before .loop .inv .2) (stops-end (c .before .before .before .args .t3) (c .before .before .before .args .n) (c .before .loop .i) (c .before .loop .i + 1) (c .loop-test .left))
+returns c =
+    let args = c .before .before .before .args in
+    leads-end (c .before .loop .inv .2) (stops-end (args .t3) (args .n) (c .before .loop .i) (c .before .loop .i + 1) (c .loop-test .left))
 
 pub put-stops-spec : {M : Type 1} → statement M
 put-stops-spec =

@@ -25,7 +25,12 @@ same-length c = search needs
 
 returns : tie.Need-returns
 unfolding threeShown
-returns c = then (c .before .before .before .before .before .before .before .before .before .before .before .before .before .before .before .before .before .before .put-figures .ensures) (then (c .before .before .before .before .before .before .before .before .before .before .before .before .before .before .put .ensures) (then (c .before .before .before .before .before .before .before .before .before .before .put-figures2 .ensures) (then (c .before .before .before .before .before .before .put2 .ensures) (c .before .before .put-figures3 .ensures))))
+returns c =
+    let put-figures = c .before .before .before .before .before .before .before .before .before .before .before .before .before .before .before .before .before .before .put-figures in
+    let put = c .before .before .before .before .before .before .before .before .before .before .before .before .before .before .put in
+    let put-figures2 = c .before .before .before .before .before .before .before .before .before .before .put-figures2 in
+    let put2 = c .before .before .before .before .before .before .put2 in
+    then (put-figures .ensures) (then (put .ensures) (then (put-figures2 .ensures) (then (put2 .ensures) (c .before .before .put-figures3 .ensures))))
 
 pub put-three-spec : {M : Type 1} → statement M
 put-three-spec =

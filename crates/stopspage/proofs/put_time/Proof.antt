@@ -38,14 +38,21 @@ same-length c = search needs
 
 returns-2 : tie.Need-returns-2
 unfolding timeShown clockShown
-returns-2 c = rw (c .before .before .before .before .before .before .before .before .enum-told2 .given .1) (then (c .before .before .before .before .before .before .put .ensures) (c .before .before .put-three .ensures))
+returns-2 c =
+    let enum-told2 = c .before .before .before .before .before .before .before .before .enum-told2 in
+    let put = c .before .before .before .before .before .before .put in
+    rw (enum-told2 .given .1) (then (put .ensures) (c .before .before .put-three .ensures))
 
 same-length-2 : tie.Need-same-length-2
 same-length-2 c = search needs
 
 returns-3 : tie.Need-returns-3
 unfolding timeShown clockShown
-returns-3 c = rw (c .before .before .before .before .before .before .before .before .before .before .before .before .enum-told3 .given .1) (then (c .before .before .before .before .before .before .before .before .before .before .put2 .ensures) (then (c .before .before .before .before .before .before .put-three2 .ensures) (c .before .before .put3 .ensures)))
+returns-3 c =
+    let enum-told3 = c .before .before .before .before .before .before .before .before .before .before .before .before .enum-told3 in
+    let put2 = c .before .before .before .before .before .before .before .before .before .before .put2 in
+    let put-three2 = c .before .before .before .before .before .before .put-three2 in
+    rw (enum-told3 .given .1) (then (put2 .ensures) (then (put-three2 .ensures) (c .before .before .put3 .ensures)))
 
 pub put-time-spec : {M : Type 1} → statement M
 put-time-spec =
