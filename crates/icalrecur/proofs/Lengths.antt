@@ -1,20 +1,20 @@
 -- A rule in its normal form is no longer than the text that it was read from.
 use Prim.Native.Nat.{ℕ, suc, _+_, _-_, _≤_}
 use Prim.Native.Char.{code}
-use mathlib.Core.Path.{_≡_, refl, sym, ap, _∙_}
-use mathlib.Core.Bool.{Bool, true, false}
+use mathlib.Core.Path.{_≡_, sym, ap}
+use mathlib.Core.Bool.{Bool, true}
 use mathlib.Core.List.{List, [], _∷_, _++_, map}
-use mathlib.Core.Option.{Option, none, some}
+use mathlib.Core.Option.{none, some}
 use native.Mathlib.Omega.{arith}
 use lib.ListN.{length, take, drop, length-append, length-take, length-drop}
 use Rattle.octets.specs.Basics.{_or_, single}
-use Rattle.octets.specs.Optional.{map?, then?, when, guard, each}
+use Rattle.octets.specs.Optional.{map?, when, guard, each}
 use Rattle.octets.specs.Classes.{upper}
 use Rattle.octets.specs.Decimal.{trim, integerText}
 use Rattle.octets.specs.Pieces.{split, joined}
 use Rattle.octets.proofs.Optional.{missing, some-same, when-is, guard-is}
 use Rattle.octets.proofs.Pieces.{joined-split}
-use Rattle.calendar.specs.Recurrence.{Sort, frequency, moment, count, weekday, ordinal, numbers, Key, keys, keyNamed, weekdays, wordOf, untilOf, countOf, numberOf, ordinalOf, dayOf, itemOf, several, Part, part, keyedPart, partOf, partsOf, partText, partsText}
+use Rattle.calendar.specs.Recurrence.{Sort, frequency, moment, count, weekday, ordinal, numbers, keys, keyNamed, weekdays, wordOf, untilOf, countOf, numberOf, ordinalOf, dayOf, itemOf, several, Part, part, keyedPart, partOf, partsOf, partText, partsText}
 use Rattle.calendar.specs.Walk.{ruleShown}
 use Rattle.calendar.proofs.Options.{map-is, then-is}
 use Rattle.calendar.proofs.Pieces.{upper-length}

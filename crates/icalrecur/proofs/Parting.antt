@@ -1,16 +1,14 @@
 -- The text of a recurrence object, piece by piece: a value, the values of an array, a member, the members.
 use Prim.Native.Nat.{ℕ, _≤_, _<_}
 use Prim.Native.Char.{code}
-use mathlib.Core.Path.{_≡_, refl, sym, ap, _∙_}
+use mathlib.Core.Path.{_≡_, refl, sym, ap}
 use mathlib.Core.List.{List, [], _∷_, _++_}
-use mathlib.Core.Option.{none, some}
+use mathlib.Core.Option.{none}
 use Rattle.octets.specs.Optional.{given}
 use Rattle.octets.specs.Classes.{upper}
 use Rattle.octets.specs.Decimal.{integerText}
-use Rattle.octets.specs.Pen.{Pen, Wrote}
 use Rattle.octets.specs.Pieces.{joined}
-use Rattle.octets.proofs.Pen.{then, as-text}
-use Rattle.calendar.specs.Recurrence.{Sort, Key}
+use Rattle.calendar.specs.Recurrence.{Sort}
 use Rattle.calendar.specs.Walk.{keyPlace, keyAt}
 use Rattle.calendar.proofs.Walk.{key-known, key-unknown}
 use Rattle.json.specs.Tree.{Json, num, str, arr, Items, noItems, item, member, string?, number?, array?}

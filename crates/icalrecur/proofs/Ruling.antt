@@ -1,7 +1,7 @@
 -- A recurrence object as a rule: its text in lent memory, what the recurrence reader says of it, and its normal form.
 use Prim.Native.Nat.{ℕ, _-_, _≤_, _<_}
 use mathlib.Core.Path.{_≡_, refl, sym, ap, _∙_}
-use mathlib.Core.Bool.{Bool, true, false}
+use mathlib.Core.Bool.{true, false}
 use mathlib.Core.List.{List, []}
 use mathlib.Core.Option.{Option, none, some}
 use native.Mathlib.Omega.{arith}
@@ -14,10 +14,9 @@ use Rattle.octets.proofs.Cases.{never, and-false-right, pick-same}
 use Rattle.octets.proofs.Optional.{some-is}
 use Rattle.octets.proofs.Pen.{Landed, landed, kept}
 use Rattle.octets.proofs.Positions.{upto}
-use Rattle.calendar.specs.Recurrence.{Part, partsOf, partsText}
+use Rattle.calendar.specs.Recurrence.{Part, partsOf}
 use Rattle.calendar.specs.Walk.{ruleShown}
 use Rattle.calendar.proofs.Showing.{rule-shown}
-use Rattle.json.specs.Tree.{Members, obj, object?}
 use Rattle.json.specs.Tape.{tagObject}
 use Rattle.tape.specs.Decode.{tagAt, valueAt, membersAt}
 use Rattle.tape.specs.Promise.{After}

@@ -1,15 +1,14 @@
 -- The text of a recurrence object is no longer than the tape.
-use Prim.Native.Nat.{ℕ, suc, _+_, _-_, _≤_}
+use Prim.Native.Nat.{ℕ, suc, _+_, _≤_}
 use Prim.Native.Char.{code}
-use mathlib.Core.Path.{_≡_, refl, sym, ap, _∙_}
+use mathlib.Core.Path.{_≡_, refl}
 use mathlib.Core.Bool.{Bool, true, false, not}
-use mathlib.Core.List.{List, [], _∷_, _++_}
+use mathlib.Core.List.{List, [], _∷_}
 use mathlib.Core.Option.{Option, none, some}
 use native.Mathlib.Omega.{arith}
-use borrow.Author.Tests.{eqb-true}
 use lib.Dec.{eqb, leb}
 use lib.ListN.{length, drop, getD, length-append, length-drop}
-use Rattle.octets.specs.Basics.{pick, _and_, _or_}
+use Rattle.octets.specs.Basics.{_and_}
 use Rattle.octets.specs.Optional.{given}
 use Rattle.octets.specs.Classes.{isDigit, upper}
 use Rattle.octets.specs.Decimal.{isSign, minus, unsigned, valueOf, trim, minusIf, integerText}
@@ -19,9 +18,9 @@ use Rattle.calendar.specs.Forms.{dateTimeForm, Slot, digit, sign, letter, added
 use Rattle.calendar.specs.Dates.{dateTimeText, momentText}
 use Rattle.calendar.specs.Recurrence.{Sort, frequency, moment, count, weekday, ordinal, numbers, Key, keyNamed}
 use Rattle.calendar.proofs.Pieces.{upper-length}
-use Rattle.json.specs.Tree.{Json, null, falsity, truth, num, str, arr, obj, Items, noItems, item, Members, noMembers, member, string?, number?, array?, octetsOf}
+use Rattle.json.specs.Tree.{Json, null, falsity, truth, num, str, arr, obj, Items, noItems, item, noMembers, member, string?, number?, array?, octetsOf}
 use Rattle.json.specs.Tape.{tagFalse, tagTrue, tagNumber, tagString, tagArray, tagObject, tagEnd}
-use Rattle.tape.specs.Decode.{paired, valued, Groups, last, group, top, pop, push, text, inText, onto, groups, view, itemsAt, membersAt}
+use Rattle.tape.specs.Decode.{paired, valued, Groups, last, group, top, pop, push, text, inText, groups, view, itemsAt, membersAt}
 use Rattle.values.specs.Recur.{stringText, itemText, itemTexts, valueTexts, memberText, memberTexts}
 use Rattle.icalrecur.specs.Wording.{itemsText, valuesText, objectText}
 

@@ -3,18 +3,17 @@ use Prim.Native.Nat.{ℕ, _+_, _≤_, _<_}
 use mathlib.Core.Path.{_≡_, refl, sym, ap, _∙_}
 use mathlib.Core.Bool.{Bool, true, false}
 use mathlib.Core.List.{List, map}
-use mathlib.Core.Option.{none, some}
-use native.Mathlib.Omega.{arith}
-use Rattle.octets.specs.Basics.{_and_, all}
+use mathlib.Core.Option.{none}
+use Rattle.octets.specs.Basics.{_and_}
 use Rattle.octets.specs.Optional.{holds, given}
 use Rattle.octets.specs.Classes.{between, isLower, upperOctet, isLowerName, upper}
 use Rattle.octets.specs.Pieces.{split, cut, onto}
-use Rattle.octets.proofs.Cases.{and-assoc, both, never}
+use Rattle.octets.proofs.Cases.{and-assoc, never}
 use Rattle.calendar.specs.Recurrence.{Sort, frequency, moment, count, weekday, ordinal, numbers, several, Key, keys}
 use Rattle.calendar.specs.Walk.{wordsIn, wordPlace, keyPlace, keyAt}
 use Rattle.calendar.proofs.Keys.{keyWords}
 use Rattle.calendar.proofs.Walk.{key-known, key-unknown}
-use Rattle.json.specs.Tree.{Json, num, str, arr, Items, noItems, item, noMembers, member, string?, number?, array?}
+use Rattle.json.specs.Tree.{Json, num, str, arr, Items, item, member, string?, number?, array?}
 use Rattle.json.specs.Tape.{tagNumber, tagString, tagArray, tagEnd}
 use Rattle.tape.specs.Decode.{tagAt, valueAt, itemsAt, membersAt}
 use Rattle.tape.specs.Promise.{After, Next, TextAt}

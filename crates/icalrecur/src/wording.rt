@@ -1,5 +1,4 @@
 // The text of a recurrence object as the recurrence reader takes it: its parts with semicolons between them.
-ghost use mathlib.Core.Path.{_≡_};
 ghost use Rattle.octets.specs.Pen.{pen, Wrote};
 ghost use Rattle.calendar.specs.Walk.{sortSaid};
 ghost use Rattle.tape.specs.Decode.{valueAt, itemsAt, membersAt};

@@ -1,27 +1,26 @@
 -- Values that are arrays: GEO, periods and REQUEST-STATUS.
-use Prim.Native.Nat.{ℕ, suc, _+_, _≤_, min}
+use Prim.Native.Nat.{ℕ, min}
 use Prim.Native.Char.{code}
 use mathlib.Core.Path.{_≡_, refl, sym, ap, _∙_}
 use mathlib.Core.Bool.{Bool, true, false}
 use mathlib.Core.List.{List, [], _∷_, _++_, map, append-nil}
-use mathlib.Core.Option.{none, some}
 use native.Mathlib.Omega.{arith}
 use lib.ListN.{length, getD}
 use Rattle.octets.specs.Basics.{_and_, all}
-use Rattle.octets.specs.Optional.{holds, given}
+use Rattle.octets.specs.Optional.{holds}
 use Rattle.octets.specs.Classes.{upper}
 use Rattle.octets.specs.Pieces.{joined}
 use Rattle.octets.proofs.Cases.{and-true-right}
 use Rattle.calendar.specs.Dates.{dateTimeIs, dateTimeText}
 use Rattle.calendar.specs.Durations.{periodEndIs, periodEndText}
-use Rattle.json.specs.Tree.{Json, null, Items, array?, listOf, octetsOf, elements}
+use Rattle.json.specs.Tree.{Json, null, octetsOf, elements}
 use Rattle.json.specs.Tape.{tagArray, tagEnd}
-use Rattle.tape.specs.Decode.{tagAt, valueAt, itemsAt, listAt}
+use Rattle.tape.specs.Decode.{tagAt, valueAt, listAt}
 use Rattle.tape.specs.Promise.{After, Next}
 use Rattle.tape.proofs.Values.{no-array, no-elements, list-head, list-tail, list-end, list-next}
 use Rattle.tape.proofs.Walks.{array-some, elements-inside}
 use Rattle.values.specs.Sorts.{geo, period, status}
-use Rattle.values.specs.Texts.{textIs, textText}
+use Rattle.values.specs.Texts.{textIs}
 use Rattle.values.specs.Simple.{floatOf}
 use Rattle.values.specs.Write.{isString, isLettered, isNumber, isTwo, isTwoOrThree, isArray, valueIs, elementsText, periodText, valueText}
 use Rattle.icalvalues.specs.Written.{geoText, statusText, endsText}

@@ -1,13 +1,13 @@
 -- What the value at a place is, by its tag and its octets.
 use Prim.Native.Nat.{ℕ}
-use mathlib.Core.Path.{_≡_, refl, sym, ap, _∙_}
+use mathlib.Core.Path.{_≡_}
 use mathlib.Core.Bool.{Bool, true, false}
 use mathlib.Core.List.{List, []}
-use mathlib.Core.Option.{Option, none, some}
+use mathlib.Core.Option.{Option}
 use Rattle.octets.specs.Basics.{octets}
 use Rattle.octets.specs.Optional.{isSome, holds, given}
 use Rattle.octets.specs.Classes.{upper}
-use Rattle.json.specs.Tree.{string?, number?, boolean?, octetsOf}
+use Rattle.json.specs.Tree.{boolean?}
 use Rattle.json.specs.Tape.{tagFalse, tagTrue, tagNumber, tagString}
 use Rattle.tape.specs.Decode.{tagAt, valueAt}
 use Rattle.tape.specs.Promise.{TextAt}

@@ -3,7 +3,7 @@ ghost use mathlib.Core.Path.{_≡_};
 ghost use Prim.Native.Nat.{_≤_};
 ghost use lib.ListN.{length};
 ghost use Rattle.octets.specs.Basics.{_and_, _or_, all, single};
-ghost use Rattle.octets.specs.Classes.{plainOctet, upper};
+ghost use Rattle.octets.specs.Classes.{plainOctet};
 ghost use Rattle.octets.specs.Optional.{isSome};
 ghost use Rattle.calendar.specs.Texts.{formIs};
 ghost use Rattle.calendar.specs.Durations.{durationIs, periodEndIs};

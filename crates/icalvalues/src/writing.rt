@@ -1,5 +1,4 @@
 // How iCalendar writes the values of a sort. Each writer says what it writes for any JSON value.
-ghost use mathlib.Core.Path.{_≡_};
 ghost use mathlib.Core.List.{[]};
 ghost use Prim.Native.Nat.{_≤_};
 ghost use lib.ListN.{length};
@@ -12,7 +11,7 @@ ghost use Rattle.content.specs.Folding.{folding, Folded};
 ghost use Rattle.json.specs.Tree.{octetsOf};
 ghost use Rattle.tape.specs.Decode.{valueAt, listAt};
 ghost use Rattle.values.specs.Sorts.{boolean, geo, period, text, status};
-ghost use Rattle.values.specs.Write.{periodText, valueText, valuesText};
+ghost use Rattle.values.specs.Write.{valueText, valuesText};
 ghost use Rattle.values.specs.Coded.{sortSaid};
 ghost use Rattle.icalrecur.specs.Room.{hasRoom};
 ghost use Rattle.icalvalues.specs.Written.{endsText, statusText, geoText};
