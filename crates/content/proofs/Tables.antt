@@ -30,7 +30,7 @@ unfolding slotOf
 slot-start n = refl
 
 module _ (n : List ℕ) (i h : ℕ) where
-  pub slot-on : i < length n → slotFrom ((h * 257 + lowerOctet (getD n i 0)) % 16381) (lower (drop (i + 1) n)) ≡ slotFrom h (lower (drop i n))
+  pub slot-on : i < length n → slotFrom ((h * 15541 + lowerOctet (getD n i 0)) % 16381) (lower (drop (i + 1) n)) ≡ slotFrom h (lower (drop i n))
   unfolding slotFrom lower
   slot-on l = rw (here n i l)
 

@@ -12,7 +12,7 @@ use Rattle.content.specs.Line.{before}
 
 unfoldable pub slotFrom : ℕ → List ℕ → ℕ
 slotFrom h [] = h
-slotFrom h (x ∷ xs) = slotFrom ((h * 257 + x) % 16381) xs
+slotFrom h (x ∷ xs) = slotFrom ((h * 15541 + x) % 16381) xs
 
 unfoldable pub slotOf : List ℕ → ℕ
 slotOf n = slotFrom 0 n

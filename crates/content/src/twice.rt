@@ -42,7 +42,7 @@ fn slot_of(name: &[u8]) -> usize
     let mut h: usize = 0;
     let mut i = 0;
     while i < name.len() {
-        h = (h * 257 + lower_octet(name[i]) as usize) % 16381;
+        h = (h * 15541 + lower_octet(name[i]) as usize) % 16381;
         i += 1;
     }
     h
