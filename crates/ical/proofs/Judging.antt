@@ -1,0 +1,262 @@
+-- Properties tested for 7, 8 and 9 by what their ruling says.
+use Prim.Native.Nat.{ℕ, _+_, _-_, _≤_}
+use mathlib.Core.Path.{_≡_, refl, sym, ap, _∙_}
+use mathlib.Core.Bool.{Bool, true, false, not}
+use mathlib.Core.List.{List, [], _∷_, _++_, map}
+use mathlib.Core.Logic.{inl, inr}
+use mathlib.Core.Option.{Option, none, some}
+use native.Mathlib.Omega.{arith}
+use lib.ListN.{length, take, drop}
+use borrow.Author.Tests.{eq-eqb}
+use lib.Dec.{eqb, leb}
+use Rattle.octets.specs.Basics.{octets, pick, _and_, _or_, all, same, single, filled}
+use Rattle.octets.specs.Optional.{isSome, holds, given, map?, guard}
+use Rattle.octets.specs.Classes.{lowerNameOctet, isLowerName, lower, isName}
+use Rattle.octets.specs.Answers.{Answer, refused, accepted, then, orElse, unless, number}
+use Rattle.octets.specs.declared.Refusal.{Refusal}
+use Rattle.octets.proofs.Answers.{not-accepted}
+use Rattle.octets.proofs.Cases.{cases, same?, never, both}
+use Rattle.octets.proofs.Classes.{lower-name, lower-name-stays}
+use Rattle.types.specs.Table.{Row, Table, find}
+use Rattle.types.specs.Codes.{codeNamed}
+use Rattle.json.specs.Tree.{Json, null, falsity, truth, num, str, arr, obj, string?, number?, array?, object?, listOf, octetsOf, elements, element}
+use Rattle.json.specs.Tape.{tagArray, tagEnd}
+use Rattle.tape.specs.Decode.{others, tagAt, valueAt, itemsAt, listAt}
+use Rattle.tape.specs.Promise.{After, Next, Left, TextAt}
+use Rattle.tape.specs.declared.Text.{Text}
+use Rattle.tape.proofs.Values.{list-end, list-first, list-next, no-text}
+use Rattle.tape.proofs.Walks.{Along, along-left, elements-inside, next-group}
+use Rattle.content.specs.Parameters.{isEncoded, mayReturn}
+use Rattle.values.specs.Sorts.{plain, sortOf}
+use Rattle.values.specs.Coded.{sortSaid}
+use Rattle.values.specs.declared.sorts.Sort.{Sort as SortCode}
+use Rattle.icalrecur.specs.Room.{hasRoom}
+use Rattle.icalrecur.proofs.Room.{room}
+use Rattle.values.specs.Read.{readValues, valuesOf}
+use Rattle.values.specs.Write.{valuesAre}
+use Rattle.converter.specs.Tree.{Property, property}
+use Rattle.converter.specs.Property.{typeOf, codeOf, manyOf, encodingFits, readAs}
+use Rattle.converter.specs.Skeleton.{areParameters, isPropertyName, isListOf, isProperty, propertyFrom}
+use Rattle.converter.specs.Return.{isUnknown, statedType, writtenSort, firstOctets, takenBy, checked}
+use Rattle.converter.specs.ToIcal.{checkedAll}
+use Rattle.properties.specs.Standing.{Within}
+use Rattle.properties.specs.Ruled.{Rules}
+use Rattle.properties.specs.declared.Ruling.{Ruling}
+use Rattle.ical.specs.Tests.{Tests, checkedIn}
+use Rattle.ical.specs.declared.Tested.{Tested}
+use Rattle.ical.specs.declared.Tested.the-variants.{Passed, Refused}
+use Rattle.ical.proofs.Arrays.{list-array, property-array}
+
+-- a string's test is passed by its octets
+holds-octets : (p : List ℕ → Bool) (j : Json) → holds p (string? j) ≡ true → p (octetsOf j) ≡ true
+unfolding holds string? number? octetsOf given
+holds-octets p null h = never h refl
+holds-octets p falsity h = never h refl
+holds-octets p truth h = never h refl
+holds-octets p (num t) h = never h refl
+holds-octets p (str t) h = h
+holds-octets p (arr js) h = never h refl
+holds-octets p (obj ms) h = never h refl
+
+-- the name and the type of a property are in lowercase
+module _ (j : Json) (h : isProperty j ≡ true) where
+  parts : (isSome (array? j) ≡ true)
+      × ((holds isPropertyName (string? (element 0 j)) and (holds areParameters (object? (element 1 j)) and (holds isLowerName (string? (element 2 j)) and leb 4 (length (elements j))))) ≡ true)
+  unfolding isProperty
+  parts = both (isSome (array? j)) (holds isPropertyName (string? (element 0 j)) and (holds areParameters (object? (element 1 j)) and (holds isLowerName (string? (element 2 j)) and leb 4 (length (elements j))))) h
+
+  pub name-lower : isLowerName (propertyFrom j .name) ≡ true
+  unfolding propertyFrom isPropertyName
+  name-lower =
+      let a = both (holds isPropertyName (string? (element 0 j))) (holds areParameters (object? (element 1 j)) and (holds isLowerName (string? (element 2 j)) and leb 4 (length (elements j)))) (parts .1) .0 in
+      let n = octetsOf (element 0 j) in
+      both (isLowerName n) (not (same n (octets "begin")) and not (same n (octets "end"))) (holds-octets isPropertyName (element 0 j) a) .0
+
+  pub type-lower : isLowerName (propertyFrom j .type) ≡ true
+  unfolding propertyFrom
+  type-lower =
+      let a = both (holds isPropertyName (string? (element 0 j))) (holds areParameters (object? (element 1 j)) and (holds isLowerName (string? (element 2 j)) and leb 4 (length (elements j)))) (parts .1) .1 in
+      let b = both (holds areParameters (object? (element 1 j))) (holds isLowerName (string? (element 2 j)) and leb 4 (length (elements j))) a .1 in
+      holds-octets isLowerName (element 2 j) (both (holds isLowerName (string? (element 2 j))) (leb 4 (length (elements j))) b .0)
+
+pub stays-lower : (s : List ℕ) → isLowerName s ≡ true → lower s ≡ s
+unfolding isLowerName
+stays-lower s h = lower-name-stays s (both (filled s) (all lowerNameOctet s) h .1)
+
+-- the first value
+first-is : (j : Json) (js : List Json) → firstOctets (j ∷ js) ≡ octetsOf j
+unfolding firstOctets
+first-is j js = refl
+
+pub first-octets : (t : List ℕ) (i : ℕ) → octetsOf (valueAt t i) ≡ firstOctets (listAt t i)
+unfolding firstOctets
+first-octets t i = same? (tagAt t i) tagEnd
+    (λ e. rw (list-end t i e) (no-text t i (λ f. omega arith) (λ f. omega arith)))
+    (λ q. sym (ap firstOctets (list-first t i (λ e. never (eq-eqb (tagAt t i) tagEnd e) q)) ∙ first-is (valueAt t i) (listOf (others (itemsAt t i)))))
+
+-- whether a value is what its name takes
+pub taken-by-sort : (s : SortCode) (n : List ℕ) (c : ℕ) (m : Bool) {raw got : List ℕ} → sortSaid s ≡ sortOf n c → got ≡ raw
+    → isSome (guard (λ vs. m or single vs) (readValues (sortSaid s) got)) ≡ isSome (valuesOf n c m raw)
+unfolding valuesOf
+taken-by-sort s n c m e f = rw (e, f)
+
+-- where there is room for the values
+pub with-room : (t s : List ℕ) (b : Bool) {r : Bool} → length t ≤ length s → r ≡ (hasRoom t s and b) → b ≡ r
+with-room t s b h e = sym (e ∙ rw (room t s h))
+
+-- nothing stands against it
+abbrev pub ok : Answer (Unit {0})
+ok = accepted tt
+
+-- a stage that accepts something, or nothing
+unit-accepted : {A : Type 0} (x : Answer A) (y : Answer (Unit {0})) → then x (λ _. ok) ≡ ok → then x (λ _. y) ≡ y
+unfolding then
+unit-accepted (refused n) y e = not-accepted e
+unit-accepted (accepted a) y e = refl
+
+unit-refused : {A : Type 0} (x : Answer A) (y : Answer (Unit {0})) (n : ℕ) → then x (λ _. ok) ≡ refused n → then x (λ _. y) ≡ refused n
+unfolding then
+unit-refused (refused m) y n e = e
+unit-refused (accepted a) y n e = not-accepted (sym e)
+
+option-unit : {A B : Type 0} (f : A → B) (n : ℕ) (o : Option A) → then (orElse n (map? f o)) (λ _. ok) ≡ unless n (isSome o) (λ _. ok)
+unfolding then orElse map? unless isSome
+option-unit f n none = refl
+option-unit f n (some a) = refl
+
+module _ (p : Property) where
+  abbrev takes : Option Row → Bool
+  takes row = not (isUnknown (p .type) and isSome row) or isSome (valuesOf (p .name) (codeOf row (statedType (p .type))) (manyOf row) (firstOctets (p .values)))
+
+  taken-by : (r : Row) → encodingFits (codeOf (some r) none) (isEncoded (p .params)) ≡ true
+      → then (readAs (some r) (p .name) none (p .params) (firstOctets (p .values))) (λ _. ok)
+      ≡ unless 9 (isSome (valuesOf (p .name) (codeOf (some r) none) (manyOf (some r)) (firstOctets (p .values)))) (λ _. ok)
+  unfolding readAs unless
+  taken-by r k = rw k (option-unit _ 9 (valuesOf (p .name) (codeOf (some r) none) (manyOf (some r)) (firstOctets (p .values))))
+
+  taken-answer : (row : Option Row) (u : Bool) → isUnknown (p .type) ≡ u → encodingFits (codeOf row (statedType (p .type))) (isEncoded (p .params)) ≡ true
+      → then (pick (isUnknown (p .type)) (takenBy row p) (accepted p)) (λ _. ok) ≡ unless 9 (takes row) (λ _. ok)
+  unfolding then unless takenBy isSome statedType
+  taken-answer row false u e = rw u
+  taken-answer none true u e = rw u
+  taken-answer (some r) true u e = let k = rw u at e in rw u (taken-by r k)
+
+  values-answer : (row : Option Row) (b : Bool) → valuesAre (manyOf row) (writtenSort p) (p .values) ≡ b → encodingFits (codeOf row (statedType (p .type))) (isEncoded (p .params)) ≡ true
+      → then (unless 9 (valuesAre (manyOf row) (writtenSort p) (p .values)) (λ _. pick (isUnknown (p .type)) (takenBy row p) (accepted p))) (λ _. ok)
+      ≡ unless 9 (valuesAre (manyOf row) (writtenSort p) (p .values) and takes row) (λ _. ok)
+  unfolding then unless
+  values-answer row true v e = rw v (taken-answer row (isUnknown (p .type)) refl e)
+  values-answer row false v e = rw v
+
+-- the answers of a property, by number
+module _ (T : Table) (p : Property) where
+  pub faulty-7 : all mayReturn (p .params) ≡ false → checkedIn T p ≡ refused 7
+  unfolding checkedIn checked unless then
+  faulty-7 h = rw h
+
+  module _ (a : all mayReturn (p .params) ≡ true) {k : Ruling} (g : Rules (find T (p .name)) (p .name) (p .type) k) where
+    fits-by : {b : Bool} → encodingFits (k .code) (isEncoded (p .params)) ≡ b → encodingFits (codeOf (find T (p .name)) (statedType (p .type))) (isEncoded (p .params)) ≡ b
+    fits-by e = ap (λ c. encodingFits c (isEncoded (p .params))) (sym (g .code)) ∙ e
+
+    pub faulty-8 : encodingFits (k .code) (isEncoded (p .params)) ≡ false → checkedIn T p ≡ refused 8
+    unfolding checkedIn checked unless then
+    faulty-8 h = rw (a, fits-by h)
+
+    first-passed : encodingFits (k .code) (isEncoded (p .params)) ≡ true
+        → checkedIn T p ≡ then (unless 9 (valuesAre (manyOf (find T (p .name))) (writtenSort p) (p .values)) (λ _. pick (isUnknown (p .type)) (takenBy (find T (p .name)) p) (accepted p))) (λ _. ok)
+    unfolding checkedIn checked unless
+    first-passed h = rw (a, fits-by h)
+
+    stands-9 : encodingFits (k .code) (isEncoded (p .params)) ≡ true
+        → checkedIn T p ≡ unless 9 (valuesAre (k .many) (sortSaid (k .sort)) (p .values) and (not (k .taken) or isSome (valuesOf (p .name) (k .code) (k .many) (firstOctets (p .values))))) (λ _. ok)
+    unfolding writtenSort
+    stands-9 h = rw (g .many, g .sort, g .taken, g .code) (first-passed h ∙ values-answer p (find T (p .name)) (valuesAre (manyOf (find T (p .name))) (writtenSort p) (p .values)) refl (fits-by h))
+
+    pub faulty-9 : {b : Bool} → encodingFits (k .code) (isEncoded (p .params)) ≡ true
+        → b ≡ (valuesAre (k .many) (sortSaid (k .sort)) (p .values) and (not (k .taken) or isSome (valuesOf (p .name) (k .code) (k .many) (firstOctets (p .values)))))
+        → b ≡ false → checkedIn T p ≡ refused 9
+    unfolding unless
+    faulty-9 h e f = stands-9 h ∙ rw (sym e ∙ f)
+
+    pub faultless : {b : Bool} → encodingFits (k .code) (isEncoded (p .params)) ≡ true
+        → b ≡ (valuesAre (k .many) (sortSaid (k .sort)) (p .values) and (not (k .taken) or isSome (valuesOf (p .name) (k .code) (k .many) (firstOctets (p .values)))))
+        → b ≡ true → checkedIn T p ≡ ok
+    unfolding unless
+    faultless h e f = stands-9 h ∙ rw (sym e ∙ f)
+
+-- the ruling of a property in lowercase
+pub ruled-as : (T : Table) {n t : List ℕ} {k : Ruling} (j : Json) → isProperty j ≡ true → n ≡ propertyFrom j .name → t ≡ propertyFrom j .type → Rules (find T n) (lower n) (lower t) k
+    → Rules (find T (propertyFrom j .name)) (propertyFrom j .name) (propertyFrom j .type) k
+ruled-as T j h e f g = rw (e, f, stays-lower _ (name-lower j h), stays-lower _ (type-lower j h)) at g
+
+-- the values of a property in lowercase
+pub as-stood : (k : Ruling) (j : Json) → isProperty j ≡ true → {n : List ℕ} {l : List Json} {b : Bool} → n ≡ propertyFrom j .name → l ≡ propertyFrom j .values
+    → b ≡ (valuesAre (k .many) (sortSaid (k .sort)) l and (not (k .taken) or isSome (valuesOf (lower n) (k .code) (k .many) (firstOctets l))))
+    → b ≡ (valuesAre (k .many) (sortSaid (k .sort)) (propertyFrom j .values) and (not (k .taken) or isSome (valuesOf (propertyFrom j .name) (k .code) (k .many) (firstOctets (propertyFrom j .values)))))
+as-stood k j h e f g = rw (e, f, stays-lower _ (name-lower j h)) at g
+
+pub kind-name : (j : Json) → isProperty j ≡ true → {t : List ℕ} → t ≡ propertyFrom j .type → isName t ≡ true
+kind-name j h e = rw e (lower-name _ (type-lower j h))
+
+-- several properties
+pub checked-none : (T : Table) → checkedAll T [] ≡ ok
+unfolding checkedAll
+checked-none T = refl
+
+module _ (T : Table) (p : Property) (ps : List Property) where
+  pub checked-on : checkedIn T p ≡ ok → checkedAll T (p ∷ ps) ≡ checkedAll T ps
+  unfolding checkedAll checkedIn
+  checked-on h = unit-accepted (checked (find T (p .name)) p) (checkedAll T ps) h
+
+  pub checked-off : {n : ℕ} → checkedIn T p ≡ refused n → checkedAll T (p ∷ ps) ≡ refused n
+  unfolding checkedAll checkedIn
+  checked-off {n} h = unit-refused (checked (find T (p .name)) p) (checkedAll T ps) n h
+
+then-assoc : {A : Type 0} (x : Answer A) (y z : Answer (Unit {0})) → then (then x (λ _. y)) (λ _. z) ≡ then x (λ _. then y (λ _. z))
+unfolding then
+then-assoc (refused n) y z = refl
+then-assoc (accepted a) y z = refl
+
+pub checked-append : (T : Table) (ps qs : List Property) → checkedAll T (ps ++ qs) ≡ then (checkedAll T ps) (λ _. checkedAll T qs)
+unfolding checkedAll then
+checked-append T [] qs = refl
+checked-append T (p ∷ ps) qs = rw (checked-append T ps qs) (sym (then-assoc (checked (find T (p .name)) p) (checkedAll T ps) (checkedAll T qs)))
+
+module _ (T : Table) (ps qs : List Property) where
+  pub both-checked : checkedAll T ps ≡ ok → checkedAll T (ps ++ qs) ≡ checkedAll T qs
+  unfolding then
+  both-checked h = checked-append T ps qs ∙ rw h
+
+  pub first-refused : {n : ℕ} → checkedAll T ps ≡ refused n → checkedAll T (ps ++ qs) ≡ refused n
+  unfolding then
+  first-refused h = checked-append T ps qs ∙ rw h
+
+-- along the tape
+module _ (T : Table) (t : List ℕ) (i : ℕ) where
+  pub properties-end : tagAt t i ≡ tagEnd → checkedAll T (map propertyFrom (listAt t i)) ≡ ok
+  properties-end e = rw (list-end t i e) (checked-none T)
+
+  module _ (n : (tagAt t i ≡ tagEnd) → ⊥) where
+    pub properties-on : {e : ℕ} → Next t i e → checkedIn T (propertyFrom (valueAt t i)) ≡ ok → checkedAll T (map propertyFrom (listAt t i)) ≡ checkedAll T (map propertyFrom (listAt t e))
+    properties-on {e} y h = rw (list-next y n) (checked-on T (propertyFrom (valueAt t i)) (map propertyFrom (listAt t e)) h)
+
+    pub properties-off : {m : ℕ} → checkedIn T (propertyFrom (valueAt t i)) ≡ refused m → checkedAll T (map propertyFrom (listAt t i)) ≡ refused m
+    properties-off h = rw (list-first t i n) (checked-off T (propertyFrom (valueAt t i)) _ h)
+
+pub array-checked : (T : Table) (p : Json → Bool) (t : List ℕ) (i : ℕ) {a : ℕ} → isListOf p (valueAt t i) ≡ true → After t i a
+    → checkedAll T (map propertyFrom (elements (valueAt t i))) ≡ checkedAll T (map propertyFrom (listAt t a))
+array-checked T p t i h x = ap (λ js. checkedAll T (map propertyFrom js)) (elements-inside x (list-array t i p h))
+
+-- what an answer tells
+module _ (t : List ℕ) (i : ℕ) (a : Answer (Unit {0})) (r : Tested) (c : Tests t i a r) where
+  pub passes : {e : ℕ} → r ≡ Passed e → (a ≡ ok) × Next t i e
+  passes q = rw q at c
+
+  pub refuses : {w : Refusal} → r ≡ Refused w → a ≡ refused (number w)
+  refuses q = rw q at c
+
+-- behind a property, from its values on
+pub behind-values : {t : List ℕ} {i v e : ℕ} → isProperty (valueAt t i) ≡ true → Within t i v → Left t v e → Next t i e
+behind-values {t} {i} {v} {e} h w l =
+    let q = property-array t i h in
+    next-group t i e (inl q) (record { is = l .is ∙ w .is q; low = λ _. omega (arith, w .low q, l .low (w .high)); high = l .high })

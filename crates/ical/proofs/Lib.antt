@@ -1,0 +1,6 @@
+pub mod Arrays
+pub mod Judging
+pub mod Composed
+pub mod Lined
+pub mod Told
+pub mod OnTape

@@ -1,0 +1,142 @@
+-- The lines of properties and components, from the pieces in which they are written.
+use Prim.Native.Nat.{ℕ, zero, suc, _+_, _-_, _≤_}
+use Prim.Native.Char.{code}
+use mathlib.Core.Path.{_≡_, refl, sym, ap, _∙_}
+use mathlib.Core.Bool.{Bool, true, false}
+use mathlib.Core.List.{List, [], _∷_, _++_, map, append-nil, append-assoc}
+use mathlib.Core.Option.{Option, none, some}
+use lib.ListN.{length, take, drop}
+use Rattle.octets.specs.Basics.{octets, pick, _and_, _or_}
+use Rattle.octets.specs.Classes.{isName, upper}
+use Rattle.octets.specs.Optional.{isSome}
+use Rattle.octets.specs.Pen.{Pen, pen, Wrote}
+use Rattle.octets.proofs.Classes.{name-upper}
+use Rattle.types.specs.Table.{Table, Row, find}
+use Rattle.types.specs.Codes.{codeNamed}
+use Rattle.json.specs.Tree.{Json, octetsOf, elements, element}
+use Rattle.json.specs.Tape.{tagEnd}
+use Rattle.tape.specs.Decode.{tagAt, valueAt, listAt}
+use Rattle.tape.specs.Promise.{After, Next, TextAt}
+use Rattle.tape.specs.declared.Text.{Text}
+use Rattle.tape.proofs.Walks.{elements-inside}
+use Rattle.tape.proofs.Values.{list-end, list-next}
+use Rattle.content.specs.Line.{Param}
+use Rattle.content.specs.Write.{paramValueText, paramText, paramsText, lineText}
+use Rattle.content.specs.Fold.{textOf}
+use Rattle.content.proofs.ParamText.{moreValues, param-text, name-text}
+use Rattle.content.proofs.Folding.{text-append}
+use Rattle.values.specs.Sorts.{sortOf}
+use Rattle.values.specs.Coded.{sortSaid}
+use Rattle.values.specs.Write.{valuesText}
+use Rattle.icalrecur.specs.Room.{hasRoom}
+use Rattle.icalrecur.proofs.Room.{room}
+use Rattle.converter.specs.Tree.{Property, Component, component, Forest, forestOf}
+use Rattle.converter.specs.Skeleton.{isListOf, isComponent, propertyFrom, componentFrom}
+use Rattle.converter.specs.Return.{isUnknown, isDefault, shown, withValue, writtenSort, writtenLine}
+use Rattle.converter.specs.ToIcal.{beginLine, endLine, propertyLine, linesOf, linesIn}
+use Rattle.properties.specs.Ruled.{Rules}
+use Rattle.properties.specs.declared.Ruling.{Ruling}
+use Rattle.ical.specs.Writes.{valueText, headText}
+use Rattle.ical.proofs.Arrays.{list-array, component-array}
+use Rattle.ical.proofs.Composed.{component-is, composed, subs-tag}
+use Rattle.skeleton.proofs.Parts.{first-is, second-is, third-is}
+
+-- VALUE
+pub hidden-kind : (t : List ℕ) → valueText false t ≡ []
+unfolding valueText
+hidden-kind t = refl
+
+pub shown-kind : (t : List ℕ) → isName t ≡ true → valueText true t ≡ (octets ";" ++ upper (octets "value") ++ octets "=") ++ upper t
+unfolding valueText moreValues
+shown-kind t h = param-text (octets "value") (upper t) [] ∙ rw (name-text (upper t) (name-upper t h), append-nil (upper t))
+
+with-value : (b : Bool) (t : List ℕ) (ps : List Param) → paramsText (withValue (pick b none (some t)) ps) ≡ valueText (isSome (pick b none (some t))) t ++ paramsText ps
+unfolding withValue paramsText valueText isSome
+with-value true t ps = refl
+with-value false t ps = refl
+
+-- a property's line
+pub line-is : (T : Table) (p : Property) {k : Ruling} → Rules (find T (p .name)) (p .name) (p .type) k
+    → propertyLine T p ≡ upper (p .name) ++ (valueText (k .shown) (p .type) ++ (paramsText (p .params) ++ (octets ":" ++ valuesText (sortSaid (k .sort)) (p .values))))
+unfolding propertyLine writtenLine lineText shown writtenSort
+line-is T p g =
+    rw (g .shown, g .sort, with-value (isUnknown (p .type) or isDefault (find T (p .name)) (p .type)) (p .type) (p .params))
+    (ap (λ l. upper (p .name) ++ l) (append-assoc (valueText _ (p .type)) (paramsText (p .params)) _))
+
+-- the pieces of a property's line, as they were read
+pub head-is : (n : List ℕ) (b : Bool) (t : List ℕ) (ps : List Param) → upper n ++ (valueText b t ++ (paramsText ps ++ octets ":")) ≡ headText n b t ps
+unfolding headText
+head-is n b t ps = refl
+
+head-then : (n : List ℕ) (b : Bool) (t : List ℕ) (ps : List Param) (v : List ℕ) → headText n b t ps ++ v ≡ upper n ++ (valueText b t ++ (paramsText ps ++ (octets ":" ++ v)))
+unfolding headText
+head-then n b t ps v =
+    append-assoc (upper n) (valueText b t ++ (paramsText ps ++ octets ":")) v
+    ∙ ap (λ l. upper n ++ l) (append-assoc (valueText b t) (paramsText ps ++ octets ":") v ∙ ap (λ l. valueText b t ++ l) (append-assoc (paramsText ps) (octets ":") v))
+
+pub line-pieces : (T : Table) (j : Json) {k : Ruling} (t s u : List ℕ) {n d : List ℕ} {ps : List Param} {l : List Json} → length t ≤ length s → length t ≤ length u
+    → n ≡ propertyFrom j .name → d ≡ propertyFrom j .type → ps ≡ propertyFrom j .params → l ≡ propertyFrom j .values
+    → Rules (find T (propertyFrom j .name)) (propertyFrom j .name) (propertyFrom j .type) k
+    → headText n (k .shown) d ps ++ pick (hasRoom t s and hasRoom t u) (valuesText (sortSaid (k .sort)) l) [] ≡ propertyLine T (propertyFrom j)
+line-pieces T j {k} t s u h i a b c d g =
+    rw (room t s h, room t u i, a, b, c, d) (head-then (propertyFrom j .name) (k .shown) (propertyFrom j .type) (propertyFrom j .params) (valuesText (sortSaid (k .sort)) (propertyFrom j .values)) ∙ sym (line-is T (propertyFrom j) g))
+
+-- lines of properties along the tape
+module _ (T : Table) (t : List ℕ) (i : ℕ) where
+  pub lines-end : tagAt t i ≡ tagEnd → textOf (map (propertyLine T) (map propertyFrom (listAt t i))) ≡ []
+  unfolding textOf
+  lines-end e = rw (list-end t i e)
+
+  pub lines-on : {e : ℕ} → ((tagAt t i ≡ tagEnd) → ⊥) → Next t i e
+      → textOf (map (propertyLine T) (map propertyFrom (listAt t i))) ≡ textOf (propertyLine T (propertyFrom (valueAt t i)) ∷ []) ++ textOf (map (propertyLine T) (map propertyFrom (listAt t e)))
+  lines-on {e} n y = rw (list-next y n) (text-append (propertyLine T (propertyFrom (valueAt t i)) ∷ []) (map (propertyLine T) (map propertyFrom (listAt t e))))
+
+pub lines-inside : (T : Table) (p : Json → Bool) (t : List ℕ) (i : ℕ) {a : ℕ} → isListOf p (valueAt t i) ≡ true → After t i a
+    → textOf (map (propertyLine T) (map propertyFrom (listAt t a))) ≡ textOf (map (propertyLine T) (map propertyFrom (elements (valueAt t i))))
+lines-inside T p t i h x = ap (λ js. textOf (map (propertyLine T) (map propertyFrom js))) (sym (elements-inside x (list-array t i p h)))
+
+-- lines of sub-components
+abbrev pub subLines : Table → ℕ → List Json → List (List ℕ)
+subLines T d js = linesIn T (forestOf (map (componentFrom d) js))
+
+sub-lines-none : (T : Table) (d : ℕ) → subLines T d [] ≡ []
+unfolding linesOf forestOf
+sub-lines-none T d = refl
+
+sub-lines-more : (T : Table) (d : ℕ) (j : Json) (js : List Json) → subLines T d (j ∷ js) ≡ linesOf T (componentFrom d j) ++ subLines T d js
+unfolding linesOf forestOf
+sub-lines-more T d j js = refl
+
+text-none : textOf [] ≡ []
+unfolding textOf
+text-none = refl
+
+module _ (T : Table) (d : ℕ) (t : List ℕ) (i : ℕ) where
+  pub sub-lines-end : tagAt t i ≡ tagEnd → textOf (subLines T d (listAt t i)) ≡ []
+  sub-lines-end e = ap (λ js. textOf (subLines T d js)) (list-end t i e) ∙ ap textOf (sub-lines-none T d) ∙ text-none
+
+  pub sub-lines-on : {e : ℕ} → ((tagAt t i ≡ tagEnd) → ⊥) → Next t i e
+      → textOf (subLines T d (listAt t i)) ≡ textOf (linesOf T (componentFrom d (valueAt t i))) ++ textOf (subLines T d (listAt t e))
+  sub-lines-on {e} n y =
+      ap (λ js. textOf (subLines T d js)) (list-next y n) ∙ ap textOf (sub-lines-more T d (valueAt t i) (listAt t e))
+      ∙ text-append (linesOf T (componentFrom d (valueAt t i))) (subLines T d (listAt t e))
+
+-- the lines of a component
+pub lines-are : (T : Table) (d : ℕ) (j : Json) → ((d ≡ 0) → ⊥)
+    → linesOf T (componentFrom d j) ≡ (beginLine (octetsOf (element 0 j)) ∷ []) ++ (map (propertyLine T) (map propertyFrom (elements (element 1 j)))
+    ++ (subLines T (d - 1) (elements (element 2 j)) ++ endLine (octetsOf (element 0 j)) ∷ []))
+unfolding linesOf
+lines-are T d j n = rw (component-is d j n)
+
+-- by the places of its parts
+pub component-lines : (T : Table) (d : ℕ) {t : List ℕ} {at a c i : ℕ} {n : Text} → isComponent d (valueAt t at) ≡ true → After t at a → TextAt t a n → Next t (n .next) c → After t c i
+    → ((octets "BEGIN:" ++ upper (take (n .to - n .from) (drop (n .from) t))) ∷ [])
+    ++ (map (propertyLine T) (map propertyFrom (elements (valueAt t (n .next))))
+    ++ (subLines T (d - 1) (listAt t i) ++ (octets "END:" ++ upper (take (n .to - n .from) (drop (n .from) t))) ∷ []))
+    ≡ linesOf T (componentFrom d (valueAt t at))
+unfolding beginLine endLine
+component-lines T d {t} {at} {a} {c} {i} {n} h x k z u =
+    let q = component-array t at d h in
+    let y = k .behind in
+    sym (lines-are T d (valueAt t at) (composed d (valueAt t at) h .levels)
+    ∙ rw (first-is x q, second-is x q y, third-is x q y z, elements-inside u (subs-tag d h x y z), k .part))

@@ -1,0 +1,141 @@
+// The conversion to iCalendar: the tests in the order of their numbers, then the lines.
+use super::Tested;
+use super::components::check_component;
+use super::components::write_component;
+use json::Parsed;
+use json::parse;
+use octets::Converted;
+use octets::MOST_LEVELS;
+use octets::MOST_OPEN;
+use octets::MOST_TEXT;
+use octets::Refusal;
+use octets::finish;
+use octets::is_utf8;
+use octets::refuse;
+use skeleton::Shape;
+use skeleton::shape_of;
+use tape::is_sound;
+use types::ROOM_FOR_ROWS;
+use types::read_rows;
+ghost use mathlib.Core.Path.{_≡_};
+ghost use mathlib.Core.Bool.{true};
+ghost use Prim.Native.Nat.{_≤_};
+ghost use lib.ListN.{length};
+ghost use Rattle.octets.specs.Answers.{answer, outcome};
+ghost use Rattle.octets.specs.Limits.{mostText};
+ghost use Rattle.octets.specs.Utf8.{utf8};
+ghost use Rattle.types.specs.Laid.{tableIn, roomForRows};
+ghost use Rattle.json.specs.Parse.{mostTape};
+ghost use Rattle.converter.specs.ToIcal.{toIcal};
+ghost use Rattle.ical.specs.Tests.{Tests};
+ghost use Rattle.ical.specs.Stages.{judged, tapeText, parsedText};
+
+// A tape that is long enough for every text that is converted.
+const MOST_TAPE: usize = 2 * MOST_TEXT + 2;
+
+// Numbers 12 and 6, then 7, 8, 9.
+fn test_tape(t: &[u8], rows: &[u8], text: &mut [u8]) -> Tested
+    requires { ⌜ length (now t) ≤ length (now text) ⌝ }
+    ensures { λ r. ⌜ Tests (now (t .entry)) 0 (judged (tableIn (now (rows .entry))) (now (t .entry))) r ⌝ }
+{
+    if !is_sound(t) {
+        return Tested::Refused(Refusal::NotJcal);
+    }
+    let s = shape_of(t);
+    let Shape::Calendar(n) = s else {
+        return Tested::Refused(Refusal::NotJcal);
+    };
+    if MOST_LEVELS < n {
+        return Tested::Refused(Refusal::TooDeep);
+    }
+    check_component(t, 0, MOST_OPEN, rows, text)
+}
+
+// Converts what is on the tape.
+fn convert_tape(
+    t: &[u8],
+    rows: &[u8],
+    out: &mut [u8],
+    text: &mut [u8],
+    rule: &mut [u8],
+) -> Converted
+    requires { ⌜ (length (now t) ≤ length (now text)) × (length (now t) ≤ length (now rule)) ⌝ }
+    ensures { λ r. ⌜ outcome r (now (out .exit)) ≡ answer (tapeText (tableIn (now (rows .entry))) (now (t .entry))) (now (out .entry)) ⌝ }
+{
+    let c = test_tape(t, rows, text);
+    match c {
+        Tested::Refused(w) => refuse(out, w),
+        Tested::Passed(_) => {
+            let s = write_component(t, 0, MOST_OPEN, rows, out, 0, text, rule);
+            finish(out, s.to)
+        }
+    }
+}
+
+// Numbers 6 and 11, and then what is on the tape.
+fn convert_text(
+    text: &[u8],
+    rows: &[u8],
+    out: &mut [u8],
+    tape: &mut [u8],
+    scratch: &mut [u8],
+    rule: &mut [u8],
+) -> Converted
+    requires { ⌜ (utf8 (now text) ≡ true) × (mostTape (length (now text)) ≤ length (now tape)) × (length (now tape) ≤ length (now scratch)) × (length (now tape) ≤ length (now rule)) ⌝ }
+    ensures { λ r. ⌜ outcome r (now (out .exit)) ≡ answer (parsedText (tableIn (now (rows .entry))) (now (text .entry))) (now (out .entry)) ⌝ }
+{
+    let p = parse(text, tape);
+    match p {
+        Parsed::Tape(n) => convert_tape(&tape[0..n], rows, out, scratch, rule),
+        Parsed::TooDeep => refuse(out, Refusal::TooDeep),
+        Parsed::NotJson => refuse(out, Refusal::NotJson),
+        Parsed::NoRoom => refuse(out, Refusal::NoRoom),
+    }
+}
+
+// Numbers 1, 2 and 3, and then the text; all but `out` is memory to work in.
+fn convert(
+    text: &[u8],
+    hex: &[u8],
+    out: &mut [u8],
+    table: &mut [u8],
+    tape: &mut [u8],
+    scratch: &mut [u8],
+    rule: &mut [u8],
+) -> Converted
+    requires { ⌜ (roomForRows ≤ length (now table)) × (mostTape mostText ≤ length (now tape)) × (length (now tape) ≤ length (now scratch)) × (length (now tape) ≤ length (now rule)) ⌝ }
+    ensures { λ r. ⌜ outcome r (now (out .exit)) ≡ answer (toIcal (now (hex .entry)) (now (text .entry))) (now (out .entry)) ⌝ }
+{
+    if MOST_TEXT < text.len() {
+        return refuse(out, Refusal::TextTooLong);
+    }
+    let r = read_rows(hex, table);
+    match r {
+        Converted::Refused(_) => refuse(out, Refusal::RowsMalformed),
+        Converted::Written(n) => {
+            if !is_utf8(text) {
+                return refuse(out, Refusal::NotClean);
+            }
+            convert_text(text, &table[0..n], out, tape, scratch, rule)
+        }
+    }
+}
+
+// Converts jCal to iCalendar, with the added rows of rows.hex.
+pub fn to_ical(text: &[u8], rows: &[u8], out: &mut [u8]) -> Converted
+    ensures { λ r. ⌜ outcome r (now (out .exit)) ≡ answer (toIcal (now (rows .entry)) (now (text .entry))) (now (out .entry)) ⌝ }
+{
+    let mut table = [0u8; ROOM_FOR_ROWS];
+    let mut tape = [0u8; MOST_TAPE];
+    let mut scratch = [0u8; MOST_TAPE];
+    let mut rule = [0u8; MOST_TAPE];
+    convert(
+        text,
+        rows,
+        out,
+        &mut table,
+        &mut tape,
+        &mut scratch,
+        &mut rule,
+    )
+}
