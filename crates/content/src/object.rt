@@ -1,7 +1,7 @@
 // The parameters of a content line as a jCal object.
 ghost use mathlib.Core.Path.{_≡_};
 ghost use mathlib.Core.Bool.{false};
-ghost use mathlib.Core.List.{[], map};
+ghost use mathlib.Core.List.{[], _++_, map};
 ghost use Prim.Native.Nat.{_+_, _≤_};
 ghost use lib.ListN.{length, drop};
 ghost use Rattle.octets.specs.Basics.{octets, pick};
@@ -179,6 +179,15 @@ fn put_comma(out: &mut [u8], at: usize, begun: bool) -> usize
     at
 }
 
+// Writes a parameter as a member.
+fn put_member(out: &mut [u8], at: usize, begun: bool, name: &[u8], values: &[u8]) -> usize
+    ensures { λ r. ⌜ Wrote (pen (now (out .entry)) at) (pick begun (octets ",") [] ++ (printKey (lower (now (name .entry))) ++ print (plainOr (map str (map paramValue (pieces 44 false (now (values .entry)))))))) (pen (now (out .exit)) r) ⌝ }
+{
+    let a = put_comma(out, at, begun);
+    let b = put_key(out, a, name);
+    put_values(out, b, values)
+}
+
 // Writes the parameters as an object, without VALUE.
 pub fn put_params(out: &mut [u8], at: usize, s: &[u8]) -> usize
     ensures { λ r. ⌜ Wrote (pen (now (out .entry)) at) (print (obj (membersOf (withoutValue (paramsIn (now (s .entry))))))) (pen (now (out .exit)) r) ⌝ }
@@ -195,9 +204,7 @@ pub fn put_params(out: &mut [u8], at: usize, s: &[u8]) -> usize
         if same_name(&s[i..n], b"value") {
             e = end;
         } else {
-            let a = put_comma(out, to, begun);
-            let b = put_key(out, a, &s[i..n]);
-            to = put_values(out, b, &s[from..end]);
+            to = put_member(out, to, begun, &s[i..n], &s[from..end]);
             begun = true;
             e = end;
         }

@@ -55,38 +55,40 @@ loop-less c = search needs
 loop-again : tie.Need-loop-again Inv-loop μ-loop
 loop-again c = (c .before .before .before .before .before .before .loop .inv .0, param-next (c .before .before .before .before .before .before .before .before .before .before .before .before .before .before .args .s .now) _ (c .before .before .before .before .param-at .result) (c .before .before .before .before .param-at .ensures), leads-same (c .before .before .before .before .before .before .loop .inv .2) (object-skip (c .before .before .before .before .before .before .before .before .before .before .before .before .before .before .args .s .now) (c .before .before .before .before .before .before .loop .e) (c .before .before .before .before .before .before .loop .begun) (c .before .before .before .before .before .before .loop .inv .1) (c .before .before .before .before .before .loop-test .taken) (c .before .before .before .before .param-at .result) (c .before .before .before .before .param-at .ensures) (sym (c .before .same-name .ensures) ∙ c .if1 .taken)))
 
-put-comma-requires : tie.Need-put-comma-requires Inv-loop μ-loop
-put-comma-requires c κs = search needs
+sub-put-member : tie.Need-sub-put-member Inv-loop μ-loop
+sub-put-member c = search needs
 
-sub-put-key : tie.Need-sub-put-key Inv-loop μ-loop
-sub-put-key c = search needs
+part-put-member-start : tie.Need-part-put-member-start Inv-loop μ-loop
+part-put-member-start c = search needs
 
-part-put-key-start : tie.Need-part-put-key-start Inv-loop μ-loop
-part-put-key-start c = search needs
+part-put-member-end : tie.Need-part-put-member-end Inv-loop μ-loop
+part-put-member-end c = search needs
 
-part-put-key-end : tie.Need-part-put-key-end Inv-loop μ-loop
-part-put-key-end c = search needs
+sub-put-member-2 : tie.Need-sub-put-member-2 Inv-loop μ-loop
+sub-put-member-2 c = search needs
 
-put-key-requires : tie.Need-put-key-requires Inv-loop μ-loop
-put-key-requires c κs = search needs
+part-put-member-start-2 : tie.Need-part-put-member-start-2 Inv-loop μ-loop
+part-put-member-start-2 c = search needs
 
-sub-put-values : tie.Need-sub-put-values Inv-loop μ-loop
-sub-put-values c = search needs
+part-put-member-end-2 : tie.Need-part-put-member-end-2 Inv-loop μ-loop
+part-put-member-end-2 c = search needs
 
-part-put-values-start : tie.Need-part-put-values-start Inv-loop μ-loop
-part-put-values-start c = search needs
-
-part-put-values-end : tie.Need-part-put-values-end Inv-loop μ-loop
-part-put-values-end c = search needs
-
-put-values-requires : tie.Need-put-values-requires Inv-loop μ-loop
-put-values-requires c κs = search needs
+put-member-requires : tie.Need-put-member-requires Inv-loop μ-loop
+put-member-requires c κs = search needs
 
 loop-less-2 : tie.Need-loop-less-2 Inv-loop μ-loop
 loop-less-2 c = search needs
 
 loop-again-2 : tie.Need-loop-again-2 Inv-loop μ-loop
-loop-again-2 c = (omega (arith, c .before .before .before .before .before .before .before .before .before .before .before .before .put-comma .kept .0, c .before .before .before .before .before .before .before .put-key .kept .0, c .before .before .put-values .kept .0, c .before .before .before .before .before .before .before .before .before .before .before .before .before .before .before .before .before .before .before .before .loop .inv .0), param-next (c .before .before .before .before .before .before .before .before .before .before .before .before .before .before .before .before .before .before .before .before .before .before .before .before .before .before .before .before .args .s .now) _ (c .before .before .before .before .before .before .before .before .before .before .before .before .before .before .before .before .before .before .param-at .result) (c .before .before .before .before .before .before .before .before .before .before .before .before .before .before .before .before .before .before .param-at .ensures), leads-on (c .before .before .before .before .before .before .before .before .before .before .before .before .before .before .before .before .before .before .before .before .loop .inv .2) (then (c .before .before .before .before .before .before .before .before .before .before .before .before .put-comma .ensures) (then (c .before .before .before .before .before .before .before .put-key .ensures) (c .before .before .put-values .ensures))) (object-on (c .before .before .before .before .before .before .before .before .before .before .before .before .before .before .before .before .before .before .before .before .before .before .before .before .before .before .before .before .args .s .now) (c .before .before .before .before .before .before .before .before .before .before .before .before .before .before .before .before .before .before .before .before .loop .e) (c .before .before .before .before .before .before .before .before .before .before .before .before .before .before .before .before .before .before .before .before .loop .begun) (c .before .before .before .before .before .before .before .before .before .before .before .before .before .before .before .before .before .before .before .before .loop .inv .1) (c .before .before .before .before .before .before .before .before .before .before .before .before .before .before .before .before .before .before .before .loop-test .taken) (c .before .before .before .before .before .before .before .before .before .before .before .before .before .before .before .before .before .before .param-at .result) (c .before .before .before .before .before .before .before .before .before .before .before .before .before .before .before .before .before .before .param-at .ensures) (sym (c .before .before .before .before .before .before .before .before .before .before .before .before .before .before .before .same-name .ensures) ∙ c .before .before .before .before .before .before .before .before .before .before .before .before .before .before .if1 .left)))
+loop-again-2 c =
+    let i = c .before .before .before .before .before .before in
+    let m = i .before .before .before .before in
+    let l = m .before .before .loop in
+    let s = m .before .before .before .before .before .before .before .before .before .before .args .s .now in (
+      omega (arith, c .before .before .put-member .kept .0, l .inv .0),
+      param-next s _ (m .param-at .result) (m .param-at .ensures),
+      leads-on (l .inv .2) (c .before .before .put-member .ensures) (object-on s (l .e) (l .begun) (l .inv .1) (m .before .loop-test .taken) (m .param-at .result) (m .param-at .ensures) (sym (i .before .same-name .ensures) ∙ i .if1 .left)),
+    )
 
 put-requires-2 : tie.Need-put-requires-2 Inv-loop μ-loop
 put-requires-2 c κs = search needs
@@ -115,15 +117,13 @@ put-params-spec =
     same-name-requires
     loop-less
     loop-again
-    put-comma-requires
-    sub-put-key
-    part-put-key-start
-    part-put-key-end
-    put-key-requires
-    sub-put-values
-    part-put-values-start
-    part-put-values-end
-    put-values-requires
+    sub-put-member
+    part-put-member-start
+    part-put-member-end
+    sub-put-member-2
+    part-put-member-start-2
+    part-put-member-end-2
+    put-member-requires
     loop-less-2
     loop-again-2
     put-requires-2
