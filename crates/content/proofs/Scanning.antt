@@ -1,13 +1,13 @@
 -- Scans by places: a loop that looks for the first octet of a kind, where it ends, and what it passed.
 use Prim.Native.Nat.{ℕ, zero, suc, _+_, _-_, _≤_, _<_}
 use mathlib.Core.Path.{_≡_, refl, sym, ap, _∙_}
-use mathlib.Core.Bool.{Bool, true, false, not}
+use mathlib.Core.Bool.{Bool, true, false, false≢true, not}
 use mathlib.Core.List.{List, [], _∷_, _++_}
 use native.Mathlib.Omega.{arith}
 use lib.ListN.{length, getD, take, drop, length-drop}
 use lib.Seq.{take-all, drop-drop, getD-drop}
-use Rattle.octets.specs.Basics.{pick, _and_}
-use Rattle.octets.proofs.Cases.{All, never}
+use Rattle.octets.specs.Basics.{pick, _and_, all}
+use Rattle.octets.proofs.Cases.{All, never, both}
 use Rattle.octets.proofs.Positions.{here, ended}
 use Rattle.content.specs.Line.{quoteAfter}
 use Rattle.content.specs.Scan.{until, untilBare}
@@ -59,8 +59,28 @@ module _ (stop : ℕ → Bool) where
   pub until-whole : (s : List ℕ) → length s ≤ length (until stop s) → until stop s ≡ s
   until-whole s h = until-take s ∙ take-all (length (until stop s)) s h
 
+  passed : (b : Bool) → not b ≡ true → b ≡ false
+  passed true h = absurd (false≢true h)
+  passed false h = refl
+
+  -- octets that are not of the kind are passed together
+  past : (k : ℕ) (s : List ℕ) → k ≤ length s → all (λ c. not (stop c)) (take k s) ≡ true → length (until stop s) ≡ k + length (until stop (drop k s))
+  unfolding until all
+  past zero s l h = omega arith
+  past (suc k) [] l h = absurd (omega arith)
+  past (suc k) (c ∷ s) l h =
+      let b = both (not (stop c)) (all (λ x. not (stop x)) (take k s)) h in
+      rw (passed (stop c) (b .0)) (omega (arith, past k s (omega arith) (b .1)))
+
   -- a loop at i
   module _ (s : List ℕ) (i : ℕ) where
+    pub until-past : (e : ℕ) → i ≤ e → e ≤ length s → all (λ c. not (stop c)) (take (e - i) (drop i s)) ≡ true
+        → e + length (until stop (drop e s)) ≡ i + length (until stop (drop i s))
+    until-past e l m h =
+        let q : i + (e - i) ≡ e = omega arith in
+        let k : drop (e - i) (drop i s) ≡ drop e s = drop-drop (e - i) i s ∙ ap (λ (n : ℕ). drop n s) q in
+        omega (arith, past (e - i) (drop i s) (omega (arith, length-drop i s)) h, ap (λ (r : List ℕ). length (until stop r)) k)
+
     pub until-none : length s ≤ i → length (until stop (drop i s)) ≡ 0
     unfolding until
     until-none h = rw (ended s i h)
