@@ -25,15 +25,24 @@ enum-told-3 c = search needs
 
 returns-2 : tie.Need-returns-2
 unfolding passed
-returns-2 c = params-absent _ _ _ (sym (c .before .before .before .name-twice .ensures) ∙ c .before .before .if1 .left) (c .enum-told .given .1)
+returns-2 c =
+    let at-if1 = c .before .before in
+    let at-name-twice = at-if1 .before in
+    params-absent _ _ _ (sym (at-name-twice .name-twice .ensures) ∙ at-if1 .if1 .left) (c .enum-told .given .1)
 
 returns-3 : tie.Need-returns-3
 unfolding passed
-returns-3 c = params-named _ _ _ (sym (c .before .before .before .name-twice .ensures) ∙ c .before .before .if1 .left) _ _ (c .enum-told2 .given .1)
+returns-3 c =
+    let at-if1 = c .before .before in
+    let at-name-twice = at-if1 .before in
+    params-named _ _ _ (sym (at-name-twice .name-twice .ensures) ∙ at-if1 .if1 .left) _ _ (c .enum-told2 .given .1)
 
 returns-4 : tie.Need-returns-4
 unfolding passed
-returns-4 c = params-faulty _ _ _ (sym (c .before .before .before .name-twice .ensures) ∙ c .before .before .if1 .left) (c .enum-told3 .given .1)
+returns-4 c =
+    let at-if1 = c .before .before in
+    let at-name-twice = at-if1 .before in
+    params-faulty _ _ _ (sym (at-name-twice .name-twice .ensures) ∙ at-if1 .if1 .left) (c .enum-told3 .given .1)
 
 pub test-params-spec : {M : Type 1} → statement M
 test-params-spec =

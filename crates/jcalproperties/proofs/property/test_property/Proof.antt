@@ -49,7 +49,13 @@ earlier-requires : tie.Need-earlier-requires
 earlier-requires c κs = search needs
 
 returns : tie.Need-returns
-returns c = rw (← parts-line (c .before .before .before .before .before .before .before .before .before .before .args .line .now) (c .before .before .before .before .before .before .before .parts-of .result) (c .before .before .before .before .before .before .before .parts-of .ensures)) (c .earlier .ensures ∙ both-tested (c .before .before .before .before .test-params .ensures) (c .before .test-value .ensures) ∙ tested-property _ _ _ (c .before .before .before .before .before .value-type .ensures .is))
+returns c =
+    let at-test-value = c .before in
+    let at-test-params = at-test-value .before .before .before in
+    let at-value-type = at-test-params .before in
+    let at-parts-of = at-value-type .before .before in
+    let at-start = at-parts-of .before .before .before in
+    rw (← parts-line (at-start .args .line .now) (at-parts-of .parts-of .result) (at-parts-of .parts-of .ensures)) (c .earlier .ensures ∙ both-tested (at-test-params .test-params .ensures) (at-test-value .test-value .ensures) ∙ tested-property _ _ _ (at-value-type .value-type .ensures .is))
 
 pub test-property-spec : {M : Type 1} → statement M
 test-property-spec =
