@@ -30,12 +30,10 @@ use Rattle.json.specs.Tree.{Json, Items, Members, element, octetsOf}
 use Rattle.json.specs.Reads.{Out, deep, bad}
 use Rattle.json.specs.Reader.{parseText}
 use Rattle.json.specs.Tape.{ser}
-use Rattle.json.proofs.Fine as given
 use Rattle.json.proofs.Decoding.{parse-fine}
 use Rattle.tape.specs.Decode.{valueAt}
 use Rattle.tape.specs.Sound.{sound}
 use Rattle.tape.specs.Scan.{soundTape}
-use Rattle.tape.proofs.Fine.{Clean, clean-end, clean, Fine, f-null, f-false, f-true, f-num, f-str, f-arr, f-obj, FineItems, f-none, f-item, FineMembers, f-empty, f-member}
 use Rattle.tape.proofs.Back.{tape-back, laid-back, sound-back}
 use Rattle.content.specs.Fold.{textOf}
 use Rattle.converter.specs.Tree.{levels, propertiesOf}
@@ -95,29 +93,6 @@ module _ (t : List ℕ) (r : Shape) (c : Shapes t r) where
   pub other-told : r ≡ Other → isCalendar (valueAt t 0) ≡ false
   other-told q = rw q at c
 
--- texts without the octet 255, as both crates say it
-clean-again : {s : List ℕ} → given.Clean s → Clean s
-clean-again given.clean-end = clean-end
-clean-again (given.clean n c) = clean n (clean-again c)
-
-mutual
-  fine-again : {j : Json} → given.Fine j → Fine j
-  fine-again given.f-null = f-null
-  fine-again given.f-false = f-false
-  fine-again given.f-true = f-true
-  fine-again (given.f-num c) = f-num (clean-again c)
-  fine-again (given.f-str c) = f-str (clean-again c)
-  fine-again (given.f-arr fs) = f-arr (items-again fs)
-  fine-again (given.f-obj fs) = f-obj (members-again fs)
-
-  items-again : {js : Items} → given.FineItems js → FineItems js
-  items-again given.f-none = f-none
-  items-again (given.f-item f fs) = f-item (fine-again f) (items-again fs)
-
-  members-again : {ms : Members} → given.FineMembers ms → FineMembers ms
-  members-again given.f-empty = f-empty
-  members-again (given.f-member c f fs) = f-member (clean-again c) (fine-again f) (members-again fs)
-
 -- a tape that shows the value
 by-value : (T : Table) (t : List ℕ) (j : Json) → valueAt t 0 ≡ j → soundTape t ≡ sound j → tapeText T t ≡ then (calendarOf j) (written T)
 unfolding tapeText judged componentOn calendarOf written unless then
@@ -128,7 +103,7 @@ by-value T t j v s = rw (v, s) (cases (sound j and isCalendar j)
 pub parsed-text : (T : Table) (s t₀ t : List ℕ) (n : ℕ) → utf8 s ≡ true → IsTape (parseText s) t₀ t n → tapeText T (take (n - 0) (drop 0 t)) ≡ parsedText T s
 unfolding parsedText jsonOf then
 parsed-text T s t₀ t n u w =
-    let f = fine-again (parse-fine s (w .left) (w .it) u (w .is)) in
+    let f = parse-fine s (w .left) (w .it) u (w .is) in
     rw (laid-back (w .it) t n (drop n t₀) (w .count) (w .tape), w .is) (by-value T (ser (w .it)) (w .it) (tape-back f) (sound-back f))
 
 pub parsed-deep : (T : Table) (s : List ℕ) → parseText s ≡ deep → parsedText T s ≡ refused 6

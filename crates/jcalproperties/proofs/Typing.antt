@@ -39,6 +39,7 @@ use Rattle.jcalvalues.proofs.Quoting.{items-json}
 use Rattle.converter.specs.Tree.{Property, property}
 use Rattle.converter.specs.Property.{typeOf, codeOf, manyOf, encodingFits, readAs, readProperty}
 use Rattle.converter.specs.Jcal.{propertyJson}
+use Rattle.jcalproperties.specs.Passed.{paramsTested}
 use Rattle.jcalproperties.specs.Shown.{namedType, frontText, propertyShown, WroteProperty}
 
 -- ENCODING is asked for with VALUE or without it
@@ -158,18 +159,6 @@ module _ (l : List ℕ) (p : Parts) (k : Cut l p) where
 pub bounded-as : (n : ℕ) (k : ValueType) {m : ValueType} → Bounded n k → k ≡ m → Bounded n m
 bounded-as n k h q = rw q at h
 
-pub known-absent : (s : List ℕ) (k : ValueType) → k ≡ Absent → kindOf s k ≡ accepted (namedType (kindOf s k))
-unfolding kindOf namedType
-known-absent s k q = rw q
-
-pub known-named : (s : List ℕ) (k : ValueType) (a e : ℕ) → k ≡ Named a e → kindOf s k ≡ accepted (namedType (kindOf s k))
-unfolding kindOf namedType
-known-named s k a e q = rw q
-
-pub known-faulty : (s : List ℕ) (k : ValueType) → k ≡ Faulty → kindOf s k ≡ refused 7
-unfolding kindOf
-known-faulty s k q = rw q
-
 module _ (t : Table) (name params value : List ℕ) (row : Option Row) (e₁ : row ≡ find t name) where
   -- the property of a line, written part by part
   pub parts-wrote : (named : Answer (Option (List ℕ))) (code : ℕ) (sort : Sort) → named ≡ valueType (paramsIn params) → code ≡ codeOf row (namedType named) → sort ≡ sortOf (lower name) code
@@ -196,17 +185,39 @@ module _ (t : Table) (name params value : List ℕ) (row : Option Row) (e₁ : r
       pub tested-right : not held ≡ false → accepted (tt {0}) ≡ then (readAs (find t name) (lower name) type (withoutValue (paramsIn params)) value) (λ _. accepted (tt {0}))
       tested-right n = tested-held true (not-false held n)
 
--- tests 7, 8 and 9
+-- number 7
+pub params-twice : (t : Bool) (a : Answer (Option (List ℕ))) → t ≡ true → refused 7 ≡ paramsTested t a
+unfolding paramsTested unless
+params-twice t a h = rw h
+
+module _ (s : List ℕ) (t : Bool) (k : ValueType) (h : t ≡ false) where
+  pub params-absent : k ≡ Absent → accepted tt ≡ paramsTested t (kindOf s k)
+  unfolding paramsTested unless then kindOf
+  params-absent q = rw (h, q)
+
+  pub params-named : (a e : ℕ) → k ≡ Named a e → accepted tt ≡ paramsTested t (kindOf s k)
+  unfolding paramsTested unless then kindOf
+  params-named a e q = rw (h, q)
+
+  pub params-faulty : k ≡ Faulty → refused 7 ≡ paramsTested t (kindOf s k)
+  unfolding paramsTested unless then kindOf
+  params-faulty q = rw (h, q)
+
+-- 7 before 8 and 9
 module _ (t : Table) (l : Line) where
-  pub tested-twice : nameTwice (l .params) ≡ true → refused 7 ≡ then (readProperty t l) (λ _. accepted (tt {0}))
-  unfolding readProperty unless then
-  tested-twice h = rw h
+  in-order : (twice : Bool) (a : Answer (Option (List ℕ))) (f : Option (List ℕ) → Answer Property)
+      → then (paramsTested twice a) (λ _. then (f (namedType a)) (λ _. accepted (tt {0}))) ≡ then (unless 7 (not twice) (λ _. then a f)) (λ _. accepted (tt {0}))
+  unfolding paramsTested unless then namedType
+  in-order true a f = refl
+  in-order false (refused n) f = refl
+  in-order false (accepted type) f = refl
 
-  pub tested-faulty : nameTwice (l .params) ≡ false → valueType (l .params) ≡ refused 7 → refused 7 ≡ then (readProperty t l) (λ _. accepted (tt {0}))
-  unfolding readProperty unless then
-  tested-faulty h e = rw (h, e)
+  pub tested-property : (a : Answer (Option (List ℕ))) → a ≡ valueType (l .params)
+      → then (paramsTested (nameTwice (l .params)) a) (λ _. then (readAs (find t (l .name)) (lower (l .name)) (namedType a) (withoutValue (l .params)) (l .value)) (λ _. accepted (tt {0})))
+      ≡ then (readProperty t l) (λ _. accepted (tt {0}))
+  unfolding readProperty
+  tested-property a e = rw e (in-order (nameTwice (l .params)) (valueType (l .params)) (λ type. readAs (find t (l .name)) (lower (l .name)) type (withoutValue (l .params)) (l .value)))
 
-  pub tested-named : (type : Option (List ℕ)) → nameTwice (l .params) ≡ false → valueType (l .params) ≡ accepted type
-      → then (readAs (find t (l .name)) (lower (l .name)) type (withoutValue (l .params)) (l .value)) (λ _. accepted (tt {0})) ≡ then (readProperty t l) (λ _. accepted (tt {0}))
-  unfolding readProperty unless then
-  tested-named type h e = rw (h, e)
+-- what the first tests answer, and what the second
+pub both-tested : {a b : Answer (Unit {0})} {p q : Answer (Unit {0})} → p ≡ a → q ≡ b → then p (λ _. q) ≡ then a (λ _. b)
+both-tested e f = rw (e, f)

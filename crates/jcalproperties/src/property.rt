@@ -10,10 +10,10 @@ ghost use Rattle.types.specs.Table.{find};
 ghost use Rattle.types.specs.Laid.{tableIn, rowFound};
 ghost use Rattle.content.specs.Line.{lineOf};
 ghost use Rattle.content.specs.Parts.{paramsIn};
-ghost use Rattle.content.specs.Parameters.{withoutValue};
+ghost use Rattle.content.specs.Parameters.{nameTwice, withoutValue};
 ghost use Rattle.content.specs.Kinds.{kindOf, Bounded};
 ghost use Rattle.converter.specs.Property.{typeOf, codeOf, manyOf, encodingFits, readAs, readProperty};
-ghost use Rattle.jcalproperties.specs.Passed.{passed};
+ghost use Rattle.jcalproperties.specs.Passed.{passed, paramsTested};
 ghost use Rattle.jcalproperties.specs.Shown.{namedType, frontText, WroteProperty};
 use crate::Tested;
 use crate::names::put_name;
@@ -93,7 +93,31 @@ fn test_value(name: &[u8], params: &[u8], kind: ValueType, value: &[u8], rows: &
     Tested::Passed
 }
 
-// Tests 7, 8 and 9 of a property.
+// Test 7: no parameter name stands twice, and VALUE names a type where it stands.
+fn test_params(params: &[u8], kind: ValueType) -> Tested
+    ensures { λ r. ⌜ passed r ≡ paramsTested (nameTwice (paramsIn (now (params .entry)))) (kindOf (now (params .entry)) kind) ⌝ }
+{
+    if name_twice(params) {
+        return Tested::Failed(Refusal::BadParameter);
+    }
+    match kind {
+        ValueType::Absent => Tested::Passed,
+        ValueType::Named(_, _) => Tested::Passed,
+        ValueType::Faulty => Tested::Failed(Refusal::BadParameter),
+    }
+}
+
+// The refusal of the first tests, or else what the second answer.
+fn earlier(first: Tested, second: Tested) -> Tested
+    ensures { λ r. ⌜ passed r ≡ then (passed first) (λ _. passed second) ⌝ }
+{
+    match first {
+        Tested::Passed => second,
+        Tested::Failed(why) => Tested::Failed(why),
+    }
+}
+
+// Tests 7, 8 and 9 of a property, in this order.
 pub fn test_property(line: &[u8], rows: &[u8]) -> Tested
     ensures { λ r. ⌜ passed r ≡ then (readProperty (tableIn (now (rows .entry))) (lineOf (now (line .entry)))) (λ _. accepted tt) ⌝ }
 {
@@ -102,15 +126,10 @@ pub fn test_property(line: &[u8], rows: &[u8]) -> Tested
     let colon = parts.colon;
     let v = parts.value;
     let params = &line[n..colon];
-    if name_twice(params) {
-        return Tested::Failed(Refusal::BadParameter);
-    }
     let kind = value_type(params);
-    match kind {
-        ValueType::Absent => test_value(&line[0..n], params, kind, &line[v..], rows),
-        ValueType::Named(_, _) => test_value(&line[0..n], params, kind, &line[v..], rows),
-        ValueType::Faulty => Tested::Failed(Refusal::BadParameter),
-    }
+    let named = test_params(params, kind);
+    let valued = test_value(&line[0..n], params, kind, &line[v..], rows);
+    earlier(named, valued)
 }
 
 // Writes a property up to its type.

@@ -50,13 +50,19 @@ abbrev put-component-μ-loop : put-component-lts.MeasureT-loop
 put-component-μ-loop buf rows name e left out₀ at next to₀ i₀ first₀ t19 t20 out to i first = length buf - i
 
 put-component-put-head-requires : (t : ℕ) → put-component-lts.Need-put-head-requires (claims-put-component t) (put-component-at t) put-component.Post put-component-Inv-loop put-component-μ-loop
-put-component-put-head-requires t c κs = (c .before .before .before .before .pre .1 .0, c .before .before .before .before .pre .1 .1 .0)
+put-component-put-head-requires t c κs =
+    let at-start = c .before .before .before .before in
+    (at-start .pre .1 .0, at-start .pre .1 .1 .0)
 
 put-component-add-i : (t : ℕ) → put-component-lts.Need-add-i (claims-put-component t) (put-component-at t) put-component.Post put-component-Inv-loop put-component-μ-loop
-put-component-add-i t c = omega (arith, c .before .before .before .before .before .before .before .pre .1 .0 .high)
+put-component-add-i t c =
+    let at-start = c .before .before .before .before .before .before .before in
+    omega (arith, at-start .pre .1 .0 .high)
 
 put-component-loop-holds : (t : ℕ) → put-component-lts.Need-loop-holds (claims-put-component t) (put-component-at t) put-component.Post put-component-Inv-loop put-component-μ-loop
-put-component-loop-holds t c = (refl, subs-start _ _ _ _ _ _ (c .before .before .before .before .before .before .before .pre .1 .1 .0) (c .before .before .before .before .before .before .before .pre .1 .1 .1))
+put-component-loop-holds t c =
+    let at-start = c .before .before .before .before .before .before .before in
+    (refl, subs-start _ _ _ _ _ _ (at-start .pre .1 .1 .0) (at-start .pre .1 .1 .1))
 
 put-component-line-end-requires : (t : ℕ) → put-component-lts.Need-line-end-requires (claims-put-component t) (put-component-at t) put-component.Post put-component-Inv-loop put-component-μ-loop
 put-component-line-end-requires t c κs = search needs
@@ -71,18 +77,44 @@ put-component-put-comma-requires : (t : ℕ) → put-component-lts.Need-put-comm
 put-component-put-comma-requires t c κs = search needs
 
 put-component-sub-put-component : (t : ℕ) → put-component-lts.Need-sub-put-component (claims-put-component t) (put-component-at t) put-component.Post put-component-Inv-loop put-component-μ-loop
-put-component-sub-put-component t c = left-some _ _ _ _ _ _ _ _ (c .before .before .before .before .before .before .before .before .before .before .loop .inv .1) (c .before .before .before .before .before .before .before .before .line-end .result) (record { within = c .before .before .before .before .before .before .before .before .before .loop-test .taken; ends = c .before .before .before .before .before .before .before .before .line-end .ensures }) _ (told-as (c .before .before .before .before .before .before .before .kind-at .ensures) (c .before .before .before .before .before .inner .given .1))
+put-component-sub-put-component t c =
+    let at-inner = c .before .before .before .before .before in
+    let at-kind-at = at-inner .before .before in
+    let at-line-end = at-kind-at .before in
+    let at-loop-test = at-line-end .before in
+    let at-loop = at-loop-test .before in
+    left-some _ _ _ _ _ _ _ _ (at-loop .loop .inv .1) (at-line-end .line-end .result) (record { within = at-loop-test .loop-test .taken; ends = at-line-end .line-end .ensures }) _ (told-as (at-kind-at .kind-at .ensures) (at-inner .inner .given .1))
 
 put-component-put-component-requires : (t : ℕ) → put-component-lts.Need-put-component-requires (claims-put-component t) (put-component-at t) put-component.Post put-component-Inv-loop put-component-μ-loop
-put-component-put-component-requires t c κs = let at : LineAt (c .before .before .before .before .before .before .before .before .before .before .before .before .before .before .before .before .before .before .before .args .buf .now) (c .before .before .before .before .before .before .before .before .before .before .before .loop .i) (c .before .before .before .before .before .before .before .before .before .line-end .result) = record { within = c .before .before .before .before .before .before .before .before .before .before .loop-test .taken; ends = c .before .before .before .before .before .before .before .before .before .line-end .ensures } in
-    let told = told-as (c .before .before .before .before .before .before .before .before .kind-at .ensures) (c .before .before .before .before .before .before .inner .given .1) in
-    (omega (arith, left-some _ _ _ _ _ _ _ _ (c .before .before .before .before .before .before .before .before .before .before .before .loop .inv .1) (c .before .before .before .before .before .before .before .before .before .line-end .result) at _ told), (named _ _ _ _ at told, (sub-accepts _ _ _ _ _ _ _ _ (c .before .before .before .before .before .before .before .before .before .before .before .loop .inv .1) (c .before .before .before .before .before .before .before .before .before .line-end .result) at _ told, sub-few _ _ _ _ _ _ _ _ (c .before .before .before .before .before .before .before .before .before .before .before .loop .inv .1) (c .before .before .before .before .before .before .before .before .before .line-end .result) at _ told)))
+put-component-put-component-requires t c κs =
+    let at-inner = c .before .before .before .before .before .before in
+    let at-kind-at = at-inner .before .before in
+    let at-line-end = at-kind-at .before in
+    let at-loop-test = at-line-end .before in
+    let at-loop = at-loop-test .before in
+    let at-start = at-loop .before .before .before .before .before .before .before .before in
+    let at : LineAt (at-start .args .buf .now) (at-loop .loop .i) (at-line-end .line-end .result) = record { within = at-loop-test .loop-test .taken; ends = at-line-end .line-end .ensures } in
+    let told = told-as (at-kind-at .kind-at .ensures) (at-inner .inner .given .1) in
+    (omega (arith, left-some _ _ _ _ _ _ _ _ (at-loop .loop .inv .1) (at-line-end .line-end .result) at _ told), (named _ _ _ _ at told, (sub-accepts _ _ _ _ _ _ _ _ (at-loop .loop .inv .1) (at-line-end .line-end .result) at _ told, sub-few _ _ _ _ _ _ _ _ (at-loop .loop .inv .1) (at-line-end .line-end .result) at _ told)))
 
 put-component-loop-less : (t : ℕ) → put-component-lts.Need-loop-less (claims-put-component t) (put-component-at t) put-component.Post put-component-Inv-loop put-component-μ-loop
-put-component-loop-less t c = omega (arith, c .before .before .put-component .ensures .further, scan-high isLf (c .before .before .before .before .before .before .before .before .before .before .before .before .before .before .before .before .before .before .before .before .before .before .args .buf .now) (c .before .before .before .before .before .before .before .before .before .before .before .before .before .before .loop .i) _ (c .before .before .before .before .before .before .before .before .before .before .before .before .line-end .ensures) (omega arith))
+put-component-loop-less t c =
+    let at-put-component = c .before .before in
+    let at-line-end = at-put-component .before .before .before .before .before .before .before .before .before .before in
+    let at-loop = at-line-end .before .before in
+    let at-start = at-loop .before .before .before .before .before .before .before .before in
+    omega (arith, at-put-component .put-component .ensures .further, scan-high isLf (at-start .args .buf .now) (at-loop .loop .i) _ (at-line-end .line-end .ensures) (omega arith))
 
 put-component-loop-again : (t : ℕ) → put-component-lts.Need-loop-again (claims-put-component t) (put-component-at t) put-component.Post put-component-Inv-loop put-component-μ-loop
-put-component-loop-again t c = (omega arith, sub-goes _ _ _ _ _ _ _ _ (c .before .before .before .before .before .before .before .before .before .before .before .before .before .before .loop .inv .1) (c .before .before .before .before .before .before .before .before .before .before .before .before .line-end .result) (record { within = c .before .before .before .before .before .before .before .before .before .before .before .before .before .loop-test .taken; ends = c .before .before .before .before .before .before .before .before .before .before .before .before .line-end .ensures }) _ (told-as (c .before .before .before .before .before .before .before .before .before .before .before .kind-at .ensures) (c .before .before .before .before .before .before .before .before .before .inner .given .1)) _ _ _ (c .before .before .before .before .before .before .put-comma .ensures) (c .before .before .put-component .ensures))
+put-component-loop-again t c =
+    let at-put-component = c .before .before in
+    let at-put-comma = at-put-component .before .before .before .before in
+    let at-inner = at-put-comma .before .before .before in
+    let at-kind-at = at-inner .before .before in
+    let at-line-end = at-kind-at .before in
+    let at-loop-test = at-line-end .before in
+    let at-loop = at-loop-test .before in
+    (omega arith, sub-goes _ _ _ _ _ _ _ _ (at-loop .loop .inv .1) (at-line-end .line-end .result) (record { within = at-loop-test .loop-test .taken; ends = at-line-end .line-end .ensures }) _ (told-as (at-kind-at .kind-at .ensures) (at-inner .inner .given .1)) _ _ _ (at-put-comma .put-comma .ensures) (at-put-component .put-component .ensures))
 
 put-component-enum-told : (t : ℕ) → put-component-lts.Need-enum-told (claims-put-component t) (put-component-at t) put-component.Post put-component-Inv-loop put-component-μ-loop
 put-component-enum-told t c = search needs
@@ -97,31 +129,65 @@ put-component-same-length : (t : ℕ) → put-component-lts.Need-same-length (cl
 put-component-same-length t c = search needs
 
 put-component-returns : (t : ℕ) → put-component-lts.Need-returns (claims-put-component t) (put-component-at t) put-component.Post put-component-Inv-loop put-component-μ-loop
-put-component-returns t c = record { wrote = component-wrote _ _ _ (c .before .before .before .before .before .before .before .before .before .before .before .before .before .put-head .ensures .wrote) (sub-ends _ _ _ _ _ _ _ _ (c .before .before .before .before .before .before .before .before .before .before .loop .inv .1) (c .before .before .before .before .before .before .before .before .line-end .result) (record { within = c .before .before .before .before .before .before .before .before .before .loop-test .taken; ends = c .before .before .before .before .before .before .before .before .line-end .ensures }) _ (told-as (c .before .before .before .before .before .before .before .kind-at .ensures) (c .before .before .before .before .before .enum-told .given .1)) _ (c .before .before .put-all .ensures)); rest = c .before .before .before .before .before .before .before .before .before .before .before .before .before .put-head .ensures .rest; further = c .before .before .before .before .before .before .before .before .before .before .before .before .before .put-head .ensures .further }
+put-component-returns t c =
+    let at-put-all = c .before .before in
+    let at-enum-told = at-put-all .before .before .before in
+    let at-kind-at = at-enum-told .before .before in
+    let at-line-end = at-kind-at .before in
+    let at-loop-test = at-line-end .before in
+    let at-loop = at-loop-test .before in
+    let at-put-head = at-loop .before .before .before in
+    record { wrote = component-wrote _ _ _ (at-put-head .put-head .ensures .wrote) (sub-ends _ _ _ _ _ _ _ _ (at-loop .loop .inv .1) (at-line-end .line-end .result) (record { within = at-loop-test .loop-test .taken; ends = at-line-end .line-end .ensures }) _ (told-as (at-kind-at .kind-at .ensures) (at-enum-told .enum-told .given .1)) _ (at-put-all .put-all .ensures)); rest = at-put-head .put-head .ensures .rest; further = at-put-head .put-head .ensures .further }
 
 put-component-enum-told-2 : (t : ℕ) → put-component-lts.Need-enum-told-2 (claims-put-component t) (put-component-at t) put-component.Post put-component-Inv-loop put-component-μ-loop
 put-component-enum-told-2 t c = search needs
 
 put-component-add-i-2 : (t : ℕ) → put-component-lts.Need-add-i-2 (claims-put-component t) (put-component-at t) put-component.Post put-component-Inv-loop put-component-μ-loop
-put-component-add-i-2 t c = omega (arith, scan-high isLf (c .before .before .before .before .before .before .before .before .before .before .before .before .before .args .buf .now) (c .before .before .before .before .before .loop .i) _ (c .before .before .before .line-end .ensures) (omega arith))
+put-component-add-i-2 t c =
+    let at-line-end = c .before .before .before in
+    let at-loop = at-line-end .before .before in
+    let at-start = at-loop .before .before .before .before .before .before .before .before in
+    omega (arith, scan-high isLf (at-start .args .buf .now) (at-loop .loop .i) _ (at-line-end .line-end .ensures) (omega arith))
 
 put-component-loop-less-2 : (t : ℕ) → put-component-lts.Need-loop-less-2 (claims-put-component t) (put-component-at t) put-component.Post put-component-Inv-loop put-component-μ-loop
-put-component-loop-less-2 t c = omega (arith, scan-high isLf (c .before .before .before .before .before .before .before .before .before .before .before .before .before .args .buf .now) (c .before .before .before .before .before .loop .i) _ (c .before .before .before .line-end .ensures) (omega arith))
+put-component-loop-less-2 t c =
+    let at-line-end = c .before .before .before in
+    let at-loop = at-line-end .before .before in
+    let at-start = at-loop .before .before .before .before .before .before .before .before in
+    omega (arith, scan-high isLf (at-start .args .buf .now) (at-loop .loop .i) _ (at-line-end .line-end .ensures) (omega arith))
 
 put-component-loop-again-2 : (t : ℕ) → put-component-lts.Need-loop-again-2 (claims-put-component t) (put-component-at t) put-component.Post put-component-Inv-loop put-component-μ-loop
-put-component-loop-again-2 t c = (c .before .before .before .before .before .loop .inv .0, sub-plain _ _ _ _ _ _ _ _ (c .before .before .before .before .before .loop .inv .1) (c .before .before .before .line-end .result) (record { within = c .before .before .before .before .loop-test .taken; ends = c .before .before .before .line-end .ensures }) (told-as (c .before .before .kind-at .ensures) (c .enum-told2 .given .1)))
+put-component-loop-again-2 t c =
+    let at-kind-at = c .before .before in
+    let at-line-end = at-kind-at .before in
+    let at-loop-test = at-line-end .before in
+    let at-loop = at-loop-test .before in
+    (at-loop .loop .inv .0, sub-plain _ _ _ _ _ _ _ _ (at-loop .loop .inv .1) (at-line-end .line-end .result) (record { within = at-loop-test .loop-test .taken; ends = at-line-end .line-end .ensures }) (told-as (at-kind-at .kind-at .ensures) (c .enum-told2 .given .1)))
 
 put-component-enum-told-3 : (t : ℕ) → put-component-lts.Need-enum-told-3 (claims-put-component t) (put-component-at t) put-component.Post put-component-Inv-loop put-component-μ-loop
 put-component-enum-told-3 t c = search needs
 
 put-component-add-i-3 : (t : ℕ) → put-component-lts.Need-add-i-3 (claims-put-component t) (put-component-at t) put-component.Post put-component-Inv-loop put-component-μ-loop
-put-component-add-i-3 t c = omega (arith, scan-high isLf (c .before .before .before .before .before .before .before .before .before .before .before .before .before .args .buf .now) (c .before .before .before .before .before .loop .i) _ (c .before .before .before .line-end .ensures) (omega arith))
+put-component-add-i-3 t c =
+    let at-line-end = c .before .before .before in
+    let at-loop = at-line-end .before .before in
+    let at-start = at-loop .before .before .before .before .before .before .before .before in
+    omega (arith, scan-high isLf (at-start .args .buf .now) (at-loop .loop .i) _ (at-line-end .line-end .ensures) (omega arith))
 
 put-component-loop-less-3 : (t : ℕ) → put-component-lts.Need-loop-less-3 (claims-put-component t) (put-component-at t) put-component.Post put-component-Inv-loop put-component-μ-loop
-put-component-loop-less-3 t c = omega (arith, scan-high isLf (c .before .before .before .before .before .before .before .before .before .before .before .before .before .args .buf .now) (c .before .before .before .before .before .loop .i) _ (c .before .before .before .line-end .ensures) (omega arith))
+put-component-loop-less-3 t c =
+    let at-line-end = c .before .before .before in
+    let at-loop = at-line-end .before .before in
+    let at-start = at-loop .before .before .before .before .before .before .before .before in
+    omega (arith, scan-high isLf (at-start .args .buf .now) (at-loop .loop .i) _ (at-line-end .line-end .ensures) (omega arith))
 
 put-component-loop-again-3 : (t : ℕ) → put-component-lts.Need-loop-again-3 (claims-put-component t) (put-component-at t) put-component.Post put-component-Inv-loop put-component-μ-loop
-put-component-loop-again-3 t c = (c .before .before .before .before .before .loop .inv .0, sub-broken _ _ _ _ _ _ _ _ (c .before .before .before .before .before .loop .inv .1) (c .before .before .before .line-end .result) (record { within = c .before .before .before .before .loop-test .taken; ends = c .before .before .before .line-end .ensures }) (told-as (c .before .before .kind-at .ensures) (c .enum-told3 .given .1)))
+put-component-loop-again-3 t c =
+    let at-kind-at = c .before .before in
+    let at-line-end = at-kind-at .before in
+    let at-loop-test = at-line-end .before in
+    let at-loop = at-loop-test .before in
+    (at-loop .loop .inv .0, sub-broken _ _ _ _ _ _ _ _ (at-loop .loop .inv .1) (at-line-end .line-end .result) (record { within = at-loop-test .loop-test .taken; ends = at-line-end .line-end .ensures }) (told-as (at-kind-at .kind-at .ensures) (c .enum-told3 .given .1)))
 
 put-component-slice-aggregate-put-all-2 :
     (t : ℕ) → put-component-lts.Need-slice-aggregate-put-all-2 (
@@ -147,7 +213,12 @@ put-component-same-length-2 : (t : ℕ) → put-component-lts.Need-same-length-2
 put-component-same-length-2 t c = search needs
 
 put-component-returns-2 : (t : ℕ) → put-component-lts.Need-returns-2 (claims-put-component t) (put-component-at t) put-component.Post put-component-Inv-loop put-component-μ-loop
-put-component-returns-2 t c = record { wrote = component-wrote _ _ _ (c .before .before .before .before .before .before .before .before .before .put-head .ensures .wrote) (sub-none _ _ _ _ _ _ _ _ (c .before .before .before .before .before .before .loop .inv .1) _ (c .before .before .before .before .before .loop-test .left) (c .before .before .put-all2 .ensures)); rest = c .before .before .before .before .before .before .before .before .before .put-head .ensures .rest; further = c .before .before .before .before .before .before .before .before .before .put-head .ensures .further }
+put-component-returns-2 t c =
+    let at-put-all2 = c .before .before in
+    let at-loop-test = at-put-all2 .before .before .before in
+    let at-loop = at-loop-test .before in
+    let at-put-head = at-loop .before .before .before in
+    record { wrote = component-wrote _ _ _ (at-put-head .put-head .ensures .wrote) (sub-none _ _ _ _ _ _ _ _ (at-loop .loop .inv .1) _ (at-loop-test .loop-test .left) (at-put-all2 .put-all2 .ensures)); rest = at-put-head .put-head .ensures .rest; further = at-put-head .put-head .ensures .further }
 
 pub +put-component-spec : {M : Type 1} → statement M
 +put-component-spec = close μ-put-component λ t. put-component-lts.spec (claims-put-component t)

@@ -17,7 +17,10 @@ same-length c = search needs
 
 returns-2 : tie.Need-returns-2
 unfolding comma
-returns-2 c = rw (c .before .before .before .before .if1 .left) (c .before .before .put .ensures)
+returns-2 c =
+    let at-put = c .before .before in
+    let at-if1 = at-put .before .before in
+    rw (at-if1 .if1 .left) (at-put .put .ensures)
 
 pub put-comma-spec : {M : Type 1} → statement M
 put-comma-spec = tie.close (tie.spec returns put-requires same-length returns-2)

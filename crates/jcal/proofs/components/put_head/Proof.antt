@@ -42,7 +42,14 @@ same-length : tie.Need-same-length
 same-length c = search needs
 
 returns : tie.Need-returns
-returns c = record { wrote = as-text (then (then (then (then (c .before .before .before .before .before .before .before .before .before .before .before .before .before .before .before .before .before .before .before .before .put .ensures) (as-text (c .before .before .before .before .before .before .before .before .before .before .before .before .before .before .before .put-name .ensures) (ap printString (name-part (c .before .before .before .before .before .before .before .before .before .before .before .before .before .before .before .before .before .before .before .before .before .before .before .before .before .args .buf .now) (c .before .before .before .before .before .before .before .before .before .before .before .before .before .before .before .before .before .before .before .before .before .before .before .before .before .args .name) (c .before .before .before .before .before .before .before .before .before .before .before .before .before .before .before .before .before .before .before .before .before .before .before .before .before .args .e) (c .before .before .before .before .before .before .before .before .before .before .before .before .before .before .before .before .before .before .before .before .before .before .before .before .before .pre .0 .ends))))) (c .before .before .before .before .before .before .before .before .before .before .before .put2 .ensures)) (c .before .before .before .before .before .before .before .put-properties .ensures .wrote)) (c .before .before .put-all .ensures)) (head-text _ _ _); rest = c .before .before .before .before .before .before .before .put-properties .ensures .rest; further = c .before .before .before .before .before .before .before .put-properties .ensures .further }
+returns c =
+    let at-put-all = c .before .before in
+    let at-put-properties = at-put-all .before .before .before .before .before in
+    let at-put2 = at-put-properties .before .before .before .before in
+    let at-put-name = at-put2 .before .before .before .before in
+    let at-put = at-put-name .before .before .before .before .before in
+    let at-start = at-put .before .before .before .before .before in
+    record { wrote = as-text (then (then (then (then (at-put .put .ensures) (as-text (at-put-name .put-name .ensures) (ap printString (name-part (at-start .args .buf .now) (at-start .args .name) (at-start .args .e) (at-start .pre .0 .ends))))) (at-put2 .put2 .ensures)) (at-put-properties .put-properties .ensures .wrote)) (at-put-all .put-all .ensures)) (head-text _ _ _); rest = at-put-properties .put-properties .ensures .rest; further = at-put-properties .put-properties .ensures .further }
 
 pub put-head-spec : {M : Type 1} → statement M
 put-head-spec =

@@ -15,7 +15,11 @@ same-length : tie.Need-same-length
 same-length c = search needs
 
 returns : tie.Need-returns
-returns c = then (c .before .before .before .before .before .before .put-comma .ensures) (c .before .before .put-property .ensures .property _ (accepted-or _ (c .before .before .before .before .before .before .before .before .before .before .before .pre)))
+returns c =
+    let at-put-property = c .before .before in
+    let at-put-comma = at-put-property .before .before .before .before in
+    let at-start = at-put-comma .before .before .before .before .before in
+    then (at-put-comma .put-comma .ensures) (at-put-property .put-property .ensures .property _ (accepted-or _ (at-start .pre)))
 
 pub put-item-spec : {M : Type 1} → statement M
 put-item-spec = tie.close (tie.spec put-comma-requires put-property-requires same-length returns)

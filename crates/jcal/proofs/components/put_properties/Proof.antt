@@ -25,7 +25,9 @@ put-requires : tie.Need-put-requires Inv-loop μ-loop
 put-requires c κs = search needs
 
 loop-holds : tie.Need-loop-holds Inv-loop μ-loop
-loop-holds c = (refl, going-start _ _ _ _ (c .before .before .before .before .before .before .before .pre))
+loop-holds c =
+    let at-start = c .before .before .before .before .before .before .before in
+    (refl, going-start _ _ _ _ (at-start .pre))
 
 line-end-requires : tie.Need-line-end-requires Inv-loop μ-loop
 line-end-requires c κs = search needs
@@ -37,16 +39,32 @@ enum-told : tie.Need-enum-told Inv-loop μ-loop
 enum-told c = search needs
 
 add-within : tie.Need-add-within Inv-loop μ-loop
-add-within c = omega (arith, c .before .before .before .before .before .loop .inv .1 .few, c .before .before .before .before .loop-test .taken)
+add-within c =
+    let at-loop-test = c .before .before .before .before in
+    let at-loop = at-loop-test .before in
+    omega (arith, at-loop .loop .inv .1 .few, at-loop-test .loop-test .taken)
 
 add-i : tie.Need-add-i Inv-loop μ-loop
-add-i c = omega (arith, scan-high isLf (c .before .before .before .before .before .before .before .before .before .before .before .before .before .args .buf .now) (c .before .before .before .before .before .loop .i) _ (c .before .before .before .line-end .ensures) (omega arith))
+add-i c =
+    let at-line-end = c .before .before .before in
+    let at-loop = at-line-end .before .before in
+    let at-start = at-loop .before .before .before .before .before .before .before .before in
+    omega (arith, scan-high isLf (at-start .args .buf .now) (at-loop .loop .i) _ (at-line-end .line-end .ensures) (omega arith))
 
 loop-less : tie.Need-loop-less Inv-loop μ-loop
-loop-less c = omega (arith, scan-high isLf (c .before .before .before .before .before .before .before .before .before .before .before .before .before .args .buf .now) (c .before .before .before .before .before .loop .i) _ (c .before .before .before .line-end .ensures) (omega arith))
+loop-less c =
+    let at-line-end = c .before .before .before in
+    let at-loop = at-line-end .before .before in
+    let at-start = at-loop .before .before .before .before .before .before .before .before in
+    omega (arith, scan-high isLf (at-start .args .buf .now) (at-loop .loop .i) _ (at-line-end .line-end .ensures) (omega arith))
 
 loop-again : tie.Need-loop-again Inv-loop μ-loop
-loop-again c = (c .before .before .before .before .before .loop .inv .0, going-opens _ _ _ _ _ _ _ _ (c .before .before .before .before .before .loop .inv .1) (c .before .before .before .line-end .result) (record { within = c .before .before .before .before .loop-test .taken; ends = c .before .before .before .line-end .ensures }) _ (told-as (c .before .before .kind-at .ensures) (c .enum-told .given .1)))
+loop-again c =
+    let at-kind-at = c .before .before in
+    let at-line-end = at-kind-at .before in
+    let at-loop-test = at-line-end .before in
+    let at-loop = at-loop-test .before in
+    (at-loop .loop .inv .0, going-opens _ _ _ _ _ _ _ _ (at-loop .loop .inv .1) (at-line-end .line-end .result) (record { within = at-loop-test .loop-test .taken; ends = at-line-end .line-end .ensures }) _ (told-as (at-kind-at .kind-at .ensures) (c .enum-told .given .1)))
 
 enum-told-2 : tie.Need-enum-told-2 Inv-loop μ-loop
 enum-told-2 c = search needs
@@ -55,70 +73,156 @@ put-requires-2 : tie.Need-put-requires-2 Inv-loop μ-loop
 put-requires-2 c κs = search needs
 
 add-t21 : tie.Need-add-t21 Inv-loop μ-loop
-add-t21 c = omega (arith, scan-high isLf (c .before .before .before .before .before .before .before .before .before .before .before .before .before .before .before .before .before .before .args .buf .now) (c .before .before .before .before .before .before .before .before .before .before .loop .i) _ (c .before .before .before .before .before .before .before .before .line-end .ensures) (omega arith))
+add-t21 c =
+    let at-line-end = c .before .before .before .before .before .before .before .before in
+    let at-loop = at-line-end .before .before in
+    let at-start = at-loop .before .before .before .before .before .before .before .before in
+    omega (arith, scan-high isLf (at-start .args .buf .now) (at-loop .loop .i) _ (at-line-end .line-end .ensures) (omega arith))
 
 same-length : tie.Need-same-length Inv-loop μ-loop
 same-length c = search needs
 
 returns : tie.Need-returns Inv-loop μ-loop
-returns c = let x = going-ends _ _ _ _ _ _ _ _ (c .before .before .before .before .before .before .before .before .before .before .loop .inv .1) (c .before .before .before .before .before .before .before .before .line-end .result) (record { within = c .before .before .before .before .before .before .before .before .before .loop-test .taken; ends = c .before .before .before .before .before .before .before .before .line-end .ensures }) _ _ (told-as (c .before .before .before .before .before .before .before .kind-at .ensures) (c .before .before .before .before .before .enum-told2 .given .1)) (c .before .before .before .before .if1 .taken) (c .before .before .put2 .ensures) in record { wrote = then (c .before .before .before .before .before .before .before .before .before .before .before .before .before .put .ensures) (x .0); rest = x .1; further = omega (arith, c .before .before .before .before .before .before .before .before .before .before .loop .inv .1 .low, c .before .before .before .before .before .before .before .before .line-end .ensures) }
+returns c =
+    let at-put2 = c .before .before in
+    let at-if1 = at-put2 .before .before in
+    let at-enum-told2 = at-if1 .before in
+    let at-kind-at = at-enum-told2 .before .before in
+    let at-line-end = at-kind-at .before in
+    let at-loop-test = at-line-end .before in
+    let at-loop = at-loop-test .before in
+    let at-put = at-loop .before .before .before in
+    let x = going-ends _ _ _ _ _ _ _ _ (at-loop .loop .inv .1) (at-line-end .line-end .result) (record { within = at-loop-test .loop-test .taken; ends = at-line-end .line-end .ensures }) _ _ (told-as (at-kind-at .kind-at .ensures) (at-enum-told2 .enum-told2 .given .1)) (at-if1 .if1 .taken) (at-put2 .put2 .ensures) in record { wrote = then (at-put .put .ensures) (x .0); rest = x .1; further = omega (arith, at-loop .loop .inv .1 .low, at-line-end .line-end .ensures) }
 
 sub-within : tie.Need-sub-within Inv-loop μ-loop
 sub-within c = omega arith
 
 add-i-2 : tie.Need-add-i-2 Inv-loop μ-loop
-add-i-2 c = omega (arith, scan-high isLf (c .before .before .before .before .before .before .before .before .before .before .before .before .before .before .args .buf .now) (c .before .before .before .before .before .before .loop .i) _ (c .before .before .before .before .line-end .ensures) (omega arith))
+add-i-2 c =
+    let at-line-end = c .before .before .before .before in
+    let at-loop = at-line-end .before .before in
+    let at-start = at-loop .before .before .before .before .before .before .before .before in
+    omega (arith, scan-high isLf (at-start .args .buf .now) (at-loop .loop .i) _ (at-line-end .line-end .ensures) (omega arith))
 
 loop-less-2 : tie.Need-loop-less-2 Inv-loop μ-loop
-loop-less-2 c = omega (arith, scan-high isLf (c .before .before .before .before .before .before .before .before .before .before .before .before .before .before .args .buf .now) (c .before .before .before .before .before .before .loop .i) _ (c .before .before .before .before .line-end .ensures) (omega arith))
+loop-less-2 c =
+    let at-line-end = c .before .before .before .before in
+    let at-loop = at-line-end .before .before in
+    let at-start = at-loop .before .before .before .before .before .before .before .before in
+    omega (arith, scan-high isLf (at-start .args .buf .now) (at-loop .loop .i) _ (at-line-end .line-end .ensures) (omega arith))
 
 loop-again-2 : tie.Need-loop-again-2 Inv-loop μ-loop
-loop-again-2 c = (c .before .before .before .before .before .before .loop .inv .0, going-closes _ _ _ _ _ _ _ _ (c .before .before .before .before .before .before .loop .inv .1) (c .before .before .before .before .line-end .result) (record { within = c .before .before .before .before .before .loop-test .taken; ends = c .before .before .before .before .line-end .ensures }) _ (told-as (c .before .before .before .kind-at .ensures) (c .before .enum-told2 .given .1)) (c .if1 .left))
+loop-again-2 c =
+    let at-enum-told2 = c .before in
+    let at-kind-at = at-enum-told2 .before .before in
+    let at-line-end = at-kind-at .before in
+    let at-loop-test = at-line-end .before in
+    let at-loop = at-loop-test .before in
+    (at-loop .loop .inv .0, going-closes _ _ _ _ _ _ _ _ (at-loop .loop .inv .1) (at-line-end .line-end .result) (record { within = at-loop-test .loop-test .taken; ends = at-line-end .line-end .ensures }) _ (told-as (at-kind-at .kind-at .ensures) (at-enum-told2 .enum-told2 .given .1)) (c .if1 .left))
 
 enum-told-3 : tie.Need-enum-told-3 Inv-loop μ-loop
 enum-told-3 c = search needs
 
 sub-put-item : tie.Need-sub-put-item Inv-loop μ-loop
-sub-put-item c = omega (arith, c .before .before .before .before .line-end .ensures)
+sub-put-item c =
+    let at-line-end = c .before .before .before .before in
+    omega (arith, at-line-end .line-end .ensures)
 
 part-put-item-start : tie.Need-part-put-item-start Inv-loop μ-loop
-part-put-item-start c = omega (arith, c .before .before .before .before .line-end .ensures)
+part-put-item-start c =
+    let at-line-end = c .before .before .before .before in
+    omega (arith, at-line-end .line-end .ensures)
 
 part-put-item-end : tie.Need-part-put-item-end Inv-loop μ-loop
-part-put-item-end c = scan-high isLf (c .before .before .before .before .before .before .before .before .before .before .before .before .before .before .args .buf .now) (c .before .before .before .before .before .before .loop .i) _ (c .before .before .before .before .line-end .ensures) (omega arith)
+part-put-item-end c =
+    let at-line-end = c .before .before .before .before in
+    let at-loop = at-line-end .before .before in
+    let at-start = at-loop .before .before .before .before .before .before .before .before in
+    scan-high isLf (at-start .args .buf .now) (at-loop .loop .i) _ (at-line-end .line-end .ensures) (omega arith)
 
 put-item-requires : tie.Need-put-item-requires Inv-loop μ-loop
-put-item-requires c κs = rw (line-is (c .before .before .before .before .before .before .before .before .before .before .before .before .before .before .before .before .args .buf .now) (c .before .before .before .before .before .before .before .before .loop .i) (c .before .before .before .before .before .before .line-end .result) (record { within = c .before .before .before .before .before .before .before .loop-test .taken; ends = c .before .before .before .before .before .before .line-end .ensures })) (reads-here _ _ _ _ _ _ _ _ (c .before .before .before .before .before .before .before .before .loop .inv .1) (c .before .before .before .before .before .before .line-end .result) (record { within = c .before .before .before .before .before .before .before .loop-test .taken; ends = c .before .before .before .before .before .before .line-end .ensures }) (told-as (c .before .before .before .before .before .kind-at .ensures) (c .before .before .before .enum-told3 .given .1)) .0)
+put-item-requires c κs =
+    let at-enum-told3 = c .before .before .before in
+    let at-kind-at = at-enum-told3 .before .before in
+    let at-line-end = at-kind-at .before in
+    let at-loop-test = at-line-end .before in
+    let at-loop = at-loop-test .before in
+    let at-start = at-loop .before .before .before .before .before .before .before .before in
+    rw (line-is (at-start .args .buf .now) (at-loop .loop .i) (at-line-end .line-end .result) (record { within = at-loop-test .loop-test .taken; ends = at-line-end .line-end .ensures })) (reads-here _ _ _ _ _ _ _ _ (at-loop .loop .inv .1) (at-line-end .line-end .result) (record { within = at-loop-test .loop-test .taken; ends = at-line-end .line-end .ensures }) (told-as (at-kind-at .kind-at .ensures) (at-enum-told3 .enum-told3 .given .1)) .0)
 
 add-i-3 : tie.Need-add-i-3 Inv-loop μ-loop
-add-i-3 c = omega (arith, scan-high isLf (c .before .before .before .before .before .before .before .before .before .before .before .before .before .before .before .before .before .before .before .args .buf .now) (c .before .before .before .before .before .before .before .before .before .before .before .loop .i) _ (c .before .before .before .before .before .before .before .before .before .line-end .ensures) (omega arith))
+add-i-3 c =
+    let at-line-end = c .before .before .before .before .before .before .before .before .before in
+    let at-loop = at-line-end .before .before in
+    let at-start = at-loop .before .before .before .before .before .before .before .before in
+    omega (arith, scan-high isLf (at-start .args .buf .now) (at-loop .loop .i) _ (at-line-end .line-end .ensures) (omega arith))
 
 loop-less-3 : tie.Need-loop-less-3 Inv-loop μ-loop
-loop-less-3 c = omega (arith, scan-high isLf (c .before .before .before .before .before .before .before .before .before .before .before .before .before .before .before .before .before .before .before .args .buf .now) (c .before .before .before .before .before .before .before .before .before .before .before .loop .i) _ (c .before .before .before .before .before .before .before .before .before .line-end .ensures) (omega arith))
+loop-less-3 c =
+    let at-line-end = c .before .before .before .before .before .before .before .before .before in
+    let at-loop = at-line-end .before .before in
+    let at-start = at-loop .before .before .before .before .before .before .before .before in
+    omega (arith, scan-high isLf (at-start .args .buf .now) (at-loop .loop .i) _ (at-line-end .line-end .ensures) (omega arith))
 
 loop-again-3 : tie.Need-loop-again-3 Inv-loop μ-loop
-loop-again-3 c = (omega arith, going-held _ _ _ _ _ _ _ _ (c .before .before .before .before .before .before .before .before .before .before .before .loop .inv .1) (c .before .before .before .before .before .before .before .before .before .line-end .result) (record { within = c .before .before .before .before .before .before .before .before .before .before .loop-test .taken; ends = c .before .before .before .before .before .before .before .before .before .line-end .ensures }) (told-as (c .before .before .before .before .before .before .before .before .kind-at .ensures) (c .before .before .before .before .before .before .enum-told3 .given .1)) _ (c .before .before .before .before .before .if2 .taken) (rw (line-is (c .before .before .before .before .before .before .before .before .before .before .before .before .before .before .before .before .before .before .before .args .buf .now) (c .before .before .before .before .before .before .before .before .before .before .before .loop .i) (c .before .before .before .before .before .before .before .before .before .line-end .result) (record { within = c .before .before .before .before .before .before .before .before .before .before .loop-test .taken; ends = c .before .before .before .before .before .before .before .before .before .line-end .ensures })) at (c .before .before .put-item .ensures)))
+loop-again-3 c =
+    let at-put-item = c .before .before in
+    let at-if2 = at-put-item .before .before .before in
+    let at-enum-told3 = at-if2 .before in
+    let at-kind-at = at-enum-told3 .before .before in
+    let at-line-end = at-kind-at .before in
+    let at-loop-test = at-line-end .before in
+    let at-loop = at-loop-test .before in
+    let at-start = at-loop .before .before .before .before .before .before .before .before in
+    (omega arith, going-held _ _ _ _ _ _ _ _ (at-loop .loop .inv .1) (at-line-end .line-end .result) (record { within = at-loop-test .loop-test .taken; ends = at-line-end .line-end .ensures }) (told-as (at-kind-at .kind-at .ensures) (at-enum-told3 .enum-told3 .given .1)) _ (at-if2 .if2 .taken) (rw (line-is (at-start .args .buf .now) (at-loop .loop .i) (at-line-end .line-end .result) (record { within = at-loop-test .loop-test .taken; ends = at-line-end .line-end .ensures })) at (at-put-item .put-item .ensures)))
 
 add-i-4 : tie.Need-add-i-4 Inv-loop μ-loop
-add-i-4 c = omega (arith, scan-high isLf (c .before .before .before .before .before .before .before .before .before .before .before .before .before .before .args .buf .now) (c .before .before .before .before .before .before .loop .i) _ (c .before .before .before .before .line-end .ensures) (omega arith))
+add-i-4 c =
+    let at-line-end = c .before .before .before .before in
+    let at-loop = at-line-end .before .before in
+    let at-start = at-loop .before .before .before .before .before .before .before .before in
+    omega (arith, scan-high isLf (at-start .args .buf .now) (at-loop .loop .i) _ (at-line-end .line-end .ensures) (omega arith))
 
 loop-less-4 : tie.Need-loop-less-4 Inv-loop μ-loop
-loop-less-4 c = omega (arith, scan-high isLf (c .before .before .before .before .before .before .before .before .before .before .before .before .before .before .args .buf .now) (c .before .before .before .before .before .before .loop .i) _ (c .before .before .before .before .line-end .ensures) (omega arith))
+loop-less-4 c =
+    let at-line-end = c .before .before .before .before in
+    let at-loop = at-line-end .before .before in
+    let at-start = at-loop .before .before .before .before .before .before .before .before in
+    omega (arith, scan-high isLf (at-start .args .buf .now) (at-loop .loop .i) _ (at-line-end .line-end .ensures) (omega arith))
 
 loop-again-4 : tie.Need-loop-again-4 Inv-loop μ-loop
-loop-again-4 c = (c .before .before .before .before .before .before .loop .inv .0, going-passed _ _ _ _ _ _ _ _ (c .before .before .before .before .before .before .loop .inv .1) (c .before .before .before .before .line-end .result) (record { within = c .before .before .before .before .before .loop-test .taken; ends = c .before .before .before .before .line-end .ensures }) (told-as (c .before .before .before .kind-at .ensures) (c .before .enum-told3 .given .1)) (c .if2 .left))
+loop-again-4 c =
+    let at-enum-told3 = c .before in
+    let at-kind-at = at-enum-told3 .before .before in
+    let at-line-end = at-kind-at .before in
+    let at-loop-test = at-line-end .before in
+    let at-loop = at-loop-test .before in
+    (at-loop .loop .inv .0, going-passed _ _ _ _ _ _ _ _ (at-loop .loop .inv .1) (at-line-end .line-end .result) (record { within = at-loop-test .loop-test .taken; ends = at-line-end .line-end .ensures }) (told-as (at-kind-at .kind-at .ensures) (at-enum-told3 .enum-told3 .given .1)) (c .if2 .left))
 
 enum-told-4 : tie.Need-enum-told-4 Inv-loop μ-loop
 enum-told-4 c = search needs
 
 add-i-5 : tie.Need-add-i-5 Inv-loop μ-loop
-add-i-5 c = omega (arith, scan-high isLf (c .before .before .before .before .before .before .before .before .before .before .before .before .before .args .buf .now) (c .before .before .before .before .before .loop .i) _ (c .before .before .before .line-end .ensures) (omega arith))
+add-i-5 c =
+    let at-line-end = c .before .before .before in
+    let at-loop = at-line-end .before .before in
+    let at-start = at-loop .before .before .before .before .before .before .before .before in
+    omega (arith, scan-high isLf (at-start .args .buf .now) (at-loop .loop .i) _ (at-line-end .line-end .ensures) (omega arith))
 
 loop-less-5 : tie.Need-loop-less-5 Inv-loop μ-loop
-loop-less-5 c = omega (arith, scan-high isLf (c .before .before .before .before .before .before .before .before .before .before .before .before .before .args .buf .now) (c .before .before .before .before .before .loop .i) _ (c .before .before .before .line-end .ensures) (omega arith))
+loop-less-5 c =
+    let at-line-end = c .before .before .before in
+    let at-loop = at-line-end .before .before in
+    let at-start = at-loop .before .before .before .before .before .before .before .before in
+    omega (arith, scan-high isLf (at-start .args .buf .now) (at-loop .loop .i) _ (at-line-end .line-end .ensures) (omega arith))
 
 loop-again-5 : tie.Need-loop-again-5 Inv-loop μ-loop
-loop-again-5 c = (c .before .before .before .before .before .loop .inv .0, going-broken _ _ _ _ _ _ _ _ (c .before .before .before .before .before .loop .inv .1) (c .before .before .before .line-end .result) (record { within = c .before .before .before .before .loop-test .taken; ends = c .before .before .before .line-end .ensures }) (told-as (c .before .before .kind-at .ensures) (c .enum-told4 .given .1)))
+loop-again-5 c =
+    let at-kind-at = c .before .before in
+    let at-line-end = at-kind-at .before in
+    let at-loop-test = at-line-end .before in
+    let at-loop = at-loop-test .before in
+    (at-loop .loop .inv .0, going-broken _ _ _ _ _ _ _ _ (at-loop .loop .inv .1) (at-line-end .line-end .result) (record { within = at-loop-test .loop-test .taken; ends = at-line-end .line-end .ensures }) (told-as (at-kind-at .kind-at .ensures) (c .enum-told4 .given .1)))
 
 put-requires-3 : tie.Need-put-requires-3 Inv-loop μ-loop
 put-requires-3 c κs = search needs
@@ -127,7 +231,12 @@ same-length-2 : tie.Need-same-length-2 Inv-loop μ-loop
 same-length-2 c = search needs
 
 returns-2 : tie.Need-returns-2 Inv-loop μ-loop
-returns-2 c = let x = going-none _ _ _ _ _ _ _ _ (c .before .before .before .before .before .loop .inv .1) _ (c .before .before .before .before .loop-test .left) (c .before .before .put3 .ensures) in record { wrote = then (c .before .before .before .before .before .before .before .before .put .ensures) (x .0); rest = x .1; further = c .before .before .before .before .before .loop .inv .1 .low }
+returns-2 c =
+    let at-put3 = c .before .before in
+    let at-loop-test = at-put3 .before .before in
+    let at-loop = at-loop-test .before in
+    let at-put = at-loop .before .before .before in
+    let x = going-none _ _ _ _ _ _ _ _ (at-loop .loop .inv .1) _ (at-loop-test .loop-test .left) (at-put3 .put3 .ensures) in record { wrote = then (at-put .put .ensures) (x .0); rest = x .1; further = at-loop .loop .inv .1 .low }
 
 pub put-properties-spec : {M : Type 1} → statement M
 put-properties-spec =

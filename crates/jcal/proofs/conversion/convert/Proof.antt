@@ -18,7 +18,11 @@ same-length : tie.Need-same-length
 same-length c = search needs
 
 returns : tie.Need-returns
-returns c = c .before .before .refuse .ensures ∙ ap (λ (a : Answer (List ℕ)). answer a (c .before .before .before .before .before .before .before .before .before .before .args .out .now)) (text-long _ _ (omega (arith, most-text, c .before .before .before .before .if1 .taken)))
+returns c =
+    let at-refuse = c .before .before in
+    let at-if1 = at-refuse .before .before in
+    let at-start = at-if1 .before .before .before .before .before .before in
+    at-refuse .refuse .ensures ∙ ap (λ (a : Answer (List ℕ)). answer a (at-start .args .out .now)) (text-long _ _ (omega (arith, most-text, at-if1 .if1 .taken)))
 
 read-rows-requires : tie.Need-read-rows-requires
 read-rows-requires c κs = search needs
@@ -33,10 +37,17 @@ part-convert-text-start : tie.Need-part-convert-text-start
 part-convert-text-start c = search needs
 
 part-convert-text-end : tie.Need-part-convert-text-end
-part-convert-text-end c = rows-read _ _ _ _ (c .before .before .before .before .before .before .before .before .before .before .before .before .before .before .pre .0) (c .before .before .before .before .before .before .read-rows .ensures) _ (c .before .before .n .given .1) .within
+part-convert-text-end c =
+    let at-n = c .before .before in
+    let at-read-rows = at-n .before .before .before .before in
+    let at-start = at-read-rows .before .before .before .before .before .before .before .before in
+    rows-read _ _ _ _ (at-start .pre .0) (at-read-rows .read-rows .ensures) _ (at-n .n .given .1) .within
 
 convert-text-requires : tie.Need-convert-text-requires
-convert-text-requires c κs = omega (arith, most-text, c .before .before .before .before .before .before .before .before .before .before .before .if1 .left, c .before .before .before .before .before .before .before .before .before .before .before .before .before .before .before .before .before .pre .1)
+convert-text-requires c κs =
+    let at-if1 = c .before .before .before .before .before .before .before .before .before .before .before in
+    let at-start = at-if1 .before .before .before .before .before .before in
+    omega (arith, most-text, at-if1 .if1 .left, at-start .pre .1)
 
 enum-known-why : tie.Need-enum-known-why
 enum-known-why c = search needs
@@ -54,7 +65,13 @@ same-length-4 : tie.Need-same-length-4
 same-length-4 c = search needs
 
 returns-2 : tie.Need-returns-2
-returns-2 c = c .before .before .before .before .convert-text .ensures ∙ ap (λ (a : Answer (List ℕ)). answer a (c .before .before .before .before .before .before .before .before .before .before .before .before .before .before .before .before .before .before .before .before .before .before .args .out .now)) (rows-laid _ _ _ _ (c .before .before .before .before .before .before .before .before .before .before .before .before .before .before .before .before .before .before .before .before .before .before .pre .0) (c .before .before .before .before .before .before .before .before .before .before .before .before .before .before .read-rows .ensures) _ (omega (arith, most-text, c .before .before .before .before .before .before .before .before .before .before .before .before .before .before .before .before .if1 .left)) _ (c .before .before .before .before .before .before .before .before .before .before .n .given .1))
+returns-2 c =
+    let at-convert-text = c .before .before .before .before in
+    let at-n = at-convert-text .before .before .before .before .before .before in
+    let at-read-rows = at-n .before .before .before .before in
+    let at-if1 = at-read-rows .before .before in
+    let at-start = at-if1 .before .before .before .before .before .before in
+    at-convert-text .convert-text .ensures ∙ ap (λ (a : Answer (List ℕ)). answer a (at-start .args .out .now)) (rows-laid _ _ _ _ (at-start .pre .0) (at-read-rows .read-rows .ensures) _ (omega (arith, most-text, at-if1 .if1 .left)) _ (at-n .n .given .1))
 
 same-length-5 : tie.Need-same-length-5
 same-length-5 c = search needs
@@ -63,7 +80,13 @@ same-length-6 : tie.Need-same-length-6
 same-length-6 c = search needs
 
 returns-3 : tie.Need-returns-3
-returns-3 c = c .before .before .refuse2 .ensures ∙ ap (λ (a : Answer (List ℕ)). answer a (c .before .before .before .before .before .before .before .before .before .before .before .before .before .before .before .before .before .args .out .now)) (rows-malformed _ _ _ _ (c .before .before .before .before .before .before .before .before .before .before .before .before .before .before .before .before .before .pre .0) (c .before .before .before .before .before .before .before .before .before .read-rows .ensures) _ (omega (arith, most-text, c .before .before .before .before .before .before .before .before .before .before .before .if1 .left)) _ (c .before .before .before .before .before .why .given .1))
+returns-3 c =
+    let at-refuse2 = c .before .before in
+    let at-why = at-refuse2 .before .before .before in
+    let at-read-rows = at-why .before .before .before .before in
+    let at-if1 = at-read-rows .before .before in
+    let at-start = at-if1 .before .before .before .before .before .before in
+    at-refuse2 .refuse2 .ensures ∙ ap (λ (a : Answer (List ℕ)). answer a (at-start .args .out .now)) (rows-malformed _ _ _ _ (at-start .pre .0) (at-read-rows .read-rows .ensures) _ (omega (arith, most-text, at-if1 .if1 .left)) _ (at-why .why .given .1))
 
 pub convert-spec : {M : Type 1} → statement M
 convert-spec =

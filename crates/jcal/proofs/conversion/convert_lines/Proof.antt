@@ -17,7 +17,10 @@ enum-told : tie.Need-enum-told
 enum-told c = search needs
 
 convert-paired-requires : tie.Need-convert-paired-requires
-convert-paired-requires c κs = structure-passed _ (passed-as (c .before .before .before .test-structure .ensures) (c .before .enum-told .given .1))
+convert-paired-requires c κs =
+    let at-enum-told = c .before in
+    let at-test-structure = at-enum-told .before .before in
+    structure-passed _ (passed-as (at-test-structure .test-structure .ensures) (at-enum-told .enum-told .given .1))
 
 enum-known-why : tie.Need-enum-known-why
 enum-known-why c = search needs
@@ -29,13 +32,23 @@ same-length : tie.Need-same-length
 same-length c = search needs
 
 returns : tie.Need-returns
-returns c = c .before .before .convert-paired .ensures ∙ ap (λ (a : Answer (List ℕ)). answer a (c .before .before .before .before .before .before .before .before .before .before .args .out .now)) (paired _ _ (structure-passed _ (passed-as (c .before .before .before .before .before .before .test-structure .ensures) (c .before .before .before .before .enum-told .given .1))))
+returns c =
+    let at-convert-paired = c .before .before in
+    let at-enum-told = at-convert-paired .before .before in
+    let at-test-structure = at-enum-told .before .before in
+    let at-start = at-test-structure .before .before .before .before in
+    at-convert-paired .convert-paired .ensures ∙ ap (λ (a : Answer (List ℕ)). answer a (at-start .args .out .now)) (paired _ _ (structure-passed _ (passed-as (at-test-structure .test-structure .ensures) (at-enum-told .enum-told .given .1))))
 
 same-length-2 : tie.Need-same-length-2
 same-length-2 c = search needs
 
 returns-2 : tie.Need-returns-2
-returns-2 c = c .before .before .refuse .ensures ∙ ap (λ (a : Answer (List ℕ)). answer a (c .before .before .before .before .before .before .before .before .before .before .before .args .out .now)) (structure-failed _ _ _ (failed-as (c .before .before .before .before .before .before .before .test-structure .ensures) (c .before .before .before .before .before .why .given .1)))
+returns-2 c =
+    let at-refuse = c .before .before in
+    let at-why = at-refuse .before .before .before in
+    let at-test-structure = at-why .before .before in
+    let at-start = at-test-structure .before .before .before .before in
+    at-refuse .refuse .ensures ∙ ap (λ (a : Answer (List ℕ)). answer a (at-start .args .out .now)) (structure-failed _ _ _ (failed-as (at-test-structure .test-structure .ensures) (at-why .why .given .1)))
 
 pub convert-lines-spec : {M : Type 1} → statement M
 convert-lines-spec =

@@ -17,7 +17,11 @@ enum-told : tie.Need-enum-told
 enum-told c = search needs
 
 write-calendar-requires : tie.Need-write-calendar-requires
-write-calendar-requires c κs = (c .before .before .before .before .before .before .before .pre, properties-passed _ _ (passed-as (c .before .before .before .test-properties .ensures) (c .before .enum-told .given .1)))
+write-calendar-requires c κs =
+    let at-enum-told = c .before in
+    let at-test-properties = at-enum-told .before .before in
+    let at-start = at-test-properties .before .before .before .before in
+    (at-start .pre, properties-passed _ _ (passed-as (at-test-properties .test-properties .ensures) (at-enum-told .enum-told .given .1)))
 
 enum-known-why : tie.Need-enum-known-why
 enum-known-why c = search needs
@@ -35,7 +39,12 @@ same-length-2 : tie.Need-same-length-2
 same-length-2 c = search needs
 
 returns-2 : tie.Need-returns-2
-returns-2 c = c .before .before .refuse .ensures ∙ ap (λ (a : Answer (List ℕ)). answer a (c .before .before .before .before .before .before .before .before .before .before .before .args .out .now)) (properties-failed _ _ _ (failed-as (c .before .before .before .before .before .before .before .test-properties .ensures) (c .before .before .before .before .before .why .given .1)))
+returns-2 c =
+    let at-refuse = c .before .before in
+    let at-why = at-refuse .before .before .before in
+    let at-test-properties = at-why .before .before in
+    let at-start = at-test-properties .before .before .before .before in
+    at-refuse .refuse .ensures ∙ ap (λ (a : Answer (List ℕ)). answer a (at-start .args .out .now)) (properties-failed _ _ _ (failed-as (at-test-properties .test-properties .ensures) (at-why .why .given .1)))
 
 pub convert-paired-spec : {M : Type 1} → statement M
 convert-paired-spec =

@@ -22,7 +22,10 @@ part-convert-lines-start : tie.Need-part-convert-lines-start
 part-convert-lines-start c = search needs
 
 part-convert-lines-end : tie.Need-part-convert-lines-end
-part-convert-lines-end c = laid-within _ _ _ (c .before .before .before .before .before .before .read-lines .ensures .within) (c .before .before .n .given .1)
+part-convert-lines-end c =
+    let at-n = c .before .before in
+    let at-read-lines = at-n .before .before .before .before in
+    laid-within _ _ _ (at-read-lines .read-lines .ensures .within) (at-n .n .given .1)
 
 convert-lines-requires : tie.Need-convert-lines-requires
 convert-lines-requires c κs = search needs
@@ -52,7 +55,12 @@ same-length-2 : tie.Need-same-length-2
 same-length-2 c = search needs
 
 returns : tie.Need-returns
-returns c = c .before .before .convert-lines .ensures ∙ ap (λ (a : Answer (List ℕ)). answer a (c .before .before .before .before .before .before .before .before .before .before .before .before .before .before .before .before .before .args .out .now)) (lines-laid _ _ _ _ _ (c .before .before .before .before .before .before .before .before .before .before .before .before .before .before .before .before .before .pre) (c .before .before .before .before .before .before .before .before .before .before .before .read-lines .ensures) _ (c .before .before .before .before .before .before .before .n .given .1))
+returns c =
+    let at-convert-lines = c .before .before in
+    let at-n = at-convert-lines .before .before .before .before .before in
+    let at-read-lines = at-n .before .before .before .before in
+    let at-start = at-read-lines .before .before .before .before .before .before in
+    at-convert-lines .convert-lines .ensures ∙ ap (λ (a : Answer (List ℕ)). answer a (at-start .args .out .now)) (lines-laid _ _ _ _ _ (at-start .pre) (at-read-lines .read-lines .ensures) _ (at-n .n .given .1))
 
 same-length-3 : tie.Need-same-length-3
 same-length-3 c = search needs
@@ -61,7 +69,12 @@ same-length-4 : tie.Need-same-length-4
 same-length-4 c = search needs
 
 returns-2 : tie.Need-returns-2
-returns-2 c = c .before .before .refuse .ensures ∙ ap (λ (a : Answer (List ℕ)). answer a (c .before .before .before .before .before .before .before .before .before .before .before .before .before .before .args .out .now)) (lines-unclean _ _ _ _ _ (c .before .before .before .before .before .before .before .before .before .before .before .before .before .before .pre) (c .before .before .before .before .before .before .before .before .read-lines .ensures) (c .before .before .before .before .enum-told .given .1))
+returns-2 c =
+    let at-refuse = c .before .before in
+    let at-enum-told = at-refuse .before .before in
+    let at-read-lines = at-enum-told .before .before .before .before in
+    let at-start = at-read-lines .before .before .before .before .before .before in
+    at-refuse .refuse .ensures ∙ ap (λ (a : Answer (List ℕ)). answer a (at-start .args .out .now)) (lines-unclean _ _ _ _ _ (at-start .pre) (at-read-lines .read-lines .ensures) (at-enum-told .enum-told .given .1))
 
 same-length-5 : tie.Need-same-length-5
 same-length-5 c = search needs
@@ -70,7 +83,12 @@ same-length-6 : tie.Need-same-length-6
 same-length-6 c = search needs
 
 returns-3 : tie.Need-returns-3
-returns-3 c = c .before .before .refuse2 .ensures ∙ ap (λ (a : Answer (List ℕ)). answer a (c .before .before .before .before .before .before .before .before .before .before .before .before .before .before .args .out .now)) (lines-unformed _ _ _ _ _ (c .before .before .before .before .before .before .before .before .before .before .before .before .before .before .pre) (c .before .before .before .before .before .before .before .before .read-lines .ensures) (c .before .before .before .before .enum-told2 .given .1))
+returns-3 c =
+    let at-refuse2 = c .before .before in
+    let at-enum-told2 = at-refuse2 .before .before in
+    let at-read-lines = at-enum-told2 .before .before .before .before in
+    let at-start = at-read-lines .before .before .before .before .before .before in
+    at-refuse2 .refuse2 .ensures ∙ ap (λ (a : Answer (List ℕ)). answer a (at-start .args .out .now)) (lines-unformed _ _ _ _ _ (at-start .pre) (at-read-lines .read-lines .ensures) (at-enum-told2 .enum-told2 .given .1))
 
 same-length-7 : tie.Need-same-length-7
 same-length-7 c = search needs
@@ -79,7 +97,12 @@ same-length-8 : tie.Need-same-length-8
 same-length-8 c = search needs
 
 returns-4 : tie.Need-returns-4
-returns-4 c = c .before .before .refuse3 .ensures ∙ ap (λ (a : Answer (List ℕ)). answer a (c .before .before .before .before .before .before .before .before .before .before .before .before .before .before .args .out .now)) (lines-roomless _ _ _ _ _ (c .before .before .before .before .before .before .before .before .before .before .before .before .before .before .pre) (c .before .before .before .before .before .before .before .before .read-lines .ensures) (c .before .before .before .before .enum-told3 .given .1))
+returns-4 c =
+    let at-refuse3 = c .before .before in
+    let at-enum-told3 = at-refuse3 .before .before in
+    let at-read-lines = at-enum-told3 .before .before .before .before in
+    let at-start = at-read-lines .before .before .before .before .before .before in
+    at-refuse3 .refuse3 .ensures ∙ ap (λ (a : Answer (List ℕ)). answer a (at-start .args .out .now)) (lines-roomless _ _ _ _ _ (at-start .pre) (at-read-lines .read-lines .ensures) (at-enum-told3 .enum-told3 .given .1))
 
 pub convert-text-spec : {M : Type 1} → statement M
 convert-text-spec =

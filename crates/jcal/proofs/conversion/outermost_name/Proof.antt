@@ -22,16 +22,28 @@ enum-told-3 : tie.Need-enum-told-3
 enum-told-3 c = search needs
 
 returns : tie.Need-returns
-returns c = told-as (c .before .before .before .kind-at .ensures) (c .before .name .given .1)
+returns c =
+    let at-name = c .before in
+    let at-kind-at = at-name .before .before in
+    told-as (at-kind-at .kind-at .ensures) (at-name .name .given .1)
 
 returns-2 : tie.Need-returns-2
-returns-2 c = closes-first _ _ (c .before .before .before .before .pre .0) (c .before .before .before .before .pre .1) _ (told-as (c .before .before .kind-at .ensures) (c .enum-told .given .1))
+returns-2 c =
+    let at-kind-at = c .before .before in
+    let at-start = at-kind-at .before .before in
+    closes-first _ _ (at-start .pre .0) (at-start .pre .1) _ (told-as (at-kind-at .kind-at .ensures) (c .enum-told .given .1))
 
 returns-3 : tie.Need-returns-3
-returns-3 c = plain-first _ _ (c .before .before .before .before .pre .0) (c .before .before .before .before .pre .1) (told-as (c .before .before .kind-at .ensures) (c .enum-told2 .given .1))
+returns-3 c =
+    let at-kind-at = c .before .before in
+    let at-start = at-kind-at .before .before in
+    plain-first _ _ (at-start .pre .0) (at-start .pre .1) (told-as (at-kind-at .kind-at .ensures) (c .enum-told2 .given .1))
 
 returns-4 : tie.Need-returns-4
-returns-4 c = broken-first _ _ (c .before .before .before .before .pre .0) (c .before .before .before .before .pre .1) (told-as (c .before .before .kind-at .ensures) (c .enum-told3 .given .1))
+returns-4 c =
+    let at-kind-at = c .before .before in
+    let at-start = at-kind-at .before .before in
+    broken-first _ _ (at-start .pre .0) (at-start .pre .1) (told-as (at-kind-at .kind-at .ensures) (c .enum-told3 .given .1))
 
 pub outermost-name-spec : {M : Type 1} → statement M
 outermost-name-spec =

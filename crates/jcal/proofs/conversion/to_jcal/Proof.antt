@@ -20,7 +20,9 @@ same-length : tie.Need-same-length
 same-length c = search needs
 
 returns : tie.Need-returns
-returns c = c .before .before .before .before .convert .ensures
+returns c =
+    let at-convert = c .before .before .before .before in
+    at-convert .convert .ensures
 
 pub to-jcal-spec : {M : Type 1} → statement M
 to-jcal-spec =

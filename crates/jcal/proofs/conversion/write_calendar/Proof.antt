@@ -20,11 +20,17 @@ line-end-requires : tie.Need-line-end-requires
 line-end-requires c κs = search needs
 
 outermost-name-requires : tie.Need-outermost-name-requires
-outermost-name-requires c κs = (record { within = some-line _ (c .before .before .before .before .pre .0); ends = c .line-end .ensures }, c .before .before .before .before .pre .0)
+outermost-name-requires c κs =
+    let at-start = c .before .before .before .before in
+    (record { within = some-line _ (at-start .pre .0); ends = c .line-end .ensures }, at-start .pre .0)
 
 put-component-requires : tie.Need-put-component-requires
-put-component-requires c κs = let at : LineAt (c .before .before .before .before .before .before .args .lines .now) 0 (c .before .before .line-end .result) = record { within = some-line _ (c .before .before .before .before .before .before .pre .0); ends = c .before .before .line-end .ensures } in
-    (named _ _ _ _ at (c .before .outermost-name .ensures), (calendar-accepts _ _ _ at (c .before .before .before .before .before .before .pre .0) _ (c .before .outermost-name .ensures) (c .before .before .before .before .before .before .pre .1), omega (arith, most-levels, calendar-few (readProperty (tableIn (c .before .before .before .before .before .before .args .rows .now))) _ _ at (c .before .before .before .before .before .before .pre .0) _ (c .before .outermost-name .ensures))))
+put-component-requires c κs =
+    let at-outermost-name = c .before in
+    let at-line-end = at-outermost-name .before in
+    let at-start = at-line-end .before .before .before .before in
+    let at : LineAt (at-start .args .lines .now) 0 (at-line-end .line-end .result) = record { within = some-line _ (at-start .pre .0); ends = at-line-end .line-end .ensures } in
+    (named _ _ _ _ at (at-outermost-name .outermost-name .ensures), (calendar-accepts _ _ _ at (at-start .pre .0) _ (at-outermost-name .outermost-name .ensures) (at-start .pre .1), omega (arith, most-levels, calendar-few (readProperty (tableIn (at-start .args .rows .now))) _ _ at (at-start .pre .0) _ (at-outermost-name .outermost-name .ensures))))
 
 finish-requires : tie.Need-finish-requires
 finish-requires c κs = search needs
@@ -33,8 +39,14 @@ same-length : tie.Need-same-length
 same-length c = search needs
 
 returns : tie.Need-returns
-returns c = let at : LineAt (c .before .before .before .before .before .before .before .before .before .before .before .before .before .args .lines .now) 0 (c .before .before .before .before .before .before .before .before .before .line-end .result) = record { within = some-line _ (c .before .before .before .before .before .before .before .before .before .before .before .before .before .pre .0); ends = c .before .before .before .before .before .before .before .before .before .line-end .ensures } in
-    c .before .before .finish .ensures ∙ finished-answer _ _ _ _ (c .before .before .before .before .before .before .put-component .ensures .wrote) ∙ ap (λ (a : Answer (List ℕ)). answer a (c .before .before .before .before .before .before .before .before .before .before .before .before .before .args .out .now)) (calendar-text _ _ _ at (c .before .before .before .before .before .before .before .before .before .before .before .before .before .pre .0) _ (c .before .before .before .before .before .before .before .before .outermost-name .ensures) (c .before .before .before .before .before .before .before .before .before .before .before .before .before .pre .1))
+returns c =
+    let at-finish = c .before .before in
+    let at-put-component = at-finish .before .before .before .before in
+    let at-outermost-name = at-put-component .before .before in
+    let at-line-end = at-outermost-name .before in
+    let at-start = at-line-end .before .before .before .before in
+    let at : LineAt (at-start .args .lines .now) 0 (at-line-end .line-end .result) = record { within = some-line _ (at-start .pre .0); ends = at-line-end .line-end .ensures } in
+    at-finish .finish .ensures ∙ finished-answer _ _ _ _ (at-put-component .put-component .ensures .wrote) ∙ ap (λ (a : Answer (List ℕ)). answer a (at-start .args .out .now)) (calendar-text _ _ _ at (at-start .pre .0) _ (at-outermost-name .outermost-name .ensures) (at-start .pre .1))
 
 pub write-calendar-spec : {M : Type 1} → statement M
 write-calendar-spec =

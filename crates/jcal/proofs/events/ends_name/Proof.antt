@@ -13,13 +13,20 @@ shared-slice-read-if2 : tie.Need-shared-slice-read-if2
 shared-slice-read-if2 c = search needs
 
 returns-2 : tie.Need-returns-2
-returns-2 c = sym (ap not (ends-semicolon (c .before .before .before .args .line .now) (c .before .before .before .args .n) (c .before .before .if1 .left) (c .if2 .taken)))
+returns-2 c =
+    let at-if1 = c .before .before in
+    let at-start = at-if1 .before in
+    sym (ap not (ends-semicolon (at-start .args .line .now) (at-start .args .n) (at-if1 .if1 .left) (c .if2 .taken)))
 
 shared-slice-read-result : tie.Need-shared-slice-read-result
 shared-slice-read-result c = search needs
 
 returns-3 : tie.Need-returns-3
-returns-3 c = sym (ap not (ends-colon (c .before .before .before .before .args .line .now) (c .before .before .before .before .args .n) (c .before .before .before .if1 .left) (c .before .if2 .left)) ∙ not-twice _)
+returns-3 c =
+    let at-if2 = c .before in
+    let at-if1 = at-if2 .before .before in
+    let at-start = at-if1 .before in
+    sym (ap not (ends-colon (at-start .args .line .now) (at-start .args .n) (at-if1 .if1 .left) (at-if2 .if2 .left)) ∙ not-twice _)
 
 pub ends-name-spec : {M : Type 1} → statement M
 ends-name-spec =

@@ -27,10 +27,17 @@ is-name-requires : tie.Need-is-name-requires
 is-name-requires c κs = search needs
 
 returns : tie.Need-returns
-returns c = c .is-name .ensures ∙ ap isName (from (c .before .before .before .before .before .before .args .line .now) (c .before .before .before .before .before .before .args .n + 1)) ∙ sym (bounds-colon (c .before .before .before .before .before .before .args .line .now) (c .before .before .before .before .before .before .args .n) (c .before .before .before .before .before .before .pre) (c .before .before .before .before .if1 .taken) (c .before .before .if2 .taken))
+returns c =
+    let at-if2 = c .before .before in
+    let at-if1 = at-if2 .before .before in
+    let at-start = at-if1 .before .before in
+    c .is-name .ensures ∙ ap isName (from (at-start .args .line .now) (at-start .args .n + 1)) ∙ sym (bounds-colon (at-start .args .line .now) (at-start .args .n) (at-start .pre) (at-if1 .if1 .taken) (at-if2 .if2 .taken))
 
 returns-2 : tie.Need-returns-2
-returns-2 c = sym (bounds-semicolon (c .before .before .before .before .args .line .now) (c .before .before .before .before .args .n) (c .before .before .before .before .pre) (c .before .before .if1 .taken) (c .if2 .left))
+returns-2 c =
+    let at-if1 = c .before .before in
+    let at-start = at-if1 .before .before in
+    sym (bounds-semicolon (at-start .args .line .now) (at-start .args .n) (at-start .pre) (at-if1 .if1 .taken) (c .if2 .left))
 
 returns-3 : tie.Need-returns-3
 returns-3 c = sym (bounds-none (c .before .before .args .line .now) (c .before .before .args .n) (c .before .before .pre) (c .if1 .left))

@@ -12,13 +12,18 @@ use Rattle.jcal.proofs.events.is_called.Statement.{statement}
 use Rattle.jcal.proofs.events.is_called.Tie as tie
 
 returns : tie.Need-returns
-returns c = sym (called-short (c .before .before .before .args .line .now) (c .before .before .before .args .name .now) (c .if1 .taken))
+returns c =
+    let at-start = c .before .before .before in
+    sym (called-short (at-start .args .line .now) (at-start .args .name .now) (c .if1 .taken))
 
 ends-name-requires : tie.Need-ends-name-requires
 ends-name-requires c κs = search needs
 
 returns-2 : tie.Need-returns-2
-returns-2 c = sym (called-other (c .before .before .before .before .before .args .line .now) (c .before .before .before .before .before .args .name .now) (not-not _ _ (sym (c .before .ends-name .ensures) ∙ not-true _ (c .if2 .taken))))
+returns-2 c =
+    let at-ends-name = c .before in
+    let at-start = at-ends-name .before .before .before .before in
+    sym (called-other (at-start .args .line .now) (at-start .args .name .now) (not-not _ _ (sym (at-ends-name .ends-name .ensures) ∙ not-true _ (c .if2 .taken))))
 
 sub-same-name : tie.Need-sub-same-name
 sub-same-name c = search needs
@@ -33,7 +38,11 @@ same-name-requires : tie.Need-same-name-requires
 same-name-requires c κs = search needs
 
 returns-3 : tie.Need-returns-3
-returns-3 c = c .same-name .ensures ∙ ap (λ (t : List ℕ). sameName t (c .before .before .before .before .before .before .before .args .name .now)) (upto (c .before .before .before .before .before .before .before .args .line .now) (length (c .before .before .before .before .before .before .before .args .name .now))) ∙ called-here (c .before .before .before .before .before .before .before .args .line .now) (c .before .before .before .before .before .before .before .args .name .now) (c .before .before .before .before .before .before .before .pre) (not-not _ _ (sym (c .before .before .before .ends-name .ensures) ∙ not-false _ (c .before .before .if2 .left)))
+returns-3 c =
+    let at-if2 = c .before .before in
+    let at-ends-name = at-if2 .before in
+    let at-start = at-ends-name .before .before .before .before in
+    c .same-name .ensures ∙ ap (λ (t : List ℕ). sameName t (at-start .args .name .now)) (upto (at-start .args .line .now) (length (at-start .args .name .now))) ∙ called-here (at-start .args .line .now) (at-start .args .name .now) (at-start .pre) (not-not _ _ (sym (at-ends-name .ends-name .ensures) ∙ not-false _ (at-if2 .if2 .left)))
 
 pub is-called-spec : {M : Type 1} → statement M
 is-called-spec =

@@ -31,10 +31,20 @@ add-t14 : tie.Need-add-t14
 add-t14 c = search needs
 
 returns : tie.Need-returns
-returns c = tells-opens (c .before .before .before .before .before .before .before .args .buf .now) (c .before .before .before .before .before .before .before .args .i) (c .before .before .before .before .before .before .before .args .e) (c .before .before .before .before .before .before .before .pre) (sym (c .before .before .before .is-called .ensures) ∙ c .before .before .if1 .taken) (sym (c .before .has-bounds .ensures) ∙ c .if2 .taken)
+returns c =
+    let at-has-bounds = c .before in
+    let at-if1 = at-has-bounds .before in
+    let at-is-called = at-if1 .before in
+    let at-start = at-is-called .before .before .before .before in
+    tells-opens (at-start .args .buf .now) (at-start .args .i) (at-start .args .e) (at-start .pre) (sym (at-is-called .is-called .ensures) ∙ at-if1 .if1 .taken) (sym (at-has-bounds .has-bounds .ensures) ∙ c .if2 .taken)
 
 returns-2 : tie.Need-returns-2
-returns-2 c = tells-broken (c .before .before .before .before .before .before .before .args .buf .now) (c .before .before .before .before .before .before .before .args .i) (c .before .before .before .before .before .before .before .args .e) (c .before .before .before .before .before .before .before .pre) (sym (c .before .before .before .is-called .ensures) ∙ c .before .before .if1 .taken) (sym (c .before .has-bounds .ensures) ∙ c .if2 .left)
+returns-2 c =
+    let at-has-bounds = c .before in
+    let at-if1 = at-has-bounds .before in
+    let at-is-called = at-if1 .before in
+    let at-start = at-is-called .before .before .before .before in
+    tells-broken (at-start .args .buf .now) (at-start .args .i) (at-start .args .e) (at-start .pre) (sym (at-is-called .is-called .ensures) ∙ at-if1 .if1 .taken) (sym (at-has-bounds .has-bounds .ensures) ∙ c .if2 .left)
 
 slice-aggregate-is-called-2 : tie.Need-slice-aggregate-is-called-2
 slice-aggregate-is-called-2 c = search needs
@@ -50,13 +60,32 @@ add-t19 : tie.Need-add-t19
 add-t19 c = search needs
 
 returns-3 : tie.Need-returns-3
-returns-3 c = tells-closes (c .before .before .before .before .before .before .before .before .before .before .args .buf .now) (c .before .before .before .before .before .before .before .before .before .before .args .i) (c .before .before .before .before .before .before .before .before .before .before .args .e) (c .before .before .before .before .before .before .before .before .before .before .pre) (sym (c .before .before .before .before .before .before .is-called .ensures) ∙ c .before .before .before .before .before .if1 .left) (sym (c .before .before .before .is-called2 .ensures) ∙ c .before .before .if3 .taken) (sym (c .before .has-bounds2 .ensures) ∙ c .if4 .taken)
+returns-3 c =
+    let at-has-bounds2 = c .before in
+    let at-if3 = at-has-bounds2 .before in
+    let at-is-called2 = at-if3 .before in
+    let at-if1 = at-is-called2 .before .before in
+    let at-is-called = at-if1 .before in
+    let at-start = at-is-called .before .before .before .before in
+    tells-closes (at-start .args .buf .now) (at-start .args .i) (at-start .args .e) (at-start .pre) (sym (at-is-called .is-called .ensures) ∙ at-if1 .if1 .left) (sym (at-is-called2 .is-called2 .ensures) ∙ at-if3 .if3 .taken) (sym (at-has-bounds2 .has-bounds2 .ensures) ∙ c .if4 .taken)
 
 returns-4 : tie.Need-returns-4
-returns-4 c = tells-broken-end (c .before .before .before .before .before .before .before .before .before .before .args .buf .now) (c .before .before .before .before .before .before .before .before .before .before .args .i) (c .before .before .before .before .before .before .before .before .before .before .args .e) (c .before .before .before .before .before .before .before .before .before .before .pre) (sym (c .before .before .before .before .before .before .is-called .ensures) ∙ c .before .before .before .before .before .if1 .left) (sym (c .before .before .before .is-called2 .ensures) ∙ c .before .before .if3 .taken) (sym (c .before .has-bounds2 .ensures) ∙ c .if4 .left)
+returns-4 c =
+    let at-has-bounds2 = c .before in
+    let at-if3 = at-has-bounds2 .before in
+    let at-is-called2 = at-if3 .before in
+    let at-if1 = at-is-called2 .before .before in
+    let at-is-called = at-if1 .before in
+    let at-start = at-is-called .before .before .before .before in
+    tells-broken-end (at-start .args .buf .now) (at-start .args .i) (at-start .args .e) (at-start .pre) (sym (at-is-called .is-called .ensures) ∙ at-if1 .if1 .left) (sym (at-is-called2 .is-called2 .ensures) ∙ at-if3 .if3 .taken) (sym (at-has-bounds2 .has-bounds2 .ensures) ∙ c .if4 .left)
 
 returns-5 : tie.Need-returns-5
-returns-5 c = tells-plain (c .before .before .before .before .before .before .before .before .args .buf .now) (c .before .before .before .before .before .before .before .before .args .i) (c .before .before .before .before .before .before .before .before .args .e) (c .before .before .before .before .before .before .before .before .pre) (sym (c .before .before .before .before .is-called .ensures) ∙ c .before .before .before .if1 .left) (sym (c .before .is-called2 .ensures) ∙ c .if3 .left)
+returns-5 c =
+    let at-is-called2 = c .before in
+    let at-if1 = at-is-called2 .before .before in
+    let at-is-called = at-if1 .before in
+    let at-start = at-is-called .before .before .before .before in
+    tells-plain (at-start .args .buf .now) (at-start .args .i) (at-start .args .e) (at-start .pre) (sym (at-is-called .is-called .ensures) ∙ at-if1 .if1 .left) (sym (at-is-called2 .is-called2 .ensures) ∙ c .if3 .left)
 
 pub kind-at-spec : {M : Type 1} → statement M
 kind-at-spec =

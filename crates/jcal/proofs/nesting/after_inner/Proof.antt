@@ -25,7 +25,11 @@ element-write-names : tie.Need-element-write-names
 element-write-names c = search needs
 
 returns : tie.Need-returns
-returns c = inner-opens (c .before .before .before .before .before .before .args .buf .now) (c .before .before .before .before .before .before .args .names .now) (c .before .before .before .before .before .before .pre .1 .1) (c .before .before .before .before .before .before .args .i) (c .before .before .before .before .before .before .args .e) (c .before .before .at .given .0 .0) (told-as (c .before .before .before .before .kind-at .ensures) (c .before .before .at .given .1)) (c .before .before .before .before .before .before .args .around) (c .if1 .taken)
+returns c =
+    let at-at = c .before .before in
+    let at-kind-at = at-at .before .before in
+    let at-start = at-kind-at .before .before in
+    inner-opens (at-start .args .buf .now) (at-start .args .names .now) (at-start .pre .1 .1) (at-start .args .i) (at-start .args .e) (at-at .at .given .0 .0) (told-as (at-kind-at .kind-at .ensures) (at-at .at .given .1)) (at-start .args .around) (c .if1 .taken)
 
 enum-known-at-2 : tie.Need-enum-known-at-2
 enum-known-at-2 c = search needs
@@ -37,22 +41,41 @@ element-copy-out-open : tie.Need-element-copy-out-open
 element-copy-out-open c = omega (arith, most-levels)
 
 sub-is-named : tie.Need-sub-is-named
-sub-is-named c = omega (arith, told-as (c .before .before .before .before .kind-at .ensures) (c .before .before .at2 .given .1) .within)
+sub-is-named c =
+    let at-at2 = c .before .before in
+    let at-kind-at = at-at2 .before .before in
+    omega (arith, told-as (at-kind-at .kind-at .ensures) (at-at2 .at2 .given .1) .within)
 
 part-is-named-start : tie.Need-part-is-named-start
-part-is-named-start c = told-as (c .before .before .before .before .kind-at .ensures) (c .before .before .at2 .given .1) .within
+part-is-named-start c =
+    let at-at2 = c .before .before in
+    let at-kind-at = at-at2 .before .before in
+    told-as (at-kind-at .kind-at .ensures) (at-at2 .at2 .given .1) .within
 
 part-is-named-end : tie.Need-part-is-named-end
-part-is-named-end c = line-high (c .before .before .before .before .before .before .args .buf .now) (c .before .before .before .before .before .before .args .i) (c .before .before .before .before .before .before .args .e) (c .before .before .before .before .before .before .pre .0)
+part-is-named-end c =
+    let at-start = c .before .before .before .before .before .before in
+    line-high (at-start .args .buf .now) (at-start .args .i) (at-start .args .e) (at-start .pre .0)
 
 is-named-requires : tie.Need-is-named-requires
 is-named-requires c κs = search needs
 
 returns-2 : tie.Need-returns-2
-returns-2 c = inner-other (c .before .before .before .before .before .before .before .before .before .args .buf .now) (c .before .before .before .before .before .before .before .before .before .args .names .now) (c .before .before .before .before .before .before .before .before .before .pre .1 .1) (c .before .before .before .before .before .before .before .before .before .args .i) (c .before .before .before .before .before .before .before .before .before .args .e) (c .before .before .before .before .before .at2 .given .0 .0) (c .before .before .before .before .before .before .before .before .before .args .around) (told-as (c .before .before .before .before .before .before .before .kind-at .ensures) (c .before .before .before .before .before .at2 .given .1)) (sym (c .before .is-named .ensures) ∙ not-true _ (c .if2 .taken))
+returns-2 c =
+    let at-is-named = c .before in
+    let at-at2 = at-is-named .before .before .before .before in
+    let at-kind-at = at-at2 .before .before in
+    let at-start = at-kind-at .before .before in
+    inner-other (at-start .args .buf .now) (at-start .args .names .now) (at-start .pre .1 .1) (at-start .args .i) (at-start .args .e) (at-at2 .at2 .given .0 .0) (at-start .args .around) (told-as (at-kind-at .kind-at .ensures) (at-at2 .at2 .given .1)) (sym (at-is-named .is-named .ensures) ∙ not-true _ (c .if2 .taken))
 
 returns-3 : tie.Need-returns-3
-returns-3 c = inner-last (c .before .before .before .before .before .before .before .before .before .before .args .buf .now) (c .before .before .before .before .before .before .before .before .before .before .args .names .now) (c .before .before .before .before .before .before .before .before .before .before .pre .1 .1) (c .before .before .before .before .before .before .before .before .before .before .args .i) (c .before .before .before .before .before .before .before .before .before .before .args .e) (c .before .before .before .before .before .before .at2 .given .0 .0) (c .before .before .before .before .before .before .before .before .before .before .args .around) (told-as (c .before .before .before .before .before .before .before .before .kind-at .ensures) (c .before .before .before .before .before .before .at2 .given .1)) (sym (c .before .before .is-named .ensures) ∙ not-false _ (c .before .if2 .left)) (c .if3 .taken)
+returns-3 c =
+    let at-if2 = c .before in
+    let at-is-named = at-if2 .before in
+    let at-at2 = at-is-named .before .before .before .before in
+    let at-kind-at = at-at2 .before .before in
+    let at-start = at-kind-at .before .before in
+    inner-last (at-start .args .buf .now) (at-start .args .names .now) (at-start .pre .1 .1) (at-start .args .i) (at-start .args .e) (at-at2 .at2 .given .0 .0) (at-start .args .around) (told-as (at-kind-at .kind-at .ensures) (at-at2 .at2 .given .1)) (sym (at-is-named .is-named .ensures) ∙ not-false _ (at-if2 .if2 .left)) (c .if3 .taken)
 
 sub-t20 : tie.Need-sub-t20
 sub-t20 c = search needs
@@ -64,16 +87,32 @@ enum-told-2 : tie.Need-enum-told-2
 enum-told-2 c = search needs
 
 returns-4 : tie.Need-returns-4
-returns-4 c = inner-deep (c .before .before .before .before .before .before .args .buf .now) (c .before .before .before .before .before .before .args .names .now) (c .before .before .before .before .before .before .pre .1 .1) (c .before .before .before .before .before .before .args .i) (c .before .before .before .before .before .before .args .e) (c .before .before .at .given .0 .0) (told-as (c .before .before .before .before .kind-at .ensures) (c .before .before .at .given .1)) (c .before .before .before .before .before .before .args .around) (c .if1 .left)
+returns-4 c =
+    let at-at = c .before .before in
+    let at-kind-at = at-at .before .before in
+    let at-start = at-kind-at .before .before in
+    inner-deep (at-start .args .buf .now) (at-start .args .names .now) (at-start .pre .1 .1) (at-start .args .i) (at-start .args .e) (at-at .at .given .0 .0) (told-as (at-kind-at .kind-at .ensures) (at-at .at .given .1)) (at-start .args .around) (c .if1 .left)
 
 returns-5 : tie.Need-returns-5
-returns-5 c = inner-closes (c .before .before .before .before .before .before .before .before .before .before .args .buf .now) (c .before .before .before .before .before .before .before .before .before .before .args .names .now) (c .before .before .before .before .before .before .before .before .before .before .pre .1 .1) (c .before .before .before .before .before .before .before .before .before .before .args .i) (c .before .before .before .before .before .before .before .before .before .before .args .e) (c .before .before .before .before .before .before .at2 .given .0 .0) (c .before .before .before .before .before .before .before .before .before .before .args .around) (told-as (c .before .before .before .before .before .before .before .before .kind-at .ensures) (c .before .before .before .before .before .before .at2 .given .1)) (sym (c .before .before .is-named .ensures) ∙ not-false _ (c .before .if2 .left)) (c .if3 .left) (c .before .before .before .before .before .before .before .before .before .before .pre .1 .0)
+returns-5 c =
+    let at-if2 = c .before in
+    let at-is-named = at-if2 .before in
+    let at-at2 = at-is-named .before .before .before .before in
+    let at-kind-at = at-at2 .before .before in
+    let at-start = at-kind-at .before .before in
+    inner-closes (at-start .args .buf .now) (at-start .args .names .now) (at-start .pre .1 .1) (at-start .args .i) (at-start .args .e) (at-at2 .at2 .given .0 .0) (at-start .args .around) (told-as (at-kind-at .kind-at .ensures) (at-at2 .at2 .given .1)) (sym (at-is-named .is-named .ensures) ∙ not-false _ (at-if2 .if2 .left)) (c .if3 .left) (at-start .pre .1 .0)
 
 returns-6 : tie.Need-returns-6
-returns-6 c = inner-plain (c .before .before .before .before .args .buf .now) (c .before .before .before .before .args .names .now) (c .before .before .before .before .pre .1 .1) (c .before .before .before .before .args .i) (c .before .before .before .before .args .e) (c .before .before .before .before .args .around) (c .before .before .before .before .pre .1 .0) (told-as (c .before .before .kind-at .ensures) (c .enum-told .given .1))
+returns-6 c =
+    let at-kind-at = c .before .before in
+    let at-start = at-kind-at .before .before in
+    inner-plain (at-start .args .buf .now) (at-start .args .names .now) (at-start .pre .1 .1) (at-start .args .i) (at-start .args .e) (at-start .args .around) (at-start .pre .1 .0) (told-as (at-kind-at .kind-at .ensures) (c .enum-told .given .1))
 
 returns-7 : tie.Need-returns-7
-returns-7 c = inner-broken (c .before .before .before .before .args .buf .now) (c .before .before .before .before .args .names .now) (c .before .before .before .before .pre .1 .1) (c .before .before .before .before .args .i) (c .before .before .before .before .args .e) (c .before .before .before .before .args .around) (told-as (c .before .before .kind-at .ensures) (c .enum-told2 .given .1))
+returns-7 c =
+    let at-kind-at = c .before .before in
+    let at-start = at-kind-at .before .before in
+    inner-broken (at-start .args .buf .now) (at-start .args .names .now) (at-start .pre .1 .1) (at-start .args .i) (at-start .args .e) (at-start .args .around) (told-as (at-kind-at .kind-at .ensures) (c .enum-told2 .given .1))
 
 pub after-inner-spec : {M : Type 1} → statement M
 after-inner-spec =

@@ -15,7 +15,10 @@ enum-known-nesting : tie.Need-enum-known-nesting
 enum-known-nesting c = search needs
 
 after-inner-requires : tie.Need-after-inner-requires
-after-inner-requires c κs = (c .before .before .before .before .before .pre .0, (few-as (c .before .before .before .before .before .pre .1 .0) (c .before .before .nesting .given .1), c .before .before .before .before .before .pre .1 .1))
+after-inner-requires c κs =
+    let at-nesting = c .before .before in
+    let at-start = at-nesting .before .before .before in
+    (at-start .pre .0, (few-as (at-start .pre .1 .0) (at-nesting .nesting .given .1), at-start .pre .1 .1))
 
 enum-told-2 : tie.Need-enum-told-2
 enum-told-2 c = search needs
@@ -29,13 +32,20 @@ returns c = rw (c .before .before .enum-told .given .1) (c .after-first .ensures
 
 returns-2 : tie.Need-returns-2
 unfolding nestOf
-returns-2 c = rw (c .before .before .before .nesting .given .1) (c .after-inner .ensures)
+returns-2 c =
+    let at-nesting = c .before .before .before in
+    rw (at-nesting .nesting .given .1) (c .after-inner .ensures)
 
 returns-3 : tie.Need-returns-3
-returns-3 c = rw (c .enum-told2 .given .1) (complete-on (c .before .before .before .args .buf .now) (c .before .before .before .args .names .now) (c .before .before .before .pre .1 .1) _)
+returns-3 c =
+    let at-start = c .before .before .before in
+    rw (c .enum-told2 .given .1) (complete-on (at-start .args .buf .now) (at-start .args .names .now) (at-start .pre .1 .1) _)
 
 returns-4 : tie.Need-returns-4
-returns-4 c = rw (c .before .nesting2 .given .1) (wrong-on (c .before .before .before .before .args .buf .now) (c .before .before .before .before .args .names .now) (c .before .before .before .before .pre .1 .1) _ _)
+returns-4 c =
+    let at-nesting2 = c .before in
+    let at-start = at-nesting2 .before .before .before in
+    rw (at-nesting2 .nesting2 .given .1) (wrong-on (at-start .args .buf .now) (at-start .args .names .now) (at-start .pre .1 .1) _ _)
 
 pub after-line-spec : {M : Type 1} → statement M
 after-line-spec =

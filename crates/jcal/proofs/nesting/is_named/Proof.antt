@@ -9,7 +9,9 @@ use Rattle.jcal.proofs.nesting.is_named.Statement.{statement}
 use Rattle.jcal.proofs.nesting.is_named.Tie as tie
 
 returns : tie.Need-returns
-returns c = sym (named-none (c .before .before .before .args .buf .now) (c .before .before .before .args .at) (c .before .before .before .args .name .now) (c .if1 .taken) ∙ same-empty (c .before .before .before .args .name .now))
+returns c =
+    let at-start = c .before .before .before in
+    sym (named-none (at-start .args .buf .now) (at-start .args .at) (at-start .args .name .now) (c .if1 .taken) ∙ same-empty (at-start .args .name .now))
 
 line-end-requires : tie.Need-line-end-requires
 line-end-requires c κs = search needs
@@ -21,13 +23,18 @@ part-same-name-start : tie.Need-part-same-name-start
 part-same-name-start c = search needs
 
 part-same-name-end : tie.Need-part-same-name-end
-part-same-name-end c = scan-high isLf (c .before .before .before .before .args .buf .now) (c .before .before .before .before .args .at) _ (c .line-end .ensures) (omega arith)
+part-same-name-end c =
+    let at-start = c .before .before .before .before in
+    scan-high isLf (at-start .args .buf .now) (at-start .args .at) _ (c .line-end .ensures) (omega arith)
 
 same-name-requires : tie.Need-same-name-requires
 same-name-requires c κs = search needs
 
 returns-2 : tie.Need-returns-2
-returns-2 c = c .same-name .ensures ∙ named-part (c .before .before .before .before .before .before .args .buf .now) (c .before .before .before .before .before .before .args .at) (c .before .before .line-end .result) (c .before .before .before .before .before .before .args .name .now) (c .before .before .line-end .ensures)
+returns-2 c =
+    let at-line-end = c .before .before in
+    let at-start = at-line-end .before .before .before .before in
+    c .same-name .ensures ∙ named-part (at-start .args .buf .now) (at-start .args .at) (at-line-end .line-end .result) (at-start .args .name .now) (at-line-end .line-end .ensures)
 
 pub is-named-spec : {M : Type 1} → statement M
 is-named-spec =

@@ -29,22 +29,43 @@ line-end-requires : tie.Need-line-end-requires Inv-loop μ-loop
 line-end-requires c κs = search needs
 
 after-line-requires : tie.Need-after-line-requires Inv-loop μ-loop
-after-line-requires c κs = (record { within = c .before .before .loop-test .taken; ends = c .before .line-end .ensures }, (c .before .before .before .loop .inv .1, c .before .before .before .loop .inv .2))
+after-line-requires c κs =
+    let at-line-end = c .before in
+    let at-loop-test = at-line-end .before in
+    let at-loop = at-loop-test .before in
+    (record { within = at-loop-test .loop-test .taken; ends = at-line-end .line-end .ensures }, (at-loop .loop .inv .1, at-loop .loop .inv .2))
 
 add-i : tie.Need-add-i Inv-loop μ-loop
-add-i c = omega (arith, scan-high isLf (c .before .before .before .before .before .before .args .buf .now) (c .before .before .before .before .loop .i) _ (c .before .before .line-end .ensures) (omega arith))
+add-i c =
+    let at-line-end = c .before .before in
+    let at-loop = at-line-end .before .before in
+    let at-start = at-loop .before .before in
+    omega (arith, scan-high isLf (at-start .args .buf .now) (at-loop .loop .i) _ (at-line-end .line-end .ensures) (omega arith))
 
 loop-less : tie.Need-loop-less Inv-loop μ-loop
-loop-less c = omega (arith, scan-high isLf (c .before .before .before .before .before .before .args .buf .now) (c .before .before .before .before .loop .i) _ (c .before .before .line-end .ensures) (omega arith))
+loop-less c =
+    let at-line-end = c .before .before in
+    let at-loop = at-line-end .before .before in
+    let at-start = at-loop .before .before in
+    omega (arith, scan-high isLf (at-start .args .buf .now) (at-loop .loop .i) _ (at-line-end .line-end .ensures) (omega arith))
 
 loop-again : tie.Need-loop-again Inv-loop μ-loop
-loop-again c = (c .before .before .before .before .loop .inv .0 ∙ nests-on (c .before .before .before .before .before .before .args .buf .now) (c .before .before .before .before .loop .names) _ (c .before .before .before .before .loop .i) (c .before .before .line-end .result) (c .before .before .before .before .loop .nesting) (c .after-line .result) (record { within = c .before .before .before .loop-test .taken; ends = c .before .before .line-end .ensures }) (c .after-line .ensures), c .after-line .ensures .few, c .after-line .ensures .room)
+loop-again c =
+    let at-line-end = c .before .before in
+    let at-loop-test = at-line-end .before in
+    let at-loop = at-loop-test .before in
+    let at-start = at-loop .before .before in
+    (at-loop .loop .inv .0 ∙ nests-on (at-start .args .buf .now) (at-loop .loop .names) _ (at-loop .loop .i) (at-line-end .line-end .result) (at-loop .loop .nesting) (c .after-line .result) (record { within = at-loop-test .loop-test .taken; ends = at-line-end .line-end .ensures }) (c .after-line .ensures), c .after-line .ensures .few, c .after-line .ensures .room)
 
 at-end-requires : tie.Need-at-end-requires Inv-loop μ-loop
 at-end-requires c κs = search needs
 
 returns : tie.Need-returns Inv-loop μ-loop
-returns c = c .at-end .ensures (c .before .before .before .before .args .buf .now) (c .before .before .loop .names) ∙ ap (λ (n : Nest). verdict n tt) (sym (c .before .before .loop .inv .0 ∙ nests-end (c .before .before .before .before .args .buf .now) (c .before .before .loop .names) (c .before .before .loop .i) (c .before .before .loop .nesting) (c .before .loop-test .left)))
+returns c =
+    let at-loop-test = c .before in
+    let at-loop = at-loop-test .before in
+    let at-start = at-loop .before .before in
+    c .at-end .ensures (at-start .args .buf .now) (at-loop .loop .names) ∙ ap (λ (n : Nest). verdict n tt) (sym (at-loop .loop .inv .0 ∙ nests-end (at-start .args .buf .now) (at-loop .loop .names) (at-loop .loop .i) (at-loop .loop .nesting) (at-loop-test .loop-test .left)))
 
 pub test-structure-spec : {M : Type 1} → statement M
 test-structure-spec =

@@ -26,7 +26,9 @@ part-test-property-start : tie.Need-part-test-property-start
 part-test-property-start c = search needs
 
 part-test-property-end : tie.Need-part-test-property-end
-part-test-property-end c = line-high _ _ _ (c .before .before .before .before .before .pre)
+part-test-property-end c =
+    let at-start = c .before .before .before .before .before in
+    line-high _ _ _ (at-start .pre)
 
 test-property-requires : tie.Need-test-property-requires
 test-property-requires c κs = search needs
@@ -43,7 +45,11 @@ unfolding passed
 returns-2 c = closes-tested _ _ _ _ _ (told-as (c .before .before .kind-at .ensures) (c .enum-told2 .given .1))
 
 returns-3 : tie.Need-returns-3
-returns-3 c = rw (line-is (c .before .before .before .before .before .before .before .args .buf .now) (c .before .before .before .before .before .before .before .args .i) (c .before .before .before .before .before .before .before .args .e) (c .before .before .before .before .before .before .before .pre)) at (c .test-property .ensures) ∙ plain-tested _ _ _ _ (told-as (c .before .before .before .before .kind-at .ensures) (c .before .before .enum-told3 .given .1))
+returns-3 c =
+    let at-enum-told3 = c .before .before in
+    let at-kind-at = at-enum-told3 .before .before in
+    let at-start = at-kind-at .before .before .before in
+    rw (line-is (at-start .args .buf .now) (at-start .args .i) (at-start .args .e) (at-start .pre)) at (c .test-property .ensures) ∙ plain-tested _ _ _ _ (told-as (at-kind-at .kind-at .ensures) (at-enum-told3 .enum-told3 .given .1))
 
 returns-4 : tie.Need-returns-4
 unfolding passed

@@ -33,24 +33,48 @@ enum-told : tie.Need-enum-told Inv-loop μ-loop
 enum-told c = search needs
 
 add-i : tie.Need-add-i Inv-loop μ-loop
-add-i c = omega (arith, scan-high isLf (c .before .before .before .before .before .before .before .before .args .buf .now) (c .before .before .before .before .before .loop .i) _ (c .before .before .before .line-end .ensures) (omega arith))
+add-i c =
+    let at-line-end = c .before .before .before in
+    let at-loop = at-line-end .before .before in
+    let at-start = at-loop .before .before .before in
+    omega (arith, scan-high isLf (at-start .args .buf .now) (at-loop .loop .i) _ (at-line-end .line-end .ensures) (omega arith))
 
 loop-less : tie.Need-loop-less Inv-loop μ-loop
-loop-less c = omega (arith, scan-high isLf (c .before .before .before .before .before .before .before .before .args .buf .now) (c .before .before .before .before .before .loop .i) _ (c .before .before .before .line-end .ensures) (omega arith))
+loop-less c =
+    let at-line-end = c .before .before .before in
+    let at-loop = at-line-end .before .before in
+    let at-start = at-loop .before .before .before in
+    omega (arith, scan-high isLf (at-start .args .buf .now) (at-loop .loop .i) _ (at-line-end .line-end .ensures) (omega arith))
 
 loop-again : tie.Need-loop-again Inv-loop μ-loop
-loop-again c = c .before .before .before .before .before .loop .inv ∙ turn-on _ (c .before .before .before .before .before .before .before .before .args .buf .now) (c .before .before .before .before .before .loop .i) (c .before .before .before .line-end .result) (record { within = c .before .before .before .before .loop-test .taken; ends = c .before .before .before .line-end .ensures }) (passed-as (c .before .before .test-line .ensures) (c .enum-told .given .1))
+loop-again c =
+    let at-test-line = c .before .before in
+    let at-line-end = at-test-line .before in
+    let at-loop-test = at-line-end .before in
+    let at-loop = at-loop-test .before in
+    let at-start = at-loop .before .before .before in
+    at-loop .loop .inv ∙ turn-on _ (at-start .args .buf .now) (at-loop .loop .i) (at-line-end .line-end .result) (record { within = at-loop-test .loop-test .taken; ends = at-line-end .line-end .ensures }) (passed-as (at-test-line .test-line .ensures) (c .enum-told .given .1))
 
 enum-known-why : tie.Need-enum-known-why Inv-loop μ-loop
 enum-known-why c = search needs
 
 returns : tie.Need-returns Inv-loop μ-loop
 unfolding passed
-returns c = turn-off _ (c .before .before .before .before .before .before .before .before .before .args .buf .now) (c .before .before .before .before .before .before .loop .i) (c .before .before .before .before .line-end .result) (record { within = c .before .before .before .before .before .loop-test .taken; ends = c .before .before .before .before .line-end .ensures }) _ (failed-as (c .before .before .before .test-line .ensures) (c .before .why .given .1)) ∙ sym (c .before .before .before .before .before .before .loop .inv)
+returns c =
+    let at-why = c .before in
+    let at-test-line = at-why .before .before in
+    let at-line-end = at-test-line .before in
+    let at-loop-test = at-line-end .before in
+    let at-loop = at-loop-test .before in
+    let at-start = at-loop .before .before .before in
+    turn-off _ (at-start .args .buf .now) (at-loop .loop .i) (at-line-end .line-end .result) (record { within = at-loop-test .loop-test .taken; ends = at-line-end .line-end .ensures }) _ (failed-as (at-test-line .test-line .ensures) (at-why .why .given .1)) ∙ sym (at-loop .loop .inv)
 
 returns-2 : tie.Need-returns-2 Inv-loop μ-loop
 unfolding passed
-returns-2 c = turn-none _ (c .before .before .before .before .args .buf .now) (c .before .loop .i) (c .loop-test .left) ∙ sym (c .before .loop .inv)
+returns-2 c =
+    let at-loop = c .before in
+    let at-start = at-loop .before .before .before in
+    turn-none _ (at-start .args .buf .now) (at-loop .loop .i) (c .loop-test .left) ∙ sym (at-loop .loop .inv)
 
 pub test-properties-spec : {M : Type 1} → statement M
 test-properties-spec =

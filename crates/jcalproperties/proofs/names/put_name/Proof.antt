@@ -40,7 +40,13 @@ loop-less : tie.Need-loop-less Inv-loop μ-loop
 loop-less c = search needs
 
 loop-again : tie.Need-loop-again Inv-loop μ-loop
-loop-again c = (omega arith, leads-on (c .before .before .before .before .before .before .before .loop .inv .1) (rw (c .before .before .before .lower-octet .ensures) at (c .before .before .put-escaped .ensures)) (name-on (c .before .before .before .before .before .before .before .before .before .before .before .before .before .before .args .name .now) (c .before .before .before .before .before .before .before .loop .i) (c .before .before .before .before .before .before .loop-test .taken)))
+loop-again c =
+    let at-put-escaped = c .before .before in
+    let at-lower-octet = at-put-escaped .before in
+    let at-loop-test = at-lower-octet .before .before .before in
+    let at-loop = at-loop-test .before in
+    let at-start = at-loop .before .before .before .before .before .before .before in
+    (omega arith, leads-on (at-loop .loop .inv .1) (rw (at-lower-octet .lower-octet .ensures) at (at-put-escaped .put-escaped .ensures)) (name-on (at-start .args .name .now) (at-loop .loop .i) (at-loop-test .loop-test .taken)))
 
 put-requires-2 : tie.Need-put-requires-2 Inv-loop μ-loop
 put-requires-2 c κs = search needs
@@ -50,7 +56,13 @@ same-length c = search needs
 
 returns : tie.Need-returns Inv-loop μ-loop
 unfolding printString
-returns c = then (c .before .before .before .before .before .before .before .before .put .ensures) (leads-last (c .before .before .before .before .before .loop .inv .1) (c .before .before .put2 .ensures) (name-none (c .before .before .before .before .before .before .before .before .before .before .before .before .args .name .now) (c .before .before .before .before .before .loop .i) (c .before .before .before .before .loop-test .left)))
+returns c =
+    let at-put2 = c .before .before in
+    let at-loop-test = at-put2 .before .before in
+    let at-loop = at-loop-test .before in
+    let at-put = at-loop .before .before .before in
+    let at-start = at-put .before .before .before .before in
+    then (at-put .put .ensures) (leads-last (at-loop .loop .inv .1) (at-put2 .put2 .ensures) (name-none (at-start .args .name .now) (at-loop .loop .i) (at-loop-test .loop-test .left)))
 
 pub put-name-spec : {M : Type 1} → statement M
 put-name-spec =

@@ -19,13 +19,22 @@ enum-known-kind : tie.Need-enum-known-kind
 enum-known-kind c = search needs
 
 sub-code-named : tie.Need-sub-code-named
-sub-code-named c = bounded-as (length (c .before .before .before .before .args .params .now)) _ (c .before .before .before .before .pre) (c .before .kind .given .1) .0
+sub-code-named c =
+    let at-kind = c .before in
+    let at-start = at-kind .before .before .before in
+    bounded-as (length (at-start .args .params .now)) _ (at-start .pre) (at-kind .kind .given .1) .0
 
 part-code-named-start : tie.Need-part-code-named-start
-part-code-named-start c = bounded-as (length (c .before .before .before .before .args .params .now)) _ (c .before .before .before .before .pre) (c .before .kind .given .1) .0
+part-code-named-start c =
+    let at-kind = c .before in
+    let at-start = at-kind .before .before .before in
+    bounded-as (length (at-start .args .params .now)) _ (at-start .pre) (at-kind .kind .given .1) .0
 
 part-code-named-end : tie.Need-part-code-named-end
-part-code-named-end c = bounded-as (length (c .before .before .before .before .args .params .now)) _ (c .before .before .before .before .pre) (c .before .kind .given .1) .1
+part-code-named-end c =
+    let at-kind = c .before in
+    let at-start = at-kind .before .before .before in
+    bounded-as (length (at-start .args .params .now)) _ (at-start .pre) (at-kind .kind .given .1) .1
 
 code-named-requires : tie.Need-code-named-requires
 code-named-requires c κs = search needs
@@ -42,7 +51,9 @@ returns c = c .default-code .ensures ∙ rw (c .before .enum-told .given .1)
 
 returns-2 : tie.Need-returns-2
 unfolding kindOf namedType codeOf
-returns-2 c = c .code-named .ensures ∙ rw (c .before .before .before .kind .given .1)
+returns-2 c =
+    let at-kind = c .before .before .before in
+    c .code-named .ensures ∙ rw (at-kind .kind .given .1)
 
 returns-3 : tie.Need-returns-3
 unfolding kindOf namedType

@@ -34,14 +34,22 @@ same-length c = search needs
 
 returns : tie.Need-returns
 unfolding typeOf rowFound
-returns c = rw (c .before .before .before .before .before .before .before .before .before .before .before .before .before .found .given .1) (as-text (then (then (c .before .before .before .before .before .before .before .before .before .before .put .ensures) (c .before .before .before .before .before .before .put-type-name .ensures)) (c .before .before .put2 .ensures)) (type-quoted _))
+returns c =
+    let at-put2 = c .before .before in
+    let at-put-type-name = at-put2 .before .before .before .before in
+    let at-put = at-put-type-name .before .before .before .before in
+    let at-found = at-put .before .before .before in
+    rw (at-found .found .given .1) (as-text (then (then (at-put .put .ensures) (at-put-type-name .put-type-name .ensures)) (at-put2 .put2 .ensures)) (type-quoted _))
 
 same-length-2 : tie.Need-same-length-2
 same-length-2 c = search needs
 
 returns-2 : tie.Need-returns-2
 unfolding typeOf rowFound printString quoted escaped
-returns-2 c = rw (c .before .before .before .before .before .enum-told .given .1) (c .before .before .put-all .ensures)
+returns-2 c =
+    let at-put-all = c .before .before in
+    let at-enum-told = at-put-all .before .before .before in
+    rw (at-enum-told .enum-told .given .1) (at-put-all .put-all .ensures)
 
 pub put-default-spec : {M : Type 1} → statement M
 put-default-spec =

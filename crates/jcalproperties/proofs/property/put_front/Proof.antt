@@ -24,7 +24,13 @@ same-length : tie.Need-same-length
 same-length c = search needs
 
 returns : tie.Need-returns
-returns c = as-text (then (then (then (then (c .before .before .before .before .before .before .before .before .before .before .before .before .before .before .before .before .before .before .put .ensures) (c .before .before .before .before .before .before .before .before .before .before .before .before .before .before .put-name .ensures)) (c .before .before .before .before .before .before .before .before .before .before .put2 .ensures)) (c .before .before .before .before .before .before .put-params .ensures)) (c .before .before .put3 .ensures)) (front-wrote _ _)
+returns c =
+    let at-put3 = c .before .before in
+    let at-put-params = at-put3 .before .before .before .before in
+    let at-put2 = at-put-params .before .before .before .before in
+    let at-put-name = at-put2 .before .before .before .before in
+    let at-put = at-put-name .before .before .before .before in
+    as-text (then (then (then (then (at-put .put .ensures) (at-put-name .put-name .ensures)) (at-put2 .put2 .ensures)) (at-put-params .put-params .ensures)) (at-put3 .put3 .ensures)) (front-wrote _ _)
 
 pub put-front-spec : {M : Type 1} → statement M
 put-front-spec =

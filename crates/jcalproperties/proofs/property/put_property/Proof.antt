@@ -62,7 +62,18 @@ same-length : tie.Need-same-length
 same-length c = search needs
 
 returns : tie.Need-returns
-returns c = rw (← parts-line (c .before .before .before .before .before .before .before .before .before .before .before .before .before .before .before .before .before .before .before .before .before .before .before .before .before .before .before .args .line .now) (c .before .before .before .before .before .before .before .before .before .before .before .before .before .before .before .before .before .before .before .before .before .before .before .parts-of .result) (c .before .before .before .before .before .before .before .before .before .before .before .before .before .before .before .before .before .before .before .before .before .before .before .parts-of .ensures)) (parts-wrote _ _ _ _ _ (c .before .before .before .before .before .before .before .before .before .before .before .before .before .before .before .before .before .before .before .before .find .ensures) _ _ _ (c .before .before .before .before .before .before .before .before .before .before .before .before .before .before .before .before .before .before .before .value-type .ensures .is) (c .before .before .before .before .before .before .before .before .before .before .before .before .before .before .before .before .before .before .code-of .ensures) (c .before .before .before .before .before .before .before .before .before .before .before .before .before .before .before .before .before .sort-of .ensures) (c .before .before .before .before .before .before .before .before .before .before .before .before .before .before .before .put-front .ensures) (c .before .before .before .before .before .before .before .before .before .before .before .put-type .ensures) (c .before .before .before .before .before .before .put-values .ensures) (c .before .before .put .ensures))
+returns c =
+    let at-put = c .before .before in
+    let at-put-values = at-put .before .before .before .before in
+    let at-put-type = at-put-values .before .before .before .before .before in
+    let at-put-front = at-put-type .before .before .before .before in
+    let at-sort-of = at-put-front .before .before in
+    let at-code-of = at-sort-of .before in
+    let at-value-type = at-code-of .before in
+    let at-find = at-value-type .before in
+    let at-parts-of = at-find .before .before .before in
+    let at-start = at-parts-of .before .before .before .before in
+    rw (← parts-line (at-start .args .line .now) (at-parts-of .parts-of .result) (at-parts-of .parts-of .ensures)) (parts-wrote _ _ _ _ _ (at-find .find .ensures) _ _ _ (at-value-type .value-type .ensures .is) (at-code-of .code-of .ensures) (at-sort-of .sort-of .ensures) (at-put-front .put-front .ensures) (at-put-type .put-type .ensures) (at-put-values .put-values .ensures) (at-put .put .ensures))
 
 pub put-property-spec : {M : Type 1} → statement M
 put-property-spec =

@@ -18,13 +18,22 @@ enum-known-kind : tie.Need-enum-known-kind
 enum-known-kind c = search needs
 
 sub-put-name : tie.Need-sub-put-name
-sub-put-name c = bounded-as (length (c .before .before .before .before .before .before .args .params .now)) _ (c .before .before .before .before .before .before .pre) (c .before .before .kind .given .1) .0
+sub-put-name c =
+    let at-kind = c .before .before in
+    let at-start = at-kind .before .before .before .before in
+    bounded-as (length (at-start .args .params .now)) _ (at-start .pre) (at-kind .kind .given .1) .0
 
 part-put-name-start : tie.Need-part-put-name-start
-part-put-name-start c = bounded-as (length (c .before .before .before .before .before .before .args .params .now)) _ (c .before .before .before .before .before .before .pre) (c .before .before .kind .given .1) .0
+part-put-name-start c =
+    let at-kind = c .before .before in
+    let at-start = at-kind .before .before .before .before in
+    bounded-as (length (at-start .args .params .now)) _ (at-start .pre) (at-kind .kind .given .1) .0
 
 part-put-name-end : tie.Need-part-put-name-end
-part-put-name-end c = bounded-as (length (c .before .before .before .before .before .before .args .params .now)) _ (c .before .before .before .before .before .before .pre) (c .before .before .kind .given .1) .1
+part-put-name-end c =
+    let at-kind = c .before .before in
+    let at-start = at-kind .before .before .before .before in
+    bounded-as (length (at-start .args .params .now)) _ (at-start .pre) (at-kind .kind .given .1) .1
 
 put-name-requires : tie.Need-put-name-requires
 put-name-requires c κs = search needs
@@ -40,21 +49,30 @@ same-length c = search needs
 
 returns : tie.Need-returns
 unfolding kindOf namedType
-returns c = rw (c .before .before .before .before .enum-told .given .1) (c .before .before .put-default .ensures)
+returns c =
+    let at-put-default = c .before .before in
+    let at-enum-told = at-put-default .before .before in
+    rw (at-enum-told .enum-told .given .1) (at-put-default .put-default .ensures)
 
 same-length-2 : tie.Need-same-length-2
 same-length-2 c = search needs
 
 returns-2 : tie.Need-returns-2
 unfolding kindOf namedType typeOf
-returns-2 c = rw (c .before .before .before .before .before .before .kind .given .1) (c .before .before .put-name .ensures)
+returns-2 c =
+    let at-put-name = c .before .before in
+    let at-kind = at-put-name .before .before .before .before in
+    rw (at-kind .kind .given .1) (at-put-name .put-name .ensures)
 
 same-length-3 : tie.Need-same-length-3
 same-length-3 c = search needs
 
 returns-3 : tie.Need-returns-3
 unfolding kindOf namedType
-returns-3 c = rw (c .before .before .before .before .enum-told2 .given .1) (c .before .before .put-default2 .ensures)
+returns-3 c =
+    let at-put-default2 = c .before .before in
+    let at-enum-told2 = at-put-default2 .before .before in
+    rw (at-enum-told2 .enum-told2 .given .1) (at-put-default2 .put-default2 .ensures)
 
 pub put-type-spec : {M : Type 1} → statement M
 put-type-spec =

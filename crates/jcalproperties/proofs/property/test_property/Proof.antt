@@ -1,8 +1,8 @@
 -- `jcalproperties::property::test_property` meets its contract.
-use mathlib.Core.Path.{sym, _∙_}
+use mathlib.Core.Path.{_∙_}
+use Rattle.jcalproperties.proofs.Typing.{parts-line, both-tested, tested-property}
+-- `jcalproperties::property::test_property` meets its contract.
 use borrow.Author.Needs.{needs}
-use Rattle.jcalproperties.specs.Passed.{passed}
-use Rattle.jcalproperties.proofs.Typing.{parts-line, known-absent, known-named, known-faulty, tested-twice, tested-faulty, tested-named}
 use Rattle.jcalproperties.proofs.property.test_property.Statement.{statement}
 use Rattle.jcalproperties.proofs.property.test_property.Tie as tie
 
@@ -18,18 +18,11 @@ part-params-start c = search needs
 part-params-end : tie.Need-part-params-end
 part-params-end c = search needs
 
-name-twice-requires : tie.Need-name-twice-requires
-name-twice-requires c κs = search needs
-
-returns : tie.Need-returns
-unfolding passed
-returns c = rw (← parts-line (c .before .before .before .before .before .before .args .line .now) (c .before .before .before .parts-of .result) (c .before .before .before .parts-of .ensures)) (tested-twice _ _ (sym (c .before .name-twice .ensures) ∙ c .if1 .taken))
-
 value-type-requires : tie.Need-value-type-requires
 value-type-requires c κs = search needs
 
-enum-told : tie.Need-enum-told
-enum-told c = search needs
+test-params-requires : tie.Need-test-params-requires
+test-params-requires c κs = search needs
 
 sub-test-value : tie.Need-sub-test-value
 sub-test-value c = search needs
@@ -52,42 +45,17 @@ part-test-value-end-2 c = search needs
 test-value-requires : tie.Need-test-value-requires
 test-value-requires c κs = search needs
 
-enum-told-2 : tie.Need-enum-told-2
-enum-told-2 c = search needs
+earlier-requires : tie.Need-earlier-requires
+earlier-requires c κs = search needs
 
-sub-test-value-3 : tie.Need-sub-test-value-3
-sub-test-value-3 c = search needs
-
-part-test-value-start-3 : tie.Need-part-test-value-start-3
-part-test-value-start-3 c = search needs
-
-part-test-value-end-3 : tie.Need-part-test-value-end-3
-part-test-value-end-3 c = search needs
-
-sub-test-value-4 : tie.Need-sub-test-value-4
-sub-test-value-4 c = search needs
-
-part-test-value-start-4 : tie.Need-part-test-value-start-4
-part-test-value-start-4 c = search needs
-
-part-test-value-end-4 : tie.Need-part-test-value-end-4
-part-test-value-end-4 c = search needs
-
-test-value-requires-2 : tie.Need-test-value-requires-2
-test-value-requires-2 c κs = search needs
-
-enum-told-3 : tie.Need-enum-told-3
-enum-told-3 c = search needs
-
-returns-2 : tie.Need-returns-2
-returns-2 c = rw (← parts-line (c .before .before .before .before .before .before .before .before .before .before .before .before .args .line .now) (c .before .before .before .before .before .before .before .before .before .parts-of .result) (c .before .before .before .before .before .before .before .before .before .parts-of .ensures)) (c .test-value .ensures ∙ tested-named _ _ _ (sym (c .before .before .before .before .before .before .before .name-twice .ensures) ∙ c .before .before .before .before .before .before .if1 .left) (sym (c .before .before .before .before .before .value-type .ensures .is) ∙ known-absent _ _ (c .before .before .before .enum-told .given .1)))
-
-returns-3 : tie.Need-returns-3
-returns-3 c = rw (← parts-line (c .before .before .before .before .before .before .before .before .before .before .before .before .args .line .now) (c .before .before .before .before .before .before .before .before .before .parts-of .result) (c .before .before .before .before .before .before .before .before .before .parts-of .ensures)) (c .test-value2 .ensures ∙ tested-named _ _ _ (sym (c .before .before .before .before .before .before .before .name-twice .ensures) ∙ c .before .before .before .before .before .before .if1 .left) (sym (c .before .before .before .before .before .value-type .ensures .is) ∙ known-named _ _ _ _ (c .before .before .before .enum-told2 .given .1)))
-
-returns-4 : tie.Need-returns-4
-unfolding passed
-returns-4 c = rw (← parts-line (c .before .before .before .before .before .before .before .before .before .args .line .now) (c .before .before .before .before .before .before .parts-of .result) (c .before .before .before .before .before .before .parts-of .ensures)) (tested-faulty _ _ (sym (c .before .before .before .before .name-twice .ensures) ∙ c .before .before .before .if1 .left) (sym (c .before .before .value-type .ensures .is) ∙ known-faulty _ _ (c .enum-told3 .given .1)))
+returns : tie.Need-returns
+returns c =
+    let at-test-value = c .before in
+    let at-test-params = at-test-value .before .before .before in
+    let at-value-type = at-test-params .before in
+    let at-parts-of = at-value-type .before .before in
+    let at-start = at-parts-of .before .before .before in
+    rw (← parts-line (at-start .args .line .now) (at-parts-of .parts-of .result) (at-parts-of .parts-of .ensures)) (c .earlier .ensures ∙ both-tested (at-test-params .test-params .ensures) (at-test-value .test-value .ensures) ∙ tested-property _ _ _ (at-value-type .value-type .ensures .is))
 
 pub test-property-spec : {M : Type 1} → statement M
 test-property-spec =
@@ -97,10 +65,8 @@ test-property-spec =
     sub-params
     part-params-start
     part-params-end
-    name-twice-requires
-    returns
     value-type-requires
-    enum-told
+    test-params-requires
     sub-test-value
     part-test-value-start
     part-test-value-end
@@ -108,15 +74,5 @@ test-property-spec =
     part-test-value-start-2
     part-test-value-end-2
     test-value-requires
-    enum-told-2
-    sub-test-value-3
-    part-test-value-start-3
-    part-test-value-end-3
-    sub-test-value-4
-    part-test-value-start-4
-    part-test-value-end-4
-    test-value-requires-2
-    enum-told-3
-    returns-2
-    returns-3
-    returns-4)
+    earlier-requires
+    returns)

@@ -19,7 +19,12 @@ encoding-fits-requires c κs = search needs
 
 returns : tie.Need-returns
 unfolding passed
-returns c = tested-encoding _ _ _ _ _ (c .before .before .before .before .find .ensures) _ _ (c .before .before .before .code-of .ensures) _ _ (c .before .before .is-encoded .ensures) (c .before .encoding-fits .ensures) (c .if1 .taken)
+returns c =
+    let at-encoding-fits = c .before in
+    let at-is-encoded = at-encoding-fits .before in
+    let at-code-of = at-is-encoded .before in
+    let at-find = at-code-of .before in
+    tested-encoding _ _ _ _ _ (at-find .find .ensures) _ _ (at-code-of .code-of .ensures) _ _ (at-is-encoded .is-encoded .ensures) (at-encoding-fits .encoding-fits .ensures) (c .if1 .taken)
 
 sort-of-requires : tie.Need-sort-of-requires
 sort-of-requires c κs = search needs
@@ -32,11 +37,29 @@ holds-values-requires c κs = search needs
 
 returns-2 : tie.Need-returns-2
 unfolding passed
-returns-2 c = tested-wrong _ _ _ _ _ (c .before .before .before .before .before .before .before .before .find .ensures) _ _ (c .before .before .before .before .before .before .before .code-of .ensures) _ _ (c .before .before .before .before .before .before .is-encoded .ensures) (c .before .before .before .before .before .encoding-fits .ensures) (c .before .before .before .before .if1 .left) _ _ _ (c .before .before .before .sort-of .ensures) (c .before .before .is-many .ensures) (c .before .holds-values .ensures) (c .if2 .taken)
+returns-2 c =
+    let at-holds-values = c .before in
+    let at-is-many = at-holds-values .before in
+    let at-sort-of = at-is-many .before in
+    let at-if1 = at-sort-of .before in
+    let at-encoding-fits = at-if1 .before in
+    let at-is-encoded = at-encoding-fits .before in
+    let at-code-of = at-is-encoded .before in
+    let at-find = at-code-of .before in
+    tested-wrong _ _ _ _ _ (at-find .find .ensures) _ _ (at-code-of .code-of .ensures) _ _ (at-is-encoded .is-encoded .ensures) (at-encoding-fits .encoding-fits .ensures) (at-if1 .if1 .left) _ _ _ (at-sort-of .sort-of .ensures) (at-is-many .is-many .ensures) (at-holds-values .holds-values .ensures) (c .if2 .taken)
 
 returns-3 : tie.Need-returns-3
 unfolding passed
-returns-3 c = tested-right _ _ _ _ _ (c .before .before .before .before .before .before .before .before .find .ensures) _ _ (c .before .before .before .before .before .before .before .code-of .ensures) _ _ (c .before .before .before .before .before .before .is-encoded .ensures) (c .before .before .before .before .before .encoding-fits .ensures) (c .before .before .before .before .if1 .left) _ _ _ (c .before .before .before .sort-of .ensures) (c .before .before .is-many .ensures) (c .before .holds-values .ensures) (c .if2 .left)
+returns-3 c =
+    let at-holds-values = c .before in
+    let at-is-many = at-holds-values .before in
+    let at-sort-of = at-is-many .before in
+    let at-if1 = at-sort-of .before in
+    let at-encoding-fits = at-if1 .before in
+    let at-is-encoded = at-encoding-fits .before in
+    let at-code-of = at-is-encoded .before in
+    let at-find = at-code-of .before in
+    tested-right _ _ _ _ _ (at-find .find .ensures) _ _ (at-code-of .code-of .ensures) _ _ (at-is-encoded .is-encoded .ensures) (at-encoding-fits .encoding-fits .ensures) (at-if1 .if1 .left) _ _ _ (at-sort-of .sort-of .ensures) (at-is-many .is-many .ensures) (at-holds-values .holds-values .ensures) (c .if2 .left)
 
 pub test-value-spec : {M : Type 1} → statement M
 test-value-spec =
