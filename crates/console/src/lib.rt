@@ -11,7 +11,7 @@ pub fn load(path: &[u8], buf: &mut [u8]) -> usize
 {
     let fd = os::open_read(path);
     if fd < 0 {
-        return 1;
+        return 0;
     }
     let n = io::read_full(fd, buf);
     libc::close(fd);
@@ -19,7 +19,7 @@ pub fn load(path: &[u8], buf: &mut [u8]) -> usize
 }
 
 fn print_text(out: &[u8], n: usize) -> u8
-    ensures { λ r. ⌜ r ≡ 1 ⌝ }
+    ensures { λ r. ⌜ r ≡ 0 ⌝ }
 {
     if n <= out.len() {
         io::write_all(1, &out[0..n]);
