@@ -1,0 +1,35 @@
+// Runs the four routes of a property that only the newer table lists: to jCal under the older or the newer, back under either. Prints the jCal and
+// the iCalendar of each.
+use octets::Converted;
+
+const TEXT: &[u8] = b"BEGIN:VCALENDAR\r\nX-TROUGH:20240229T060000Z\r\nEND:VCALENDAR\r\n";
+
+// X-TROUGH is a date-time, one value.
+const NEWER: &[u8] = b"0501582D54524F554748\n";
+
+const OLDER: &[u8] = b"";
+
+fn come_back(text: &[u8], back: &[u8]) {
+    let mut out = [0u8; 1024];
+    let r = ical::to_ical(text, back, &mut out);
+    console::print_answer(&out, r);
+}
+
+fn route(there: &[u8], back: &[u8]) {
+    let mut out = [0u8; 1024];
+    let r = jcal::to_jcal(TEXT, there, &mut out);
+    console::print_answer(&out, r);
+    io::write_all(1, b"\n");
+    if let Converted::Written(n) = r {
+        if n <= 1024 {
+            come_back(&out[0..n], back);
+        }
+    }
+}
+
+fn main() {
+    route(OLDER, OLDER);
+    route(OLDER, NEWER);
+    route(NEWER, OLDER);
+    route(NEWER, NEWER);
+}
