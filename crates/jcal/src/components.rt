@@ -6,20 +6,27 @@ ghost use Prim.Native.Nat.{_+_, _≤_};
 ghost use lib.ListN.{drop};
 ghost use Rattle.octets.specs.Basics.{octets, all};
 ghost use Rattle.octets.specs.Pen.{pen, Wrote};
+ghost use Rattle.octets.specs.Answers.{outcome, answer};
 ghost use Rattle.json.specs.Print.{print};
 ghost use Rattle.types.specs.Laid.{tableIn};
 ghost use Rattle.content.specs.Line.{lineOf};
 ghost use Rattle.converter.specs.Tree.{levels};
+ghost use Rattle.converter.specs.Structure.{fresh, closed, nestAfter};
+ghost use Rattle.converter.specs.Growth.{eachProperty};
 ghost use Rattle.converter.specs.Property.{readProperty};
 ghost use Rattle.converter.specs.Jcal.{propertyJson, jcalOf};
-ghost use Rattle.jcal.specs.Events.{eventsIn, nameFrom};
+ghost use Rattle.jcal.specs.Events.{eventsIn, LineAt, nameFrom, Outermost};
 ghost use Rattle.jcal.specs.Walk.{isAccepted, propertyOr, reads, comma, propertiesText, behindEnd, componentAt, headText};
+ghost use Rattle.jcal.specs.Stages.{propertiesJcal};
 ghost use Rattle.jcal.specs.Walked.{Named, Walked};
 use crate::events::Kind;
 use crate::events::kind_at;
 use content::line_end;
 use jcalproperties::put_name;
 use jcalproperties::put_property;
+use octets::Converted;
+use octets::MOST_LEVELS;
+use octets::finish;
 use octets::put;
 use octets::put_all;
 
@@ -110,7 +117,7 @@ fn put_head(buf: &[u8], rows: &[u8], name: usize, e: usize, out: &mut [u8], at: 
 }
 
 // Writes the component whose name stands from `name` to `e`, and its sub-components by the same rule; at most `left` levels are left.
-pub(crate) fn put_component(
+fn put_component(
     buf: &[u8],
     rows: &[u8],
     name: usize,
@@ -159,4 +166,31 @@ pub(crate) fn put_component(
         next: next,
         at: end,
     }
+}
+
+// The place of the outermost component's name in the first line, which ends at e.
+fn outermost_name(lines: &[u8], e: usize) -> usize
+    requires { ⌜ LineAt (now lines) 0 e ⌝ }
+    requires { ⌜ nestAfter fresh (eventsIn (now lines)) ≡ closed ⌝ }
+    ensures { λ r. ⌜ Outermost (now (lines .entry)) e r ⌝ }
+{
+    match kind_at(lines, 0, e) {
+        Kind::Opens(name) => name,
+        Kind::Closes(_) => 0,
+        Kind::Plain => 0,
+        Kind::Broken => 0,
+    }
+}
+
+// Writes the calendar of lines that pass every test.
+pub(crate) fn write_calendar(lines: &[u8], rows: &[u8], out: &mut [u8]) -> Converted
+    requires { ⌜ nestAfter fresh (eventsIn (now lines)) ≡ closed ⌝ }
+    requires { ⌜ isAccepted (eachProperty (readProperty (tableIn (now rows))) (eventsIn (now lines))) ≡ true ⌝ }
+    ensures { λ r. ⌜ outcome r (now (out .exit)) ≡ answer (propertiesJcal (readProperty (tableIn (now (rows .entry)))) (eventsIn (now (lines .entry)))) (now (out .entry)) ⌝ }
+{
+    let e = line_end(lines, 0);
+    let name = outermost_name(lines, e);
+    let p = put_component(lines, rows, name, e, MOST_LEVELS, out, 0);
+    let at = p.at;
+    finish(out, at)
 }

@@ -1,6 +1,5 @@
 // The conversion to jCal: the tests in the order of their numbers, each over the whole text before the next.
 ghost use mathlib.Core.Path.{_≡_};
-ghost use mathlib.Core.Bool.{true};
 ghost use Prim.Native.Nat.{_≤_, _<_};
 ghost use lib.ListN.{length};
 ghost use Rattle.octets.specs.Limits.{mostText};
@@ -8,55 +7,21 @@ ghost use Rattle.octets.specs.Answers.{outcome, answer};
 ghost use Rattle.types.specs.Laid.{tableIn, roomForRows};
 ghost use Rattle.content.specs.Lines.{linesOf};
 ghost use Rattle.converter.specs.Structure.{fresh, closed, nestAfter};
-ghost use Rattle.converter.specs.Growth.{eachProperty};
 ghost use Rattle.converter.specs.Property.{readProperty};
 ghost use Rattle.converter.specs.ToJcal.{toJcal};
-ghost use Rattle.jcal.specs.Events.{eventsIn, LineAt, Outermost};
-ghost use Rattle.jcal.specs.Walk.{isAccepted};
+ghost use Rattle.jcal.specs.Events.{eventsIn};
 ghost use Rattle.jcal.specs.Stages.{propertiesJcal, eventsJcal, linesJcal};
-use crate::components::put_component;
-use crate::events::Kind;
-use crate::events::kind_at;
+use crate::components::write_calendar;
 use crate::nesting::test_structure;
 use crate::testing::test_properties;
 use content::Lines;
-use content::line_end;
 use content::read_lines;
 use jcalproperties::Tested;
 use octets::Converted;
-use octets::MOST_LEVELS;
 use octets::MOST_TEXT;
 use octets::Refusal;
-use octets::finish;
 use octets::refuse;
 use types::read_rows;
-
-// The place of the outermost component's name in the first line, which ends at e.
-fn outermost_name(lines: &[u8], e: usize) -> usize
-    requires { ⌜ LineAt (now lines) 0 e ⌝ }
-    requires { ⌜ nestAfter fresh (eventsIn (now lines)) ≡ closed ⌝ }
-    ensures { λ r. ⌜ Outermost (now (lines .entry)) e r ⌝ }
-{
-    match kind_at(lines, 0, e) {
-        Kind::Opens(name) => name,
-        Kind::Closes(_) => 0,
-        Kind::Plain => 0,
-        Kind::Broken => 0,
-    }
-}
-
-// Writes the calendar of lines that pass every test.
-fn write_calendar(lines: &[u8], rows: &[u8], out: &mut [u8]) -> Converted
-    requires { ⌜ nestAfter fresh (eventsIn (now lines)) ≡ closed ⌝ }
-    requires { ⌜ isAccepted (eachProperty (readProperty (tableIn (now rows))) (eventsIn (now lines))) ≡ true ⌝ }
-    ensures { λ r. ⌜ outcome r (now (out .exit)) ≡ answer (propertiesJcal (readProperty (tableIn (now (rows .entry)))) (eventsIn (now (lines .entry)))) (now (out .entry)) ⌝ }
-{
-    let e = line_end(lines, 0);
-    let name = outermost_name(lines, e);
-    let p = put_component(lines, rows, name, e, MOST_LEVELS, out, 0);
-    let at = p.at;
-    finish(out, at)
-}
 
 // Converts lines that pair: tests 7, 8 and 9.
 fn convert_paired(lines: &[u8], rows: &[u8], out: &mut [u8]) -> Converted

@@ -1,4 +1,4 @@
--- `jcal::conversion::write_calendar` meets its contract.
+-- `jcal::components::write_calendar` meets its contract.
 use Prim.Native.Nat.{ℕ}
 use mathlib.Core.List.{List}
 use mathlib.Core.Path.{ap, _∙_}
@@ -11,10 +11,10 @@ use Rattle.converter.specs.Property.{readProperty}
 use Rattle.jcal.specs.Events.{LineAt}
 use Rattle.jcal.proofs.Stages.{some-line, calendar-few, calendar-accepts, calendar-text}
 use Rattle.jcal.proofs.Subcomponents.{named}
--- `jcal::conversion::write_calendar` meets its contract.
+-- `jcal::components::write_calendar` meets its contract.
 use borrow.Author.Needs.{needs}
-use Rattle.jcal.proofs.conversion.write_calendar.Statement.{statement}
-use Rattle.jcal.proofs.conversion.write_calendar.Tie as tie
+use Rattle.jcal.proofs.components.write_calendar.Statement.{statement}
+use Rattle.jcal.proofs.components.write_calendar.Tie as tie
 
 line-end-requires : tie.Need-line-end-requires
 line-end-requires c κs = search needs

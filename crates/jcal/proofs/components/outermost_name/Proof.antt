@@ -1,10 +1,10 @@
--- `jcal::conversion::outermost_name` meets its contract.
+-- `jcal::components::outermost_name` meets its contract.
 use Rattle.jcal.proofs.Stages.{closes-first, plain-first, broken-first}
 use Rattle.jcal.proofs.Telling.{told-as}
--- `jcal::conversion::outermost_name` meets its contract.
+-- `jcal::components::outermost_name` meets its contract.
 use borrow.Author.Needs.{needs}
-use Rattle.jcal.proofs.conversion.outermost_name.Statement.{statement}
-use Rattle.jcal.proofs.conversion.outermost_name.Tie as tie
+use Rattle.jcal.proofs.components.outermost_name.Statement.{statement}
+use Rattle.jcal.proofs.components.outermost_name.Tie as tie
 
 kind-at-requires : tie.Need-kind-at-requires
 kind-at-requires c κs = c .before .pre .0
