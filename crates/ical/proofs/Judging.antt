@@ -48,7 +48,7 @@ use Rattle.ical.specs.declared.Tested.the-variants.{Passed, Refused}
 use Rattle.ical.proofs.Arrays.{list-array, property-array}
 
 -- a string's test is passed by its octets
-holds-octets : (p : List ℕ → Bool) (j : Json) → holds p (string? j) ≡ true → p (octetsOf j) ≡ true
+pub holds-octets : (p : List ℕ → Bool) (j : Json) → holds p (string? j) ≡ true → p (octetsOf j) ≡ true
 unfolding holds string? number? octetsOf given
 holds-octets p null h = never h refl
 holds-octets p falsity h = never h refl

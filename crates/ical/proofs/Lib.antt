@@ -4,3 +4,4 @@ pub mod Composed
 pub mod Lined
 pub mod Told
 pub mod OnTape
+pub mod Apart
