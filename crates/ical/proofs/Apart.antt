@@ -2,18 +2,16 @@
 -- JSON string begins a line of its own. The values of a property are asked for as lines without LF; those of unprocessed sorts have none.
 use Prim.Native.Nat.{ℕ}
 use Prim.Native.Char.{code}
-use mathlib.Core.Path.{_≡_, refl, sym, ap, _∙_}
+use mathlib.Core.Path.{_≡_, refl}
 use mathlib.Core.Bool.{Bool, true, false, not}
 use mathlib.Core.List.{List, [], _∷_, _++_, map}
-use mathlib.Core.Option.{Option, none, some}
+use mathlib.Core.Option.{Option}
 use lib.Dec.{eqb}
-use lib.ListN.{getD}
-use Rattle.octets.specs.Basics.{octets, pick, _and_, _or_, all, any, single, same}
+use Rattle.octets.specs.Basics.{octets, _and_, _or_, all, any, single}
 use Rattle.octets.specs.Optional.{holds}
 use Rattle.octets.specs.Classes.{isControl, plainOctet, textOctet, isName, upper}
 use Rattle.octets.specs.Pieces.{joined}
 use Rattle.octets.proofs.Cases.{All, All-append, All-weaker, all-All, both, apart}
-use Rattle.octets.proofs.Classes.{name-upper}
 use Rattle.octets.proofs.Pieces.{Free}
 use Rattle.calendar.proofs.Walk.{All-joined}
 use Rattle.types.specs.Table.{Table, Row, find}
