@@ -1,41 +1,40 @@
 -- Properties tested for 7, 8 and 9 by what their ruling says.
-use Prim.Native.Nat.{ℕ, _+_, _-_, _≤_}
+use Prim.Native.Nat.{ℕ, _≤_}
 use mathlib.Core.Path.{_≡_, refl, sym, ap, _∙_}
 use mathlib.Core.Bool.{Bool, true, false, not}
 use mathlib.Core.List.{List, [], _∷_, _++_, map}
-use mathlib.Core.Logic.{inl, inr}
+use mathlib.Core.Logic.{inl}
 use mathlib.Core.Option.{Option, none, some}
 use native.Mathlib.Omega.{arith}
-use lib.ListN.{length, take, drop}
+use lib.ListN.{length}
 use borrow.Author.Tests.{eq-eqb}
-use lib.Dec.{eqb, leb}
+use lib.Dec.{leb}
 use Rattle.octets.specs.Basics.{octets, pick, _and_, _or_, all, same, single, filled}
 use Rattle.octets.specs.Optional.{isSome, holds, given, map?, guard}
 use Rattle.octets.specs.Classes.{lowerNameOctet, isLowerName, lower, isName}
 use Rattle.octets.specs.Answers.{Answer, refused, accepted, then, orElse, unless, number}
 use Rattle.octets.specs.declared.Refusal.{Refusal}
 use Rattle.octets.proofs.Answers.{not-accepted}
-use Rattle.octets.proofs.Cases.{cases, same?, never, both}
+use Rattle.octets.proofs.Cases.{same?, never, both}
 use Rattle.octets.proofs.Classes.{lower-name, lower-name-stays}
 use Rattle.types.specs.Table.{Row, Table, find}
-use Rattle.types.specs.Codes.{codeNamed}
 use Rattle.json.specs.Tree.{Json, null, falsity, truth, num, str, arr, obj, string?, number?, array?, object?, listOf, octetsOf, elements, element}
-use Rattle.json.specs.Tape.{tagArray, tagEnd}
+use Rattle.json.specs.Tape.{tagEnd}
 use Rattle.tape.specs.Decode.{others, tagAt, valueAt, itemsAt, listAt}
 use Rattle.tape.specs.Promise.{After, Next, Left, TextAt}
 use Rattle.tape.specs.declared.Text.{Text}
 use Rattle.tape.proofs.Values.{list-end, list-first, list-next, no-text}
-use Rattle.tape.proofs.Walks.{Along, along-left, elements-inside, next-group}
+use Rattle.tape.proofs.Walks.{Along, elements-inside, next-group}
 use Rattle.content.specs.Parameters.{isEncoded, mayReturn}
-use Rattle.values.specs.Sorts.{plain, sortOf}
+use Rattle.values.specs.Sorts.{sortOf}
 use Rattle.values.specs.Coded.{sortSaid}
 use Rattle.values.specs.declared.sorts.Sort.{Sort as SortCode}
 use Rattle.icalrecur.specs.Room.{hasRoom}
 use Rattle.icalrecur.proofs.Room.{room}
 use Rattle.values.specs.Read.{readValues, valuesOf}
 use Rattle.values.specs.Write.{valuesAre}
-use Rattle.converter.specs.Tree.{Property, property}
-use Rattle.converter.specs.Property.{typeOf, codeOf, manyOf, encodingFits, readAs}
+use Rattle.converter.specs.Tree.{Property}
+use Rattle.converter.specs.Property.{codeOf, manyOf, encodingFits, readAs}
 use Rattle.converter.specs.Skeleton.{areParameters, isPropertyName, isListOf, isProperty, propertyFrom}
 use Rattle.converter.specs.Return.{isUnknown, statedType, writtenSort, firstOctets, takenBy, checked}
 use Rattle.converter.specs.ToIcal.{checkedAll}

@@ -1,6 +1,5 @@
 -- The lines of properties and components, from the pieces in which they are written.
-use Prim.Native.Nat.{ℕ, zero, suc, _+_, _-_, _≤_}
-use Prim.Native.Char.{code}
+use Prim.Native.Nat.{ℕ, _-_, _≤_}
 use mathlib.Core.Path.{_≡_, refl, sym, ap, _∙_}
 use mathlib.Core.Bool.{Bool, true, false}
 use mathlib.Core.List.{List, [], _∷_, _++_, map, append-nil, append-assoc}
@@ -9,10 +8,9 @@ use lib.ListN.{length, take, drop}
 use Rattle.octets.specs.Basics.{octets, pick, _and_, _or_}
 use Rattle.octets.specs.Classes.{isName, upper}
 use Rattle.octets.specs.Optional.{isSome}
-use Rattle.octets.specs.Pen.{Pen, pen, Wrote}
+use Rattle.octets.specs.Pen.{Pen, Wrote}
 use Rattle.octets.proofs.Classes.{name-upper}
 use Rattle.types.specs.Table.{Table, Row, find}
-use Rattle.types.specs.Codes.{codeNamed}
 use Rattle.json.specs.Tree.{Json, octetsOf, elements, element}
 use Rattle.json.specs.Tape.{tagEnd}
 use Rattle.tape.specs.Decode.{tagAt, valueAt, listAt}
@@ -21,16 +19,15 @@ use Rattle.tape.specs.declared.Text.{Text}
 use Rattle.tape.proofs.Walks.{elements-inside}
 use Rattle.tape.proofs.Values.{list-end, list-next}
 use Rattle.content.specs.Line.{Param}
-use Rattle.content.specs.Write.{paramValueText, paramText, paramsText, lineText}
+use Rattle.content.specs.Write.{paramsText, lineText}
 use Rattle.content.specs.Fold.{textOf}
 use Rattle.content.proofs.ParamText.{moreValues, param-text, name-text}
 use Rattle.content.proofs.Folding.{text-append}
-use Rattle.values.specs.Sorts.{sortOf}
 use Rattle.values.specs.Coded.{sortSaid}
 use Rattle.values.specs.Write.{valuesText}
 use Rattle.icalrecur.specs.Room.{hasRoom}
 use Rattle.icalrecur.proofs.Room.{room}
-use Rattle.converter.specs.Tree.{Property, Component, component, Forest, forestOf}
+use Rattle.converter.specs.Tree.{Property, Component, Forest, forestOf}
 use Rattle.converter.specs.Skeleton.{isListOf, isComponent, propertyFrom, componentFrom}
 use Rattle.converter.specs.Return.{isUnknown, isDefault, shown, withValue, writtenSort, writtenLine}
 use Rattle.converter.specs.ToIcal.{beginLine, endLine, propertyLine, linesOf, linesIn}

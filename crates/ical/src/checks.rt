@@ -23,7 +23,6 @@ ghost use lib.ListN.{length};
 ghost use Rattle.octets.specs.Basics.{_and_, _or_};
 ghost use Rattle.octets.specs.Classes.{lower};
 ghost use Rattle.octets.specs.Optional.{isSome};
-ghost use Rattle.types.specs.Table.{find};
 ghost use Rattle.types.specs.Laid.{tableIn};
 ghost use Rattle.json.specs.Tree.{elements};
 ghost use Rattle.tape.specs.Decode.{valueAt, listAt};

@@ -1,12 +1,12 @@
 -- Into arrays and objects, and the parts of a property.
-use Prim.Native.Nat.{ℕ, suc, _+_, _-_, _≤_, _<_}
-use mathlib.Core.Path.{_≡_, refl, sym, ap, _∙_}
+use Prim.Native.Nat.{ℕ}
+use mathlib.Core.Path.{_≡_, sym, ap, _∙_}
 use mathlib.Core.List.{List}
 use native.Mathlib.Omega.{arith}
-use lib.ListN.{length, take, drop, getD}
+use lib.ListN.{length, drop, getD}
 use Rattle.json.specs.Tree.{Json, null, octetsOf, elements, element, members}
 use Rattle.json.specs.Tape.{tagArray, tagObject}
-use Rattle.tape.specs.Decode.{pop, view, tagAt, valueAt, listAt, membersAt}
+use Rattle.tape.specs.Decode.{pop, view, tagAt, valueAt, listAt}
 use Rattle.tape.specs.Promise.{After, Next, TextAt}
 use Rattle.tape.specs.declared.Text.{Text}
 use Rattle.tape.proofs.Tags.{on-tape, past-tag}

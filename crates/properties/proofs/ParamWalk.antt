@@ -1,16 +1,16 @@
 -- Parameters and their values along the tape: tested for 7 and 8, and written.
-use Prim.Native.Nat.{ℕ, suc, _+_, _-_, _≤_, _<_}
+use Prim.Native.Nat.{ℕ, _-_}
 use Prim.Native.Char.{code}
-use mathlib.Core.Path.{_≡_, refl, sym, ap, _∙_}
-use mathlib.Core.Bool.{Bool, true, false, not}
+use mathlib.Core.Path.{_≡_, refl, sym, _∙_}
+use mathlib.Core.Bool.{Bool, true, false}
 use mathlib.Core.List.{List, [], _∷_, _++_, map, append-assoc}
-use lib.ListN.{length, take, drop}
-use Rattle.octets.specs.Basics.{octets, _and_, _or_, all, any, same}
+use lib.ListN.{take, drop}
+use Rattle.octets.specs.Basics.{octets, _and_, all, any, same}
 use Rattle.octets.specs.Classes.{between, isLower, upperOctet, textOctet, upper, sameName}
 use Rattle.octets.specs.Optional.{given}
 use Rattle.octets.specs.Pieces.{joined}
 use Rattle.octets.proofs.Cases.{and-true-right}
-use Rattle.json.specs.Tree.{Json, string?, octetsOf, elements}
+use Rattle.json.specs.Tree.{Json, octetsOf}
 use Rattle.json.specs.Tape.{tagString, tagEnd}
 use Rattle.tape.specs.Decode.{others, paired, tagAt, valueAt, itemsAt, listAt, membersAt}
 use Rattle.tape.specs.Promise.{Next, TextAt}

@@ -4,16 +4,16 @@ use mathlib.Core.Path.{_≡_, refl, sym, ap, _∙_}
 use mathlib.Core.Bool.{Bool, true, false, not}
 use mathlib.Core.List.{List}
 use mathlib.Core.Option.{Option, none, some}
-use borrow.Author.Tests.{eq-eqb, ne-eqb}
+use borrow.Author.Tests.{ne-eqb}
 use lib.Dec.{eqb}
-use Rattle.octets.specs.Basics.{octets, pick, _and_, _or_, same}
+use Rattle.octets.specs.Basics.{octets, pick, _or_, same}
 use Rattle.octets.specs.Optional.{isSome}
 use Rattle.types.specs.Codes.{unprocessed, binary, codeNamed}
 use Rattle.types.specs.Table.{Row}
 use Rattle.types.specs.Laid.{rowFound}
 use Rattle.types.specs.declared.Found.{Found}
 use Rattle.types.specs.declared.Found.the-variants.{Listed, Unlisted}
-use Rattle.values.specs.Sorts.{plain, sortOf}
+use Rattle.values.specs.Sorts.{sortOf}
 use Rattle.values.specs.Coded.{sortSaid}
 use Rattle.values.specs.declared.sorts.Sort.{Sort}
 use Rattle.values.specs.declared.sorts.Sort.the-variants.{Plain}

@@ -2,12 +2,10 @@
 // the iCalendar of each.
 use octets::Converted;
 
-const TEXT: &[u8] = b"BEGIN:VCALENDAR\r\nX-TROUGH:20240229T060000Z\r\nEND:VCALENDAR\r\n";
+const TEXT: [u8; 59] = *b"BEGIN:VCALENDAR\r\nX-TROUGH:20240229T060000Z\r\nEND:VCALENDAR\r\n";
 
 // X-TROUGH is a date-time, one value.
-const NEWER: &[u8] = b"0501582D54524F554748\n";
-
-const OLDER: &[u8] = b"";
+const NEWER: [u8; 21] = *b"0501582D54524F554748\n";
 
 fn come_back(text: &[u8], back: &[u8]) {
     let mut out = [0u8; 1024];
@@ -17,7 +15,7 @@ fn come_back(text: &[u8], back: &[u8]) {
 
 fn route(there: &[u8], back: &[u8]) {
     let mut out = [0u8; 1024];
-    let r = jcal::to_jcal(TEXT, there, &mut out);
+    let r = jcal::to_jcal(&TEXT, there, &mut out);
     console::print_answer(&out, r);
     io::write_all(1, b"\n");
     if let Converted::Written(n) = r {
@@ -28,8 +26,8 @@ fn route(there: &[u8], back: &[u8]) {
 }
 
 fn main() {
-    route(OLDER, OLDER);
-    route(OLDER, NEWER);
-    route(NEWER, OLDER);
-    route(NEWER, NEWER);
+    route(b"", b"");
+    route(b"", &NEWER);
+    route(&NEWER, b"");
+    route(&NEWER, &NEWER);
 }

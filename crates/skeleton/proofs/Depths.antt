@@ -1,8 +1,8 @@
 -- A component and its levels, by its sub-components along the tape.
 use Prim.Native.Nat.{ℕ, zero, suc, _+_, _-_, _≤_, _<_, max}
-use mathlib.Core.Path.{_≡_, refl, sym, ap, _∙_}
+use mathlib.Core.Path.{_≡_, refl, ap, _∙_}
 use mathlib.Core.Bool.{Bool, true, false}
-use mathlib.Core.Logic.{inl, inr}
+use mathlib.Core.Logic.{inl}
 use mathlib.Core.List.{List, [], _∷_, map}
 use native.Mathlib.Omega.{arith}
 use borrow.Author.Tests.{eq-eqb, ne-eqb}
@@ -11,22 +11,22 @@ use lib.ListN.{length, take, drop}
 use Rattle.octets.specs.Basics.{octets, _and_, same}
 use Rattle.octets.specs.Limits.{mostOpen}
 use Rattle.octets.proofs.Cases.{same?, never}
-use Rattle.octets.specs.Optional.{isSome, holds}
-use Rattle.json.specs.Tree.{Json, array?, string?, elements, element, octetsOf}
+use Rattle.octets.specs.Optional.{isSome}
+use Rattle.json.specs.Tree.{Json, elements, element}
 use Rattle.json.specs.Tape.{tagArray, tagEnd}
-use Rattle.tape.specs.Decode.{pop, view, tagAt, valueAt, listAt}
+use Rattle.tape.specs.Decode.{tagAt, valueAt, listAt}
 use Rattle.tape.specs.Promise.{After, Next, Left, TextAt}
 use Rattle.tape.specs.declared.Text.{Text}
 use Rattle.tape.proofs.Tags.{on-tape}
 use Rattle.tape.proofs.Values.{list-end, list-first, list-next}
 use Rattle.tape.proofs.Walks.{Along, along-next, along-end, after-on, array-some, elements-inside, next-inside}
 use Rattle.converter.specs.Tree.{levels, levelsIn, forestOf}
-use Rattle.converter.specs.Skeleton.{isListOf, isProperty, isComponent, isCalendar, componentFrom}
+use Rattle.converter.specs.Skeleton.{isListOf, isComponent, isCalendar, componentFrom}
 use Rattle.skeleton.specs.Checks.{Head, Nests}
 use Rattle.skeleton.specs.declared.Nested.{Nested}
 use Rattle.skeleton.specs.declared.Nested.the-variants.{Component, Nothing}
 use Rattle.skeleton.proofs.Parts.{component-not, first-is}
-use Rattle.skeleton.proofs.Lists.{Passing, passing-start, passing-next, passing-off, passing-end, list-not, list-of}
+use Rattle.skeleton.proofs.Lists.{Passing, passing-start, passing-next, passing-end, list-not}
 
 -- how deep the components of a list nest
 unfoldable pub deep : ℕ → List Json → ℕ

@@ -1,20 +1,19 @@
 -- Strings, names and parameters of the skeleton, as the tags along the tape tell them.
-use Prim.Native.Nat.{ℕ, _+_, _-_, _≤_}
-use Prim.Native.Char.{code}
+use Prim.Native.Nat.{ℕ, _-_}
 use mathlib.Core.Path.{_≡_, refl, sym, ap, _∙_}
 use mathlib.Core.Bool.{Bool, true, false, not}
-use mathlib.Core.Logic.{inl, inr}
+use mathlib.Core.Logic.{inr}
 use mathlib.Core.List.{List}
 use native.Mathlib.Omega.{arith}
 use borrow.Author.Tests.{eq-eqb}
-use lib.ListN.{length, take, drop}
-use Rattle.octets.specs.Basics.{octets, _and_, all, filled, same}
+use lib.ListN.{take, drop}
+use Rattle.octets.specs.Basics.{octets, filled, same}
 use Rattle.octets.specs.Optional.{isSome, holds}
 use Rattle.octets.specs.Classes.{isLowerName}
-use Rattle.octets.proofs.Cases.{cases, same?, never, and-false-right, and-true-right}
+use Rattle.octets.proofs.Cases.{same?, never, and-false-right, and-true-right}
 use Rattle.json.specs.Tree.{Json, string?, object?, octetsOf, elements}
 use Rattle.json.specs.Tape.{tagString, tagArray, tagObject, tagEnd}
-use Rattle.tape.specs.Decode.{tagAt, valueAt, listAt, membersAt}
+use Rattle.tape.specs.Decode.{tagAt, valueAt, membersAt}
 use Rattle.tape.specs.Promise.{After, Next, TextAt}
 use Rattle.tape.specs.declared.Text.{Text}
 use Rattle.tape.proofs.Values.{string-some, no-string, no-object, no-elements, list-end, list-first, members-end, members-first, members-next}

@@ -1,20 +1,19 @@
 -- A property and the head of a component, as the places of their elements tell them.
-use Prim.Native.Nat.{ℕ, zero, suc, _+_, _≤_, _<_}
-use mathlib.Core.Path.{_≡_, refl, sym, ap, _∙_}
+use Prim.Native.Nat.{ℕ, zero, suc, _+_}
+use mathlib.Core.Path.{_≡_, refl, ap, _∙_}
 use mathlib.Core.Bool.{Bool, true, false}
-use mathlib.Core.Logic.{inl, inr}
+use mathlib.Core.Logic.{inl}
 use mathlib.Core.List.{List}
 use native.Mathlib.Omega.{arith}
-use borrow.Author.Tests.{le-leb, lt-leb}
+use borrow.Author.Tests.{le-leb}
 use lib.Dec.{leb}
 use lib.ListN.{length, drop}
-use Rattle.octets.specs.Basics.{_and_}
 use Rattle.octets.specs.Optional.{isSome, holds}
 use Rattle.octets.specs.Classes.{isLowerName}
 use Rattle.octets.proofs.Cases.{never}
 use Rattle.json.specs.Tree.{Json, string?, array?, object?, elements, element}
 use Rattle.json.specs.Tape.{tagArray, tagEnd}
-use Rattle.tape.specs.Decode.{pop, view, tagAt, valueAt, listAt}
+use Rattle.tape.specs.Decode.{tagAt, valueAt, listAt}
 use Rattle.tape.specs.Promise.{After, Next, Left}
 use Rattle.tape.proofs.Tags.{on-tape}
 use Rattle.tape.proofs.Values.{no-array, list-end, list-first, list-next, list-head, list-tail, list-behind}

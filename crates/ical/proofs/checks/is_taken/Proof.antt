@@ -1,6 +1,5 @@
 -- `ical::checks::is_taken` meets its contract.
-use mathlib.Core.Path.{sym, ap, _∙_}
-use Rattle.octets.specs.Optional.{isSome}
+use mathlib.Core.Path.{_∙_}
 use Rattle.ical.proofs.Judging.{first-octets, taken-by-sort}
 use borrow.Author.Needs.{needs}
 use Rattle.ical.proofs.checks.is_taken.Statement.{statement}

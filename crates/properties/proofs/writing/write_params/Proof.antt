@@ -3,7 +3,6 @@ use Prim.Native.Nat.{_-_}
 use mathlib.Core.Path.{_≡_, refl, sym, ap, _∙_}
 use native.Mathlib.Omega.{arith}
 use lib.ListN.{length}
-use mathlib.Core.List.{append-assoc}
 use Rattle.tape.specs.Decode.{membersAt}
 use Rattle.content.specs.Folding.{folding}
 use Rattle.content.specs.Write.{paramsText}
