@@ -1,0 +1,160 @@
+//! Measures the library beside another implementation of the same rules: same inputs, one run, calls in turn, medians.
+use std::hint::black_box;
+use std::time::Instant;
+
+#[link(name = "ffi", kind = "static")]
+extern "C" {
+    fn putrenski_to_jcal(text: *const u8, n: usize, rows: *const u8, m: usize, out: *mut u8, room: usize) -> usize;
+    fn putrenski_to_ical(text: *const u8, n: usize, rows: *const u8, m: usize, out: *mut u8, room: usize) -> usize;
+    fn putrenski_stops(text: *const u8, n: usize, out: *mut u8, room: usize) -> usize;
+}
+
+const ROOM: usize = 65_536;
+const TURNS: usize = 60;
+
+/// An ordinary calendar: events with the usual properties.
+fn ordinary(size: usize) -> Vec<u8> {
+    let mut s = String::from("BEGIN:VCALENDAR\r\nVERSION:2.0\r\nPRODID:-//Market//Office//EN\r\n");
+    let mut k = 0;
+    while s.len() + 330 < size {
+        k += 1;
+        s += &format!(
+            "BEGIN:VEVENT\r\nUID:stop-{k}@market.example\r\nDTSTAMP:20240115T120000Z\r\nDTSTART;TZID=Europe/Berlin:202402{:02}T0600\
+             00\r\nDURATION:PT1H30M\r\nSUMMARY:Loading at ramp {k}\\, gate B\r\nLOCATION;LANGUAGE=en:Ramp {k}; the long\r\n  side\r\nRRULE:FREQ=\
+             DAILY;INTERVAL=2;COUNT=10\r\nSEQUENCE:{k}\r\nEND:VEVENT\r\n",
+            k % 28 + 1
+        )
+        .replace("; the long", " the long");
+    }
+    s += "END:VCALENDAR\r\n";
+    s.into_bytes()
+}
+
+/// One text of so many octets.
+fn one_text(size: usize) -> Vec<u8> {
+    let mut s = String::from("BEGIN:VCALENDAR\r\nDESCRIPTION:");
+    while s.len() + 40 < size {
+        s += "A wagon goes from ramp to ramp all day";
+        s += "\\n";
+    }
+    s += "\r\nEND:VCALENDAR\r\n";
+    s.into_bytes()
+}
+
+/// Many properties of a few octets.
+fn tiny(size: usize) -> Vec<u8> {
+    let mut s = String::from("BEGIN:VCALENDAR\r\n");
+    while s.len() + 30 < size {
+        s += "X:1\r\n";
+    }
+    s += "END:VCALENDAR\r\n";
+    s.into_bytes()
+}
+
+/// Components eight deep, again and again.
+fn deep(size: usize) -> Vec<u8> {
+    let mut s = String::from("BEGIN:VCALENDAR\r\n");
+    while s.len() + 250 < size {
+        for _ in 0..7 {
+            s += "BEGIN:A\r\n";
+        }
+        s += "SUMMARY:x\r\n";
+        for _ in 0..7 {
+            s += "END:A\r\n";
+        }
+    }
+    s += "END:VCALENDAR\r\n";
+    s.into_bytes()
+}
+
+/// The ordinary calendar with a fold in every line.
+fn folded(size: usize) -> Vec<u8> {
+    let text = String::from_utf8(ordinary(size * 8 / 9)).unwrap();
+    let mut s = String::new();
+    for line in text.split("\r\n").filter(|l| !l.is_empty()) {
+        let at = line.len() / 2;
+        s += &format!("{}\r\n {}\r\n", &line[..at], &line[at..]);
+    }
+    s.into_bytes()
+}
+
+/// The medians of two jobs that are timed in turn, in nanoseconds.
+fn medians(mut a: impl FnMut(), mut b: impl FnMut()) -> (f64, f64) {
+    let (mut x, mut y) = (Vec::new(), Vec::new());
+    for _ in 0..TURNS {
+        for (job, times) in [(&mut a as &mut dyn FnMut(), &mut x), (&mut b as &mut dyn FnMut(), &mut y)] {
+            let t = Instant::now();
+            for _ in 0..4 {
+                job();
+            }
+            times.push(t.elapsed().as_nanos() as f64 / 4.0);
+        }
+    }
+    x.sort_by(f64::total_cmp);
+    y.sort_by(f64::total_cmp);
+    (x[TURNS / 2], y[TURNS / 2])
+}
+
+fn row(name: &str, octets: usize, (ours, theirs): (f64, f64)) {
+    let speed = |ns: f64| octets as f64 * 1000.0 / ns;
+    println!("| {name} | {octets} | {:.0} | {:.0} | {:.2} |", speed(ours), speed(theirs), theirs / ours);
+}
+
+type Ours = unsafe extern "C" fn(*const u8, usize, *const u8, usize, *mut u8, usize) -> usize;
+type Theirs = fn(&[u8], &[u8], usize) -> Result<Vec<u8>, u8>;
+
+/// Converts a text by both, sees that they agree, prints their speed, and gives what they wrote.
+fn convert(name: &str, ours: Ours, theirs: Theirs, text: &[u8]) -> Vec<u8> {
+    let mut out = vec![0u8; 8 * ROOM];
+    let n = unsafe { ours(text.as_ptr(), text.len(), text.as_ptr(), 0, out.as_mut_ptr(), out.len()) };
+    let written = theirs(text, b"", out.len()).expect("the input is accepted");
+    assert!(n == written.len() && out[..n] == written[..], "{name}: the answers differ");
+    let times = medians(
+        || {
+            black_box(unsafe { ours(text.as_ptr(), text.len(), text.as_ptr(), 0, out.as_mut_ptr(), out.len()) });
+        },
+        || {
+            black_box(theirs(black_box(text), b"", 8 * ROOM).ok());
+        },
+    );
+    row(name, text.len(), times);
+    written
+}
+
+fn stops(name: &str, text: &[u8]) {
+    let mut out = vec![0u8; 4096];
+    let n = unsafe { putrenski_stops(text.as_ptr(), text.len(), out.as_mut_ptr(), out.len()) };
+    assert!(out[..n] == reference::stops_program(text)[..], "{name}: the answers differ");
+    let (ours, theirs) = medians(
+        || {
+            black_box(unsafe { putrenski_stops(text.as_ptr(), text.len(), out.as_mut_ptr(), out.len()) });
+        },
+        || {
+            black_box(reference::stops_program(black_box(text)));
+        },
+    );
+    println!("| {name} | {:.2} µs | {:.2} µs | {:.2} |", ours / 1000.0, theirs / 1000.0, theirs / ours);
+}
+
+fn main() {
+    let inputs = [
+        ("ordinary calendar", ordinary as fn(usize) -> Vec<u8>),
+        ("one long text", one_text),
+        ("tiny properties", tiny),
+        ("eight levels", deep),
+        ("a fold in every line", folded),
+    ];
+    let mut jcals = Vec::new();
+    println!("| to jCal | octets | MB/s | other MB/s | ratio |\n|---|---|---|---|---|");
+    for (name, make) in inputs {
+        for size in [4096, 16384, 61440] {
+            jcals.push((name, convert(name, putrenski_to_jcal, reference::tojcal, &make(size))));
+        }
+    }
+    println!("\n| to iCalendar | octets | MB/s | other MB/s | ratio |\n|---|---|---|---|---|");
+    for (name, jcal) in jcals.iter().filter(|(_, jcal)| jcal.len() <= ROOM) {
+        convert(name, putrenski_to_ical, reference::tocal, jcal);
+    }
+    println!("\n| stops, printed | time | other | ratio |\n|---|---|---|---|");
+    stops("64 stops", b"20240228T180000\nFREQ=HOURLY;INTERVAL=12\n64\n");
+}

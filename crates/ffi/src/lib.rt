@@ -1,0 +1,45 @@
+// The library for other languages: the jobs on octet slices, each of which passes as a pointer and a length.
+use octets::Converted;
+ghost use mathlib.Core.Path.{_≡_};
+ghost use Prim.Native.Nat.{_≤_};
+ghost use lib.ListN.{length};
+ghost use Rattle.octets.specs.Answers.{answer, outcome};
+ghost use Rattle.octets.specs.Pen.{pen, Wrote};
+ghost use Rattle.stopspage.specs.Printing.{printed};
+ghost use Rattle.converter.specs.ToJcal.{toJcal};
+ghost use Rattle.converter.specs.ToIcal.{toIcal};
+ghost use Rattle.ffi.specs.Words.{Worded, Returns};
+
+// A conversion's answer as a word.
+fn word_of(c: Converted) -> usize
+    ensures { λ r. ⌜ Worded c r ⌝ }
+{
+    match c {
+        Converted::Written(n) => n,
+        Converted::Refused(why) => usize::MAX - why.number() as usize,
+    }
+}
+
+// Turns an iCalendar text into jCal, with the content of a rows.hex.
+#[no_mangle]
+pub extern "C" fn putrenski_to_jcal(text: &[u8], rows: &[u8], out: &mut [u8]) -> usize
+    ensures { λ r. ⌜ Returns (answer (toJcal (now (rows .entry)) (now (text .entry))) (now (out .entry))) r (now (out .exit)) ⌝ }
+{
+    word_of(jcal::to_jcal(text, rows, out))
+}
+
+// Turns jCal into iCalendar, with the content of a rows.hex.
+#[no_mangle]
+pub extern "C" fn putrenski_to_ical(text: &[u8], rows: &[u8], out: &mut [u8]) -> usize
+    ensures { λ r. ⌜ Returns (answer (toIcal (now (rows .entry)) (now (text .entry))) (now (out .entry))) r (now (out .exit)) ⌝ }
+{
+    word_of(ical::to_ical(text, rows, out))
+}
+
+// Writes what `stops` prints for a start, a rule and the most stops, a line each; answers its length, or one more than the buffer's where it has no room.
+#[no_mangle]
+pub extern "C" fn putrenski_stops(text: &[u8], out: &mut [u8]) -> usize
+    ensures { λ r. ⌜ Wrote (pen (now (out .entry)) 0) (printed (now (text .entry))) (pen (now (out .exit)) r) ⌝ }
+{
+    stopspage::print_page(out, text)
+}
