@@ -92,7 +92,7 @@ fn check_property(t: &[u8], at: usize, rows: &[u8], text: &mut [u8]) -> Tested
 }
 
 // The properties of the array at `at`, up to the first in fault.
-pub fn check_properties(t: &[u8], at: usize, rows: &[u8], text: &mut [u8]) -> Tested
+pub(crate) fn check_properties(t: &[u8], at: usize, rows: &[u8], text: &mut [u8]) -> Tested
     requires { ⌜ (isListOf isProperty (valueAt (now t) at) ≡ true) × (length (now t) ≤ length (now text)) ⌝ }
     ensures { λ r. ⌜ Tests (now (t .entry)) at (checkedAll (tableIn (now (rows .entry))) (map propertyFrom (elements (valueAt (now (t .entry)) at)))) r ⌝ }
 {

@@ -23,7 +23,13 @@ ghost use Rattle.ical.specs.Tests.{Tests};
 ghost use Rattle.ical.specs.Writes.{Puts};
 
 // The properties of the component at `at`, and those of its sub-components.
-pub fn check_component(t: &[u8], at: usize, left: usize, rows: &[u8], text: &mut [u8]) -> Tested
+pub(crate) fn check_component(
+    t: &[u8],
+    at: usize,
+    left: usize,
+    rows: &[u8],
+    text: &mut [u8],
+) -> Tested
     requires { ⌜ (isComponent left (valueAt (now t) at) ≡ true) × (length (now t) ≤ length (now text)) ⌝ }
     ensures { λ r. ⌜ Tests (now (t .entry)) at (checkedAll (tableIn (now (rows .entry))) (propertiesOf (componentFrom left (valueAt (now (t .entry)) at)))) r ⌝ }
 {
@@ -53,7 +59,7 @@ pub fn check_component(t: &[u8], at: usize, left: usize, rows: &[u8], text: &mut
 }
 
 // Writes the component at `at`.
-pub fn write_component(
+pub(crate) fn write_component(
     t: &[u8],
     at: usize,
     left: usize,

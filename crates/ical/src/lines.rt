@@ -102,7 +102,7 @@ fn write_property(
 }
 
 // The content lines of the properties of the array at `at`.
-pub fn write_properties(
+pub(crate) fn write_properties(
     t: &[u8],
     at: usize,
     rows: &[u8],

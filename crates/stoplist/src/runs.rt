@@ -87,7 +87,7 @@ pub fn run_at(at: usize, room: usize, m: Moment, hours: u64, end: End) -> Run
 }
 
 // The run at the next moment.
-pub fn next(run: Run) -> Run
+pub(crate) fn next(run: Run) -> Run
     requires { ⌜ run .at < run .room ⌝ }
     ensures { λ r. ⌜ r ≡ nextRun run ⌝ }
 {
