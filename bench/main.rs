@@ -103,8 +103,8 @@ fn row(name: &str, octets: usize, (ours, theirs): (f64, f64)) {
 type Ours = unsafe extern "C" fn(*const u8, usize, *const u8, usize, *mut u8, usize) -> usize;
 type Theirs = fn(&[u8], &[u8], usize) -> Result<Vec<u8>, u8>;
 
-/// Converts a text by both, sees that they agree, prints their speed, and gives what they wrote.
-fn convert(name: &str, ours: Ours, theirs: Theirs, text: &[u8]) -> Vec<u8> {
+/// Converts a text by both, sees that they agree, and prints their speed.
+fn convert(name: &str, ours: Ours, theirs: Theirs, text: &[u8]) {
     let mut out = vec![0u8; 8 * ROOM];
     let n = unsafe { ours(text.as_ptr(), text.len(), text.as_ptr(), 0, out.as_mut_ptr(), out.len()) };
     let written = theirs(text, b"", out.len()).expect("the input is accepted");
@@ -118,7 +118,6 @@ fn convert(name: &str, ours: Ours, theirs: Theirs, text: &[u8]) -> Vec<u8> {
         },
     );
     row(name, text.len(), times);
-    written
 }
 
 fn stops(name: &str, text: &[u8]) {
@@ -136,6 +135,16 @@ fn stops(name: &str, text: &[u8]) {
     println!("| {name} | {:.2} µs | {:.2} µs | {:.2} |", ours / 1000.0, theirs / 1000.0, theirs / ours);
 }
 
+/// The jCal of the longest calendar of a kind whose jCal has at most so many octets.
+fn jcal(make: fn(usize) -> Vec<u8>, most: usize) -> Vec<u8> {
+    (1..)
+        .map(|k| reference::tojcal(&make(most - k * most / 64), b"", 8 * ROOM).expect("the input is accepted"))
+        .find(|jcal| jcal.len() <= most)
+        .unwrap()
+}
+
+const SIZES: [usize; 3] = [4096, 16384, 61440];
+
 fn main() {
     let inputs = [
         ("ordinary calendar", ordinary as fn(usize) -> Vec<u8>),
@@ -144,16 +153,17 @@ fn main() {
         ("eight levels", deep),
         ("a fold in every line", folded),
     ];
-    let mut jcals = Vec::new();
     println!("| to jCal | octets | MB/s | other MB/s | ratio |\n|---|---|---|---|---|");
     for (name, make) in inputs {
-        for size in [4096, 16384, 61440] {
-            jcals.push((name, convert(name, putrenski_to_jcal, reference::tojcal, &make(size))));
+        for size in SIZES {
+            convert(name, putrenski_to_jcal, reference::tojcal, &make(size));
         }
     }
     println!("\n| to iCalendar | octets | MB/s | other MB/s | ratio |\n|---|---|---|---|---|");
-    for (name, jcal) in jcals.iter().filter(|(_, jcal)| jcal.len() <= ROOM) {
-        convert(name, putrenski_to_ical, reference::tocal, jcal);
+    for (name, make) in inputs {
+        for size in SIZES {
+            convert(name, putrenski_to_ical, reference::tocal, &jcal(make, size));
+        }
     }
     println!("\n| stops, printed | time | other | ratio |\n|---|---|---|---|");
     stops("64 stops", b"20240228T180000\nFREQ=HOURLY;INTERVAL=12\n64\n");
