@@ -1,9 +1,11 @@
--- The classes of octets by name, for the tests over a whole slice.
+-- The classes of octets by name, for the tests over a whole slice, and the two cases.
 use Prim.Native.Nat.{ℕ}
 use mathlib.Core.Bool.{Bool}
-use Rattle.octets.specs.Classes.{isDigit, nameOctet, lowerNameOctet, plainOctet, textOctet}
+use Rattle.octets.specs.Classes.{isDigit, nameOctet, lowerNameOctet, plainOctet, textOctet, upperOctet, lowerOctet}
 use Rattle.octets.specs.declared.names.Class.{Class}
 use Rattle.octets.specs.declared.names.Class.the-variants.{Digit, Name, LowerName, Plain, Text}
+use Rattle.octets.specs.declared.names.Case.{Case}
+use Rattle.octets.specs.declared.names.Case.the-variants.{Upper, Lower}
 
 abbrev pub belongs : Class → ℕ → Bool
 belongs Digit c = isDigit c
@@ -11,3 +13,7 @@ belongs Name c = nameOctet c
 belongs LowerName c = lowerNameOctet c
 belongs Plain c = plainOctet c
 belongs Text c = textOctet c
+
+abbrev pub cased : Case → ℕ → ℕ
+cased Upper c = upperOctet c
+cased Lower c = lowerOctet c

@@ -10,6 +10,7 @@ pub use encoding::is_utf8;
 pub use names::all_digits;
 pub use names::all_plain;
 pub use names::all_text;
+pub use names::both;
 pub use names::hex_digit;
 pub use names::is_digit;
 pub use names::is_lower;

@@ -1,12 +1,12 @@
 // Classes of octets, names, and their case.
 ghost use mathlib.Core.Path.{_≡_};
-ghost use mathlib.Core.List.{[], _∷_};
-ghost use Prim.Native.Nat.{_≤_};
-ghost use lib.ListN.{getD};
+ghost use mathlib.Core.List.{[], _∷_, _++_, map};
+ghost use Prim.Native.Nat.{_+_, _≤_};
+ghost use lib.ListN.{length, take, drop, getD};
 ghost use Rattle.octets.specs.Basics.{_and_, all, same};
 ghost use Rattle.octets.specs.Classes.{between, isDigit, isUpper, isLower, nameOctet, isName, lowerNameOctet, isLowerName, plainOctet, textOctet, upperOctet, lowerOctet, upper, lower, sameName, hexDigit};
 ghost use Rattle.octets.specs.Decimal.{digits};
-ghost use Rattle.octets.specs.Groups.{belongs};
+ghost use Rattle.octets.specs.Groups.{belongs, cased};
 ghost use Rattle.octets.specs.Pen.{pen, Wrote};
 use crate::writing::put;
 
@@ -98,6 +98,23 @@ pub fn lower_octet(c: u8) -> u8
     if is_upper(c) { c + 32 } else { c }
 }
 
+// The case that a slice is written in.
+enum Case {
+    Upper,
+    Lower,
+}
+
+impl Case {
+    fn turn(self, c: u8) -> u8
+        ensures { λ r. ⌜ r ≡ cased self c ⌝ }
+    {
+        match self {
+            Case::Upper => upper_octet(c),
+            Case::Lower => lower_octet(c),
+        }
+    }
+}
+
 // The value of a hexadecimal digit, or 16.
 pub fn hex_digit(c: u8) -> u8
     ensures { λ r. ⌜ r ≡ hexDigit c ⌝ }
@@ -129,7 +146,7 @@ impl Class {
 }
 
 // Both, with no branch.
-pub(crate) fn both(a: bool, b: bool) -> bool
+pub fn both(a: bool, b: bool) -> bool
     ensures { λ r. ⌜ r ≡ (a and b) ⌝ }
 {
     if a { b } else { false }
@@ -233,28 +250,54 @@ pub fn same_name(a: &[u8], b: &[u8]) -> bool
     true
 }
 
-// Writes a slice in uppercase.
-pub fn put_upper(out: &mut [u8], at: usize, src: &[u8]) -> usize
-    ensures { λ r. ⌜ Wrote (pen (now (out .entry)) at) (upper (now (src .entry))) (pen (now (out .exit)) r) ⌝ }
+// Copies a slice in one case, where there is room.
+fn copy_cased(out: &mut [u8], at: usize, src: &[u8], case: Case)
+    requires { ⌜ at + length (now src) ≤ length (now out) ⌝ }
+    ensures { λ _. ⌜ now (out .exit) ≡ take at (now (out .entry)) ++ map (cased case) (now (src .entry)) ++ drop (at + length (now (src .entry))) (now (out .entry)) ⌝ }
+{
+    let mut i = 0;
+    while i < src.len() {
+        out[at + i] = case.turn(src[i]);
+        i += 1;
+    }
+}
+
+// Writes a slice in one case octet by octet, as far as there is room.
+fn put_each_cased(out: &mut [u8], at: usize, src: &[u8], case: Case) -> usize
+    ensures { λ r. ⌜ Wrote (pen (now (out .entry)) at) (map (cased case) (now (src .entry))) (pen (now (out .exit)) r) ⌝ }
 {
     let mut to = at;
     let mut i = 0;
     while i < src.len() {
-        to = put(out, to, upper_octet(src[i]));
+        to = put(out, to, case.turn(src[i]));
         i += 1;
     }
     to
+}
+
+// Writes a slice in one case.
+fn put_cased(out: &mut [u8], at: usize, src: &[u8], case: Case) -> usize
+    ensures { λ r. ⌜ Wrote (pen (now (out .entry)) at) (map (cased case) (now (src .entry))) (pen (now (out .exit)) r) ⌝ }
+{
+    if at <= out.len() {
+        if src.len() <= out.len() - at {
+            copy_cased(out, at, src, case);
+            return at + src.len();
+        }
+    }
+    put_each_cased(out, at, src, case)
+}
+
+// Writes a slice in uppercase.
+pub fn put_upper(out: &mut [u8], at: usize, src: &[u8]) -> usize
+    ensures { λ r. ⌜ Wrote (pen (now (out .entry)) at) (upper (now (src .entry))) (pen (now (out .exit)) r) ⌝ }
+{
+    put_cased(out, at, src, Case::Upper)
 }
 
 // Writes a slice in lowercase.
 pub fn put_lower(out: &mut [u8], at: usize, src: &[u8]) -> usize
     ensures { λ r. ⌜ Wrote (pen (now (out .entry)) at) (lower (now (src .entry))) (pen (now (out .exit)) r) ⌝ }
 {
-    let mut to = at;
-    let mut i = 0;
-    while i < src.len() {
-        to = put(out, to, lower_octet(src[i]));
-        i += 1;
-    }
-    to
+    put_cased(out, at, src, Case::Lower)
 }

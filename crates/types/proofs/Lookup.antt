@@ -1,19 +1,21 @@
--- Looking a name up: in two tables, by its length, in either case.
+-- Looking a name up: in two tables, by its first letter, in either case.
 use Prim.Native.Nat.{ℕ}
 use mathlib.Core.Path.{_≡_, refl, sym, ap, _∙_}
 use mathlib.Core.Bool.{Bool, true, false}
 use mathlib.Core.List.{List, [], _∷_, _++_}
 use mathlib.Core.Option.{Option, none, some}
-use lib.ListN.{length}
+use borrow.Author.Tests.{eq-eqb}
+use lib.Dec.{eqb}
+use lib.ListN.{getD}
 use Rattle.octets.specs.Basics.{pick, same}
 use Rattle.octets.specs.Optional.{or?}
-use Rattle.octets.specs.Classes.{upper}
+use Rattle.octets.specs.Classes.{upperOctet, upper}
 use Rattle.octets.proofs.Cases.{cases, never}
-use Rattle.octets.proofs.Classes.{same-length}
+use Rattle.octets.proofs.Classes.{same-is}
 use Rattle.types.specs.Table.{Row, Entry, Table, find, defaults}
 use Rattle.types.specs.Laid.{rowsIn, tableIn}
-use Rattle.types.specs.Reading.{those}
-use Rattle.types.proofs.Names.{upper-length}
+use Rattle.types.specs.Reading.{led}
+use Rattle.types.proofs.Names.{upper-at}
 
 -- a name in another case is the same name
 pub find-case : (t : Table) (a b : List ℕ) → upper a ≡ upper b → find t a ≡ find t b
@@ -27,16 +29,27 @@ unfolding find or?
 find-append [] t n = refl
 find-append (e ∷ s) t n = cases (same (e .name) (upper n)) (λ h. rw h) (λ h. rw h (find-append s t n))
 
-other-length : (m n : List ℕ) → (length m ≡ length n → ⊥) → same m (upper n) ≡ false
-other-length m n h = same-length m (upper n) (λ e. h (e ∙ upper-length n))
+other-letter : (m n : List ℕ) (k : ℕ) → upperOctet (getD n 0 0) ≡ k → eqb k (getD m 0 0) ≡ false → same m (upper n) ≡ false
+other-letter m n k u q = cases (same m (upper n))
+    (λ e. never (eq-eqb k (getD m 0 0) (sym u ∙ sym (upper-at n 0) ∙ ap (λ (l : List ℕ). getD l 0 0) (sym (same-is m (upper n) e)))) q)
+    (λ e. e)
 
--- a name is among the rows whose names are as long as it, or nowhere
-pub by-length : (p : ℕ → Bool) (t : Table) (n : List ℕ) → p (length n) ≡ true → find (those p t) n ≡ find t n
-unfolding find those
-by-length p [] n h = refl
-by-length p (e ∷ t) n h = cases (p (length (e .name)))
-    (λ k. rw (k, by-length p t n h))
-    (λ k. rw (k, other-length (e .name) n (λ q. never h (ap p (sym q) ∙ k))) (by-length p t n h))
+-- a name is among the rows that begin as it does, or nowhere
+pub by-letter : (k : ℕ) (t : Table) (n : List ℕ) → upperOctet (getD n 0 0) ≡ k → find (led k t) n ≡ find t n
+unfolding find led
+by-letter k [] n u = refl
+by-letter k (e ∷ t) n u = cases (eqb k (getD (e .name) 0 0))
+    (λ q. rw (q, by-letter k t n u))
+    (λ q. rw (q, other-letter (e .name) n k u q) (by-letter k t n u))
+
+-- a name whose first letter no row has
+pub no-letter : (n : List ℕ) (k : ℕ) → k ≡ upperOctet (getD n 0 0) → (t : Table) → led k t ≡ [] → find t n ≡ none
+unfolding find
+no-letter n k u t e = sym (by-letter k t n (sym u)) ∙ ap (λ (s : Table). find s n) e
+
+-- one row more behind some
+pub one-more : (s : Table) (e : Entry) (n : List ℕ) (a r : Option Row) → a ≡ find s n → r ≡ or? a (find (e ∷ []) n) → r ≡ find (s ++ e ∷ []) n
+one-more s e n a r p q = q ∙ rw p (sym (find-append s (e ∷ []) n))
 
 -- the default types go before the added rows
 pub found-default : (s n : List ℕ) (r : Row) → find defaults n ≡ some r → find (tableIn s) n ≡ some r

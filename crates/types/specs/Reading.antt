@@ -1,10 +1,11 @@
 -- What the private functions promise.
 use Prim.Native.Nat.{ℕ, suc}
-use Prim.Native.Char.{code}
+use Prim.Native.Char.{Char, code}
 use mathlib.Core.Bool.{Bool, true, false, not}
 use mathlib.Core.List.{List, [], _∷_}
 use mathlib.Core.Option.{Option, none, some}
-use lib.ListN.{length}
+use lib.Dec.{eqb}
+use lib.ListN.{getD}
 use Rattle.octets.specs.Pieces.{split}
 use Rattle.octets.specs.Optional.{isSome, guard}
 use Rattle.octets.specs.Classes.{upper}
@@ -14,14 +15,17 @@ use Rattle.types.specs.Table.{Entry, entry, Table, find}
 use Rattle.types.specs.declared.rows.Laid.{Laid}
 use Rattle.types.specs.declared.rows.Laid.the-variants.{Upto, Malformed}
 
--- the rows whose names are as long as p says
+-- the rows whose names begin with k
 abbrev pub keep : Bool → Entry → Table → Table
 keep true e t = e ∷ t
 keep false e t = t
 
-unfoldable pub those : (ℕ → Bool) → Table → Table
-those p [] = []
-those p (e ∷ t) = keep (p (length (e .name))) e (those p t)
+unfoldable pub led : ℕ → Table → Table
+led k [] = []
+led k (e ∷ t) = keep (eqb k (getD (e .name) 0 0)) e (led k t)
+
+abbrev pub under : Char → Table → Table
+under c t = led (code c) t
 
 -- names as rows, with codes from k on
 unfoldable pub numbered : ℕ → List (List ℕ) → Table

@@ -5,11 +5,13 @@ ghost use Rattle.octets.specs.Classes.{lower};
 ghost use Rattle.octets.specs.Pen.{pen, Wrote};
 ghost use Rattle.types.specs.Codes.{codeNamed, typeName};
 ghost use Rattle.types.specs.Table.{find};
-ghost use Rattle.types.specs.Reading.{types};
+ghost use Rattle.types.specs.Reading.{under, types};
 ghost use Rattle.types.specs.Laid.{rowFound};
 use crate::Found;
-use crate::table::find_in;
+use crate::table::initial;
 use crate::table::is_named;
+use crate::table::named;
+use crate::table::or_named;
 use octets::put_all;
 
 // The code of a type's name in either case; 0 for a name outside the fourteen.
@@ -22,42 +24,52 @@ pub fn code_named(name: &[u8]) -> u8
     }
 }
 
-// The fourteen types as rows, by the length of the name.
+// The fourteen types as rows.
 fn find_type(name: &[u8]) -> Found
     ensures { λ r. ⌜ rowFound r ≡ find types (now (name .entry)) ⌝ }
 {
-    if name.len() <= 4 {
-        return find_in(
-            b"\x04\x04\x00DATE\
-            \x04\x0b\x00TEXT\
-            \x04\x0c\x00TIME\
-            \x03\x0d\x00URI",
-            name,
-        );
+    match initial(name) {
+        b'B' => type_b(name),
+        b'C' => named(name, b"CAL-ADDRESS", 3, false),
+        b'D' => type_d(name),
+        b'F' => named(name, b"FLOAT", 7, false),
+        b'I' => named(name, b"INTEGER", 8, false),
+        b'P' => named(name, b"PERIOD", 9, false),
+        b'R' => named(name, b"RECUR", 10, false),
+        b'T' => type_t(name),
+        b'U' => type_u(name),
+        _ => Found::Unlisted,
     }
-    if name.len() <= 6 {
-        return find_in(
-            b"\x06\x01\x00BINARY\
-            \x05\x07\x00FLOAT\
-            \x06\x09\x00PERIOD\
-            \x05\x0a\x00RECUR",
-            name,
-        );
-    }
-    if name.len() <= 8 {
-        return find_in(
-            b"\x07\x02\x00BOOLEAN\
-            \x08\x06\x00DURATION\
-            \x07\x08\x00INTEGER",
-            name,
-        );
-    }
-    find_in(
-        b"\x0b\x03\x00CAL-ADDRESS\
-        \x09\x05\x00DATE-TIME\
-        \x0a\x0e\x00UTC-OFFSET",
-        name,
-    )
+}
+
+// Those that share a first letter.
+fn type_b(name: &[u8]) -> Found
+    ensures { λ r. ⌜ rowFound r ≡ find (under "B" types) (now (name .entry)) ⌝ }
+{
+    let a = named(name, b"BINARY", 1, false);
+    or_named(a, name, b"BOOLEAN", 2, false)
+}
+
+fn type_d(name: &[u8]) -> Found
+    ensures { λ r. ⌜ rowFound r ≡ find (under "D" types) (now (name .entry)) ⌝ }
+{
+    let a = named(name, b"DATE", 4, false);
+    let b = or_named(a, name, b"DATE-TIME", 5, false);
+    or_named(b, name, b"DURATION", 6, false)
+}
+
+fn type_t(name: &[u8]) -> Found
+    ensures { λ r. ⌜ rowFound r ≡ find (under "T" types) (now (name .entry)) ⌝ }
+{
+    let a = named(name, b"TEXT", 11, false);
+    or_named(a, name, b"TIME", 12, false)
+}
+
+fn type_u(name: &[u8]) -> Found
+    ensures { λ r. ⌜ rowFound r ≡ find (under "U" types) (now (name .entry)) ⌝ }
+{
+    let a = named(name, b"URI", 13, false);
+    or_named(a, name, b"UTC-OFFSET", 14, false)
 }
 
 // "unknown", in either case.

@@ -1,12 +1,16 @@
-// Looking a name up in rows that are laid out as octets.
+// Looking a name up: among the default types, and in rows that are laid out as octets.
 ghost use mathlib.Core.Path.{_≡_};
-ghost use lib.Dec.{leb, ltb};
+ghost use mathlib.Core.List.{[], _∷_};
+ghost use lib.ListN.{getD};
 ghost use Rattle.octets.specs.Basics.{same};
-ghost use Rattle.octets.specs.Classes.{between, upper};
-ghost use Rattle.types.specs.Table.{find, defaults};
+ghost use Rattle.octets.specs.Classes.{upperOctet, upper};
+ghost use Rattle.octets.specs.Optional.{or?};
+ghost use Rattle.types.specs.Table.{entry, find, defaults};
 ghost use Rattle.types.specs.Laid.{rowsIn, tableIn, rowFound};
-ghost use Rattle.types.specs.Reading.{those};
+ghost use Rattle.types.specs.Reading.{under};
 use crate::Found;
+use octets::both;
+use octets::peek;
 use octets::upper_octet;
 
 // What the default types and these rows say of a name, in either case.
@@ -19,110 +23,141 @@ pub fn find(rows: &[u8], name: &[u8]) -> Found
     }
 }
 
-// The default types, by the length of the name. A function's byte strings are laid out each time that it is called: so there are several.
+// What the default types say of a name.
 fn find_default(name: &[u8]) -> Found
     ensures { λ r. ⌜ rowFound r ≡ find defaults (now (name .entry)) ⌝ }
 {
-    if name.len() <= 6 {
-        return find_short(name);
+    match initial(name) {
+        b'A' => find_a(name),
+        b'C' => find_c(name),
+        b'D' => find_d(name),
+        b'E' => named(name, b"EXDATE", 5, true),
+        b'F' => named(name, b"FREEBUSY", 9, true),
+        b'G' => named(name, b"GEO", 7, false),
+        b'L' => find_l(name),
+        b'M' => named(name, b"METHOD", 11, false),
+        b'O' => named(name, b"ORGANIZER", 3, false),
+        b'P' => find_p(name),
+        b'R' => find_r(name),
+        b'S' => find_s(name),
+        b'T' => find_t(name),
+        b'U' => find_u(name),
+        b'V' => named(name, b"VERSION", 11, false),
+        _ => Found::Unlisted,
     }
-    if name.len() <= 8 {
-        return find_middle(name);
-    }
-    find_long(name)
 }
 
-// Names of up to 6 octets.
-fn find_short(name: &[u8]) -> Found
-    ensures { λ r. ⌜ rowFound r ≡ find (those (λ k. leb k 6) defaults) (now (name .entry)) ⌝ }
+// The default types by their first letters.
+fn find_a(name: &[u8]) -> Found
+    ensures { λ r. ⌜ rowFound r ≡ find (under "A" defaults) (now (name .entry)) ⌝ }
 {
-    if name.len() <= 4 {
-        return find_in(
-            b"\x04\x0b\x00TZID\
-            \x03\x0b\x00UID\
-            \x03\x0d\x00URL\
-            \x03\x07\x00GEO\
-            \x03\x05\x00DUE",
-            name,
-        );
-    }
-    if name.len() <= 5 {
-        return find_in(
-            b"\x05\x0b\x00CLASS\
-            \x05\x0d\x00TZURL\
-            \x05\x05\x00DTEND\
-            \x05\x05\x01RDATE\
-            \x05\x0a\x00RRULE",
-            name,
-        );
-    }
-    find_in(
-        b"\x06\x0b\x00METHOD\
-        \x06\x0b\x00PRODID\
-        \x06\x0b\x00STATUS\
-        \x06\x0b\x00TRANSP\
-        \x06\x0b\x00TZNAME\
-        \x06\x0b\x00ACTION\
-        \x06\x0d\x00ATTACH\
-        \x06\x08\x00REPEAT\
-        \x06\x05\x01EXDATE",
-        name,
-    )
+    let a = named(name, b"ACTION", 11, false);
+    let b = or_named(a, name, b"ATTACH", 13, false);
+    or_named(b, name, b"ATTENDEE", 3, false)
 }
 
-// Names of 7 or 8 octets.
-fn find_middle(name: &[u8]) -> Found
-    ensures { λ r. ⌜ rowFound r ≡ find (those (between 7 8) defaults) (now (name .entry)) ⌝ }
+fn find_c(name: &[u8]) -> Found
+    ensures { λ r. ⌜ rowFound r ≡ find (under "C" defaults) (now (name .entry)) ⌝ }
 {
-    if name.len() <= 7 {
-        return find_in(
-            b"\x07\x0b\x00VERSION\
-            \x07\x0b\x00COMMENT\
-            \x07\x0b\x00SUMMARY\
-            \x07\x0b\x00CONTACT\
-            \x07\x05\x00DTSTART\
-            \x07\x05\x00CREATED\
-            \x07\x05\x00DTSTAMP\
-            \x07\x06\x00TRIGGER",
-            name,
-        );
-    }
-    find_in(
-        b"\x08\x0b\x00CALSCALE\
-        \x08\x0b\x00LOCATION\
-        \x08\x08\x00PRIORITY\
-        \x08\x08\x00SEQUENCE\
-        \x08\x06\x00DURATION\
-        \x08\x09\x01FREEBUSY\
-        \x08\x03\x00ATTENDEE",
-        name,
-    )
+    let a = named(name, b"CALSCALE", 11, false);
+    let b = or_named(a, name, b"CLASS", 11, false);
+    let c = or_named(b, name, b"COMMENT", 11, false);
+    let d = or_named(c, name, b"CONTACT", 11, false);
+    let e = or_named(d, name, b"CATEGORIES", 11, true);
+    let f = or_named(e, name, b"COMPLETED", 5, false);
+    or_named(f, name, b"CREATED", 5, false)
 }
 
-// Names of more than 8 octets.
-fn find_long(name: &[u8]) -> Found
-    ensures { λ r. ⌜ rowFound r ≡ find (those (ltb 8) defaults) (now (name .entry)) ⌝ }
+fn find_d(name: &[u8]) -> Found
+    ensures { λ r. ⌜ rowFound r ≡ find (under "D" defaults) (now (name .entry)) ⌝ }
 {
-    if name.len() <= 10 {
-        return find_in(
-            b"\x0a\x0b\x00RELATED-TO\
-            \x0a\x0b\x01CATEGORIES\
-            \x09\x0b\x01RESOURCES\
-            \x09\x05\x00COMPLETED\
-            \x0a\x0e\x00TZOFFSETTO\
-            \x09\x03\x00ORGANIZER",
-            name,
-        );
+    let a = named(name, b"DESCRIPTION", 11, false);
+    let b = or_named(a, name, b"DTEND", 5, false);
+    let c = or_named(b, name, b"DUE", 5, false);
+    let d = or_named(c, name, b"DTSTART", 5, false);
+    let e = or_named(d, name, b"DTSTAMP", 5, false);
+    or_named(e, name, b"DURATION", 6, false)
+}
+
+fn find_l(name: &[u8]) -> Found
+    ensures { λ r. ⌜ rowFound r ≡ find (under "L" defaults) (now (name .entry)) ⌝ }
+{
+    let a = named(name, b"LOCATION", 11, false);
+    or_named(a, name, b"LAST-MODIFIED", 5, false)
+}
+
+fn find_p(name: &[u8]) -> Found
+    ensures { λ r. ⌜ rowFound r ≡ find (under "P" defaults) (now (name .entry)) ⌝ }
+{
+    let a = named(name, b"PRODID", 11, false);
+    let b = or_named(a, name, b"PERCENT-COMPLETE", 8, false);
+    or_named(b, name, b"PRIORITY", 8, false)
+}
+
+fn find_r(name: &[u8]) -> Found
+    ensures { λ r. ⌜ rowFound r ≡ find (under "R" defaults) (now (name .entry)) ⌝ }
+{
+    let a = named(name, b"RELATED-TO", 11, false);
+    let b = or_named(a, name, b"REQUEST-STATUS", 11, false);
+    let c = or_named(b, name, b"RESOURCES", 11, true);
+    let d = or_named(c, name, b"REPEAT", 8, false);
+    let e = or_named(d, name, b"RECURRENCE-ID", 5, false);
+    let f = or_named(e, name, b"RDATE", 5, true);
+    or_named(f, name, b"RRULE", 10, false)
+}
+
+fn find_s(name: &[u8]) -> Found
+    ensures { λ r. ⌜ rowFound r ≡ find (under "S" defaults) (now (name .entry)) ⌝ }
+{
+    let a = named(name, b"STATUS", 11, false);
+    let b = or_named(a, name, b"SUMMARY", 11, false);
+    or_named(b, name, b"SEQUENCE", 8, false)
+}
+
+fn find_t(name: &[u8]) -> Found
+    ensures { λ r. ⌜ rowFound r ≡ find (under "T" defaults) (now (name .entry)) ⌝ }
+{
+    let a = named(name, b"TRANSP", 11, false);
+    let b = or_named(a, name, b"TZID", 11, false);
+    let c = or_named(b, name, b"TZNAME", 11, false);
+    let d = or_named(c, name, b"TZURL", 13, false);
+    let e = or_named(d, name, b"TRIGGER", 6, false);
+    let f = or_named(e, name, b"TZOFFSETFROM", 14, false);
+    or_named(f, name, b"TZOFFSETTO", 14, false)
+}
+
+fn find_u(name: &[u8]) -> Found
+    ensures { λ r. ⌜ rowFound r ≡ find (under "U" defaults) (now (name .entry)) ⌝ }
+{
+    let a = named(name, b"UID", 11, false);
+    or_named(a, name, b"URL", 13, false)
+}
+
+// The first letter of a name, in uppercase; 0 where there is none.
+pub(crate) fn initial(name: &[u8]) -> u8
+    ensures { λ r. ⌜ r ≡ upperOctet (getD (now (name .entry)) 0 0) ⌝ }
+{
+    upper_octet(peek(name, 0))
+}
+
+// What one row says of a name.
+pub(crate) fn named(name: &[u8], row: &[u8], code: u8, many: bool) -> Found
+    ensures { λ r. ⌜ rowFound r ≡ find (entry (now (row .entry)) code many ∷ []) (now (name .entry)) ⌝ }
+{
+    if is_named(row, name) {
+        return Found::Listed(code, many);
     }
-    find_in(
-        b"\x0b\x0b\x00DESCRIPTION\
-        \x0e\x0b\x00REQUEST-STATUS\
-        \x10\x08\x00PERCENT-COMPLETE\
-        \x0d\x05\x00RECURRENCE-ID\
-        \x0d\x05\x00LAST-MODIFIED\
-        \x0c\x0e\x00TZOFFSETFROM",
-        name,
-    )
+    Found::Unlisted
+}
+
+// What was found before, or else what one row more says of a name.
+pub(crate) fn or_named(found: Found, name: &[u8], row: &[u8], code: u8, many: bool) -> Found
+    ensures { λ r. ⌜ rowFound r ≡ or? (rowFound found) (find (entry (now (row .entry)) code many ∷ []) (now (name .entry))) ⌝ }
+{
+    match found {
+        Found::Listed(kind, several) => Found::Listed(kind, several),
+        Found::Unlisted => named(name, row, code, many),
+    }
 }
 
 // What these rows say of a name.
@@ -152,12 +187,11 @@ pub fn is_named(row: &[u8], name: &[u8]) -> bool
     if row.len() != name.len() {
         return false;
     }
+    let mut so_far = true;
     let mut i = 0;
     while i < row.len() {
-        if row[i] != upper_octet(name[i]) {
-            return false;
-        }
+        so_far = both(so_far, row[i] == upper_octet(name[i]));
         i += 1;
     }
-    true
+    so_far
 }

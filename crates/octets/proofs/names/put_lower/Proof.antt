@@ -1,63 +1,18 @@
 -- `octets::put_lower` meets its contract.
-use Prim.Native.Nat.{_≤_, _-_}
-use mathlib.Core.Path.{_≡_, refl}
-use native.Mathlib.Omega.{arith}
-use lib.ListN.{length, drop}
-use borrow.Author.Needs.{needs}
-use Rattle.octets.specs.Pen.{pen}
 use Rattle.octets.specs.Classes.{lower}
-use Rattle.octets.proofs.Pen.{Leads, leads-start, leads-on, leads-end}
-use Rattle.octets.proofs.Positions.{here, ended}
+use borrow.Author.Needs.{needs}
 use Rattle.octets.proofs.names.put_lower.Statement.{statement}
 use Rattle.octets.proofs.names.put_lower.Tie as tie
 
-abbrev Inv-loop : tie.InvT-loop
-Inv-loop out₀ at src to₀ i₀ out to i = (i ≤ length src) × (length out ≡ length out₀) × Leads (pen out₀ at) (lower src) (pen out to) (lower (drop i src))
+put-cased-requires : tie.Need-put-cased-requires
+put-cased-requires c κs = search needs
 
-abbrev μ-loop : tie.MeasureT-loop
-μ-loop out₀ at src to₀ i₀ out to i = length src - i
-
-loop-holds : tie.Need-loop-holds Inv-loop μ-loop
-loop-holds c = (omega arith, refl, leads-start)
-
-shared-slice-read-lower-octet : tie.Need-shared-slice-read-lower-octet Inv-loop μ-loop
-shared-slice-read-lower-octet c = search needs
-
-lower-octet-requires : tie.Need-lower-octet-requires Inv-loop μ-loop
-lower-octet-requires c κs = search needs
-
-put-requires : tie.Need-put-requires Inv-loop μ-loop
-put-requires c κs = search needs
-
-add-i : tie.Need-add-i Inv-loop μ-loop
-add-i c = search needs
-
-loop-less : tie.Need-loop-less Inv-loop μ-loop
-loop-less c = search needs
-
-loop-again : tie.Need-loop-again Inv-loop μ-loop
-unfolding lower
-loop-again c = (omega arith, omega arith, leads-on (c .before .before .before .before .before .before .before .loop .inv .2) (c .before .before .put .ensures) (rw (here _ _ (c .before .before .before .before .before .before .loop-test .taken), c .before .before .before .lower-octet .ensures)))
-
-same-length : tie.Need-same-length Inv-loop μ-loop
+same-length : tie.Need-same-length
 same-length c = search needs
 
-returns : tie.Need-returns Inv-loop μ-loop
+returns : tie.Need-returns
 unfolding lower
-returns c = leads-end (c .before .loop .inv .2) (rw (ended _ _ (c .loop-test .left)))
+returns c = c .before .before .put-cased .ensures
 
 pub put-lower-spec : {M : Type 1} → statement M
-put-lower-spec =
-    tie.close
-    (tie.spec
-    Inv-loop
-    μ-loop
-    loop-holds
-    shared-slice-read-lower-octet
-    lower-octet-requires
-    put-requires
-    add-i
-    loop-less
-    loop-again
-    same-length
-    returns)
+put-lower-spec = tie.close (tie.spec put-cased-requires same-length returns)

@@ -1,70 +1,76 @@
--- `types::codes::find_type` meets its contract: the rows of each byte string are the types whose names have its lengths.
+-- `types::codes::find_type` meets its contract: what stands under the first letter of a name is all that the table says of it.
+use mathlib.Core.Path.{sym, _∙_}
 use borrow.Author.Needs.{needs}
-use mathlib.Core.Path.{_∙_}
-use lib.Dec.{leb, ltb}
-use borrow.Author.Tests.{le-leb, lt-ltb}
-use Rattle.octets.specs.Classes.{upper, upperOctet, isLower, between}
-use Rattle.octets.proofs.Classes.{within-between}
+use borrow.Author.Tests.{ne-eqb}
+use Rattle.octets.specs.Classes.{between, isLower, upperOctet, upper}
 use Rattle.types.specs.Codes.{typeNames}
-use Rattle.types.specs.Laid.{rowsFrom, rowsIn}
-use Rattle.types.specs.Reading.{those, types, numbered}
-use Rattle.types.proofs.Lookup.{by-length}
+use Rattle.types.specs.Reading.{led, numbered, types}
+use Rattle.types.specs.Laid.{rowFound}
+use Rattle.types.proofs.Lookup.{by-letter, no-letter}
 use Rattle.types.proofs.codes.find_type.Statement.{statement}
 use Rattle.types.proofs.codes.find_type.Tie as tie
 
-slice-aggregate-find-in : tie.Need-slice-aggregate-find-in
-slice-aggregate-find-in c = search needs
-
-find-in-requires : tie.Need-find-in-requires
-find-in-requires c κs = search needs
-
 returns : tie.Need-returns
-unfolding rowsIn rowsFrom those types numbered typeNames upper upperOctet isLower between
-returns c = c .find-in .ensures ∙ by-length (λ k. leb k 4) types _ (le-leb _ 4 (c .before .before .if1 .taken))
-
-slice-aggregate-find-in-2 : tie.Need-slice-aggregate-find-in-2
-slice-aggregate-find-in-2 c = search needs
-
-find-in-requires-2 : tie.Need-find-in-requires-2
-find-in-requires-2 c κs = search needs
+unfolding led types numbered typeNames upper upperOctet isLower between
+returns c = c .type-b .ensures ∙ by-letter 66 types _ (sym (c .before .before .initial .ensures) ∙ c .before .match .keys1)
 
 returns-2 : tie.Need-returns-2
-unfolding rowsIn rowsFrom those types numbered typeNames upper upperOctet isLower between
-returns-2 c = c .find-in2 .ensures ∙ by-length (between 5 6) types _ (within-between 5 6 _ (c .before .before .before .if1 .left) (c .before .before .if2 .taken))
-
-slice-aggregate-find-in-3 : tie.Need-slice-aggregate-find-in-3
-slice-aggregate-find-in-3 c = search needs
-
-find-in-requires-3 : tie.Need-find-in-requires-3
-find-in-requires-3 c κs = search needs
+unfolding led types numbered typeNames upper upperOctet isLower between
+returns-2 c = c .named .ensures ∙ by-letter 67 types _ (sym (c .before .before .before .initial .ensures) ∙ c .before .before .match .keys2)
 
 returns-3 : tie.Need-returns-3
-unfolding rowsIn rowsFrom those types numbered typeNames upper upperOctet isLower between
-returns-3 c = c .find-in3 .ensures ∙ by-length (between 7 8) types _ (within-between 7 8 _ (c .before .before .before .if2 .left) (c .before .before .if3 .taken))
-
-slice-aggregate-find-in-4 : tie.Need-slice-aggregate-find-in-4
-slice-aggregate-find-in-4 c = search needs
-
-find-in-requires-4 : tie.Need-find-in-requires-4
-find-in-requires-4 c κs = search needs
+unfolding led types numbered typeNames upper upperOctet isLower between
+returns-3 c = c .type-d .ensures ∙ by-letter 68 types _ (sym (c .before .before .initial .ensures) ∙ c .before .match .keys3)
 
 returns-4 : tie.Need-returns-4
-unfolding rowsIn rowsFrom those types numbered typeNames upper upperOctet isLower between
-returns-4 c = c .find-in4 .ensures ∙ by-length (ltb 8) types _ (lt-ltb 8 _ (c .before .before .if3 .left))
+unfolding led types numbered typeNames upper upperOctet isLower between
+returns-4 c = c .named2 .ensures ∙ by-letter 70 types _ (sym (c .before .before .before .initial .ensures) ∙ c .before .before .match .keys4)
+
+returns-5 : tie.Need-returns-5
+unfolding led types numbered typeNames upper upperOctet isLower between
+returns-5 c = c .named3 .ensures ∙ by-letter 73 types _ (sym (c .before .before .before .initial .ensures) ∙ c .before .before .match .keys5)
+
+returns-6 : tie.Need-returns-6
+unfolding led types numbered typeNames upper upperOctet isLower between
+returns-6 c = c .named4 .ensures ∙ by-letter 80 types _ (sym (c .before .before .before .initial .ensures) ∙ c .before .before .match .keys6)
+
+returns-7 : tie.Need-returns-7
+unfolding led types numbered typeNames upper upperOctet isLower between
+returns-7 c = c .named5 .ensures ∙ by-letter 82 types _ (sym (c .before .before .before .initial .ensures) ∙ c .before .before .match .keys7)
+
+returns-8 : tie.Need-returns-8
+unfolding led types numbered typeNames upper upperOctet isLower between
+returns-8 c = c .type-t .ensures ∙ by-letter 84 types _ (sym (c .before .before .initial .ensures) ∙ c .before .match .keys8)
+
+returns-9 : tie.Need-returns-9
+unfolding led types numbered typeNames upper upperOctet isLower between
+returns-9 c = c .type-u .ensures ∙ by-letter 85 types _ (sym (c .before .before .initial .ensures) ∙ c .before .match .keys9)
+
+returns-10 : tie.Need-returns-10
+unfolding rowFound led types numbered typeNames upper upperOctet isLower between
+returns-10 c = sym (no-letter _ _ (c .before .initial .ensures) types (rw (ne-eqb _ 66 (c .match .rest .0 .0 .0 .0 .0 .0 .0 .0 .1), ne-eqb _ 67 (c .match .rest .0 .0 .0 .0 .0 .0 .0 .1), ne-eqb _ 68 (c .match .rest .0 .0 .0 .0 .0 .0 .1), ne-eqb _ 70 (c .match .rest .0 .0 .0 .0 .0 .1), ne-eqb _ 73 (c .match .rest .0 .0 .0 .0 .1), ne-eqb _ 80 (c .match .rest .0 .0 .0 .1), ne-eqb _ 82 (c .match .rest .0 .0 .1), ne-eqb _ 84 (c .match .rest .0 .1), ne-eqb _ 85 (c .match .rest .1))))
 
 pub find-type-spec : {M : Type 1} → statement M
 find-type-spec =
     tie.close
     (tie.spec
-    slice-aggregate-find-in
-    find-in-requires
+    (λ c κs. search needs)
+    (λ c κs. search needs)
+    (λ c. search needs) (λ c κs. search needs)
+    (λ c κs. search needs)
+    (λ c. search needs) (λ c κs. search needs)
+    (λ c. search needs) (λ c κs. search needs)
+    (λ c. search needs) (λ c κs. search needs)
+    (λ c. search needs) (λ c κs. search needs)
+    (λ c κs. search needs)
+    (λ c κs. search needs)
     returns
-    slice-aggregate-find-in-2
-    find-in-requires-2
     returns-2
-    slice-aggregate-find-in-3
-    find-in-requires-3
     returns-3
-    slice-aggregate-find-in-4
-    find-in-requires-4
-    returns-4)
+    returns-4
+    returns-5
+    returns-6
+    returns-7
+    returns-8
+    returns-9
+    returns-10)

@@ -3,19 +3,19 @@ use Prim.Native.Nat.{_≤_, _-_}
 use mathlib.Core.Path.{_≡_, refl, sym, _∙_}
 use native.Mathlib.Omega.{arith}
 use lib.ListN.{length, drop}
-use borrow.Author.Needs.{needs}
-use Rattle.octets.specs.Basics.{same}
+use Rattle.octets.specs.Basics.{_and_, same}
 use Rattle.octets.specs.Classes.{upper}
 use Rattle.octets.proofs.Classes.{same-length}
-use Rattle.types.proofs.Names.{upper-length, named-on, named-stop, named-end}
+use Rattle.types.proofs.Names.{upper-length, named-on, named-end}
+use borrow.Author.Needs.{needs}
 use Rattle.types.proofs.table.is_named.Statement.{statement}
 use Rattle.types.proofs.table.is_named.Tie as tie
 
 abbrev Inv-loop : tie.InvT-loop
-Inv-loop row name i₀ i = (i ≤ length row) × (length row ≡ length name) × (same row (upper name) ≡ same (drop i row) (drop i (upper name)))
+Inv-loop row name so-far₀ i₀ so-far i = (i ≤ length row) × (length row ≡ length name) × ((so-far and same (drop i row) (drop i (upper name))) ≡ same row (upper name))
 
 abbrev μ-loop : tie.MeasureT-loop
-μ-loop row name i₀ i = length row - i
+μ-loop row name so-far₀ i₀ so-far i = length row - i
 
 returns : tie.Need-returns Inv-loop μ-loop
 returns c = sym (same-length _ _ (λ e. c .if1 .taken (e ∙ upper-length _)))
@@ -23,8 +23,8 @@ returns c = sym (same-length _ _ (λ e. c .if1 .taken (e ∙ upper-length _)))
 loop-holds : tie.Need-loop-holds Inv-loop μ-loop
 loop-holds c = (omega arith, omega arith, refl)
 
-shared-slice-read-if2 : tie.Need-shared-slice-read-if2 Inv-loop μ-loop
-shared-slice-read-if2 c = search needs
+shared-slice-read-both : tie.Need-shared-slice-read-both Inv-loop μ-loop
+shared-slice-read-both c = search needs
 
 shared-slice-read-upper-octet : tie.Need-shared-slice-read-upper-octet Inv-loop μ-loop
 shared-slice-read-upper-octet c = search needs
@@ -32,10 +32,8 @@ shared-slice-read-upper-octet c = search needs
 upper-octet-requires : tie.Need-upper-octet-requires Inv-loop μ-loop
 upper-octet-requires c κs = search needs
 
-returns-2 : tie.Need-returns-2 Inv-loop μ-loop
-returns-2 c =
-    let l = c .before .before .before .before .before .loop in
-    sym (l .inv .2 ∙ named-stop _ _ (l .i) (l .inv .1) (c .before .before .before .before .loop-test .taken) (λ e. c .if2 .taken (e ∙ sym (c .before .upper-octet .ensures))))
+both-requires : tie.Need-both-requires Inv-loop μ-loop
+both-requires c κs = search needs
 
 add-i : tie.Need-add-i Inv-loop μ-loop
 add-i c = search needs
@@ -46,10 +44,10 @@ loop-less c = search needs
 loop-again : tie.Need-loop-again Inv-loop μ-loop
 loop-again c =
     let l = c .before .before .before .before .before .loop in
-    (omega arith, l .inv .1, l .inv .2 ∙ named-on _ _ (l .i) (l .inv .1) (c .before .before .before .before .loop-test .taken) (c .if2 .left ∙ c .before .upper-octet .ensures))
+    (omega arith, l .inv .1, rw (c .both .ensures, c .before .upper-octet .ensures) (named-on _ _ (l .i) (l .inv .1) (l .so-far) (c .before .before .before .before .loop-test .taken) ∙ l .inv .2))
 
-returns-3 : tie.Need-returns-3 Inv-loop μ-loop
-returns-3 c = sym (c .before .loop .inv .2 ∙ named-end _ _ (c .before .loop .i) (c .before .loop .inv .1) (c .loop-test .left))
+returns-2 : tie.Need-returns-2 Inv-loop μ-loop
+returns-2 c = sym (named-end _ _ (c .before .loop .i) (c .before .loop .inv .1) (c .before .loop .so-far) (c .loop-test .left)) ∙ c .before .loop .inv .2
 
 pub is-named-spec : {M : Type 1} → statement M
 is-named-spec =
@@ -59,11 +57,11 @@ is-named-spec =
     μ-loop
     returns
     loop-holds
-    shared-slice-read-if2
+    shared-slice-read-both
     shared-slice-read-upper-octet
     upper-octet-requires
-    returns-2
+    both-requires
     add-i
     loop-less
     loop-again
-    returns-3)
+    returns-2)

@@ -1,0 +1,20 @@
+-- `types::codes::type_t` meets its contract.
+use borrow.Author.Needs.{needs}
+use Rattle.octets.specs.Classes.{between, isLower, upperOctet, upper}
+use Rattle.types.specs.Codes.{typeNames}
+use Rattle.types.specs.Reading.{led, numbered, types}
+use Rattle.types.proofs.Lookup.{one-more}
+use Rattle.types.proofs.codes.type_t.Statement.{statement}
+use Rattle.types.proofs.codes.type_t.Tie as tie
+
+returns : tie.Need-returns
+unfolding led types numbered typeNames upper upperOctet isLower between
+returns c = one-more _ _ _ _ _ (c .before .before .named .ensures) (c .or-named .ensures)
+
+pub type-t-spec : {M : Type 1} → statement M
+type-t-spec =
+    tie.close
+    (tie.spec
+    (λ c. search needs) (λ c κs. search needs)
+    (λ c. search needs) (λ c κs. search needs)
+    returns)
