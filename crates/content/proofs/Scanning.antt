@@ -4,13 +4,15 @@ use mathlib.Core.Path.{_≡_, refl, sym, ap, _∙_}
 use mathlib.Core.Bool.{Bool, true, false, false≢true, not}
 use mathlib.Core.List.{List, [], _∷_, _++_}
 use native.Mathlib.Omega.{arith}
+use lib.Dec.{eqb}
 use lib.ListN.{length, getD, take, drop, length-drop}
 use lib.Seq.{take-all, drop-drop, getD-drop}
-use Rattle.octets.specs.Basics.{pick, _and_, all}
+use borrow.Author.Tests.{ne-eqb}
+use Rattle.octets.specs.Basics.{pick, _and_, _or_, all}
 use Rattle.octets.proofs.Cases.{All, never, both}
 use Rattle.octets.proofs.Positions.{here, ended}
 use Rattle.content.specs.Line.{quoteAfter}
-use Rattle.content.specs.Scan.{until, untilBare}
+use Rattle.content.specs.Scan.{until, Sought, untilBare}
 
 -- a choice between nothing and an octet with more
 le-by : (b : Bool) (c : ℕ) (l s : List ℕ) → length l ≤ length s → length (pick b [] (c ∷ l)) ≤ suc (length s)
@@ -93,6 +95,28 @@ module _ (stop : ℕ → Bool) where
     unfolding until
     until-on h e = rw (here s i h, e)
 
+  -- the first octet, the second, or neither
+  module _ {s : List ℕ} {i : ℕ} (h : i + 2 ≤ length s) where
+    pub first-of-two : stop (getD s i 0) ≡ true → Sought stop s i 2 i
+    first-of-two e = record { low = omega arith; high = omega arith; is = refl; ends = λ _. until-here s i (omega arith) e }
+
+    module _ (e : stop (getD s i 0) ≡ false) where
+      pub second-of-two : stop (getD s (i + 1) 0) ≡ true → Sought stop s i 2 (i + 1)
+      second-of-two f = record { low = omega arith; high = omega arith; is = omega (arith, until-on s i (omega arith) e); ends = λ _. until-here s (i + 1) (omega arith) f }
+
+      pub none-of-two : stop (getD s (i + 1) 0) ≡ false → Sought stop s i 2 (i + 2)
+      none-of-two f =
+          let q : i + 1 + 1 ≡ i + 2 = omega arith in
+          record { low = omega arith; high = omega arith; is = omega (arith, until-on s i (omega arith) e, rw q at (until-on s (i + 1) (omega arith) f)); ends = λ l. absurd (omega arith) }
+
+  -- among n octets, and m more
+  module _ {s : List ℕ} {i n k : ℕ} (f : Sought stop s i n k) where
+    pub sought-there : {m : ℕ} → n ≤ m → k < i + n → Sought stop s i m k
+    sought-there h l = record { low = f .low; high = omega arith; is = f .is; ends = λ _. f .ends l }
+
+    pub sought-on : {m r : ℕ} → i + n ≤ k → Sought stop s (i + n) m r → Sought stop s i (n + m) r
+    sought-on l g = let q : k ≡ i + n = omega (arith, f .high) in record { low = omega (arith, g .low); high = omega (arith, g .high); is = g .is ∙ rw q at (f .is); ends = λ h. g .ends (omega arith) }
+
   -- the scan from i ends at e
   module _ (s : List ℕ) (i e : ℕ) (q : e ≡ i + length (until stop (drop i s))) where
     pub scan-low : i ≤ e
@@ -165,6 +189,14 @@ module _ (stop : ℕ → Bool) where
     unfolding untilBare
     bare-on h e = rw (here s i h, e)
 
+  -- outside quotes, at an octet that is neither of the kind nor a quote
+  pub bare-plain : (s : List ℕ) (i : ℕ) → i < length s → (not false and stop (getD s i 0)) ≡ false → eqb (getD s i 0) 34 ≡ false
+      → length (untilBare stop false (drop i s)) ≡ suc (length (untilBare stop false (drop (i + 1) s)))
+  unfolding quoteAfter
+  bare-plain s i h e f =
+      let q : quoteAfter false (getD s i 0) ≡ false = rw f in
+      rw q at (bare-on s i false h e)
+
   -- the scan from i ends at e
   module _ (s : List ℕ) (i e : ℕ) (q : e ≡ i + length (untilBare stop false (drop i s))) where
     pub bare-low : i ≤ e
@@ -186,3 +218,10 @@ module _ (stop : ℕ → Bool) where
         let n : length (untilBare stop false (drop i s)) < length (drop i s) = rw (length-drop i s) (omega arith) in
         let o : getD (drop i s) (length (untilBare stop false (drop i s))) 0 ≡ getD s e 0 = getD-drop i s (length (untilBare stop false (drop i s))) 0 ∙ rw (← q) in
         rw o at (bare-ends false (drop i s) n)
+
+-- an octet above others is none of them
+pub above-one : (x k most : ℕ) → k ≤ most → most < x → eqb x k ≡ false
+above-one x k most h l = ne-eqb x k (λ z. omega arith)
+
+pub above : (x a b most : ℕ) → a ≤ most → b ≤ most → most < x → (not false and (eqb x a or eqb x b)) ≡ false
+above x a b most h k l = rw (above-one x a most h l, above-one x b most k l)

@@ -1,12 +1,12 @@
 // Scans for the next octet of a kind.
 ghost use mathlib.Core.Path.{_≡_};
 ghost use mathlib.Core.Bool.{false, not};
-ghost use Prim.Native.Nat.{_+_};
+ghost use Prim.Native.Nat.{_+_, _≤_};
 ghost use lib.Dec.{eqb};
 ghost use lib.ListN.{length, drop};
 ghost use Rattle.octets.specs.Basics.{_and_, _or_, all};
 ghost use Rattle.content.specs.Line.{quoteAfter};
-ghost use Rattle.content.specs.Scan.{until, untilBare};
+ghost use Rattle.content.specs.Scan.{until, Sought, untilBare};
 
 // Octets that are looked at together.
 const BLOCK: usize = 16;
@@ -50,16 +50,74 @@ fn past_blocks(s: &[u8], at: usize, b: u8) -> usize
     i
 }
 
-// The place of the next `b` from `at` on, or the end.
-pub fn find(s: &[u8], at: usize, b: u8) -> usize
+// The place of the first `b` among the 2 octets from `at` on, or behind them.
+fn in_two(s: &[u8], at: usize, b: u8) -> usize
+    requires { ⌜ at + 2 ≤ length (now s) ⌝ }
+    ensures { λ r. ⌜ Sought (λ c. eqb c b) (now (s .entry)) at 2 r ⌝ }
+{
+    if s[at] == b {
+        return at;
+    }
+    let next = at + 1;
+    if s[next] == b {
+        return next;
+    }
+    at + 2
+}
+
+// The same among 4 octets.
+fn in_four(s: &[u8], at: usize, b: u8) -> usize
+    requires { ⌜ at + 4 ≤ length (now s) ⌝ }
+    ensures { λ r. ⌜ Sought (λ c. eqb c b) (now (s .entry)) at 4 r ⌝ }
+{
+    let half = in_two(s, at, b);
+    if half < at + 2 {
+        return half;
+    }
+    in_two(s, at + 2, b)
+}
+
+// The same among 8 octets.
+fn in_eight(s: &[u8], at: usize, b: u8) -> usize
+    requires { ⌜ at + 8 ≤ length (now s) ⌝ }
+    ensures { λ r. ⌜ Sought (λ c. eqb c b) (now (s .entry)) at 8 r ⌝ }
+{
+    let half = in_four(s, at, b);
+    if half < at + 4 {
+        return half;
+    }
+    in_four(s, at + 4, b)
+}
+
+// The place of the next `b` from `at` on, or the end, octet by octet.
+fn find_last(s: &[u8], at: usize, b: u8) -> usize
     ensures { λ r. ⌜ r ≡ at + length (until (λ c. eqb c b) (drop at (now (s .entry)))) ⌝ }
 {
-    let mut i = past_blocks(s, at, b);
+    let mut i = at;
     while i < s.len() {
         if s[i] == b {
             return i;
         }
         i += 1;
+    }
+    i
+}
+
+// The place of the next `b` from `at` on, or the end.
+pub fn find(s: &[u8], at: usize, b: u8) -> usize
+    ensures { λ r. ⌜ r ≡ at + length (until (λ c. eqb c b) (drop at (now (s .entry)))) ⌝ }
+{
+    let n = s.len();
+    let mut i = past_blocks(s, at, b);
+    while i < n {
+        if n - i < 8 {
+            return find_last(s, i, b);
+        }
+        let e = in_eight(s, i, b);
+        if e < i + 8 {
+            return e;
+        }
+        i = e;
     }
     i
 }
@@ -83,8 +141,8 @@ fn is_bare(quoted: bool, c: u8, a: u8, b: u8) -> bool
     c == b
 }
 
-// The place of the next `a` or `b` from `at` on that is not in quotes, or the end.
-pub fn next_bare(s: &[u8], at: usize, a: u8, b: u8) -> usize
+// The place of the next `a` or `b` from `at` on that is not in quotes, or the end, where quotes are looked for.
+fn next_past_quotes(s: &[u8], at: usize, a: u8, b: u8) -> usize
     ensures { λ r. ⌜ r ≡ at + length (untilBare (λ c. eqb c a or eqb c b) false (drop at (now (s .entry)))) ⌝ }
 {
     let mut i = at;
@@ -96,6 +154,33 @@ pub fn next_bare(s: &[u8], at: usize, a: u8, b: u8) -> usize
         }
         quoted = quote_after(quoted, c);
         i += 1;
+    }
+    i
+}
+
+fn greater(a: u8, b: u8) -> u8
+    ensures { λ r. ⌜ (a ≤ r) × (b ≤ r) ⌝ }
+{
+    if a < b { b } else { a }
+}
+
+// The place of the next `a` or `b` from `at` on that is not in quotes, or the end. Most octets are above `a`, `b` and the quote.
+pub fn next_bare(s: &[u8], at: usize, a: u8, b: u8) -> usize
+    ensures { λ r. ⌜ r ≡ at + length (untilBare (λ c. eqb c a or eqb c b) false (drop at (now (s .entry)))) ⌝ }
+{
+    let most = greater(greater(a, b), b'"');
+    let mut i = at;
+    while i < s.len() {
+        let c = s[i];
+        if most < c {
+            i += 1;
+        } else if is_bare(false, c, a, b) {
+            return i;
+        } else if c == b'"' {
+            return next_past_quotes(s, i, a, b);
+        } else {
+            i += 1;
+        }
     }
     i
 }

@@ -1,4 +1,5 @@
 pub mod Tags
+pub mod Ends
 pub mod Values
 pub mod Walks
 pub mod Scans

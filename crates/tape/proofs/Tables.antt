@@ -28,7 +28,7 @@ unfolding slotOf
 slot-start k = refl
 
 module _ (k : List ℕ) (i h : ℕ) where
-  pub slot-on : i < length k → slotFrom ((h * 257 + getD k i 0) % 16381) (drop (i + 1) k) ≡ slotFrom h (drop i k)
+  pub slot-on : i < length k → slotFrom ((h * 15541 + getD k i 0) % 16381) (drop (i + 1) k) ≡ slotFrom h (drop i k)
   unfolding slotFrom
   slot-on l = rw (here k i l)
 

@@ -5,7 +5,7 @@ use mathlib.Core.List.{List}
 use lib.ListN.{length, take, drop}
 use Rattle.json.specs.Tree.{octetsOf}
 use Rattle.json.specs.Tape.{tagArray, tagObject, tagEnd}
-use Rattle.tape.specs.Decode.{pop, skip, view, tagAt, valueAt}
+use Rattle.tape.specs.Decode.{pop, skip, view, tagAt, textAt, valueAt}
 use Rattle.tape.specs.declared.Text.{Text}
 
 -- e is one octet behind i, or the end of the tape
@@ -14,6 +14,13 @@ pub record After (t : List ℕ) (i e : ℕ) : Type 0 where
   pub low : i ≤ length t → i ≤ e
   pub more : i < length t → e ≡ i + 1
   pub high : e ≤ length t
+
+-- among the n octets from i on the text at i ends at r; r is behind them where it does not
+pub record Sought (t : List ℕ) (i n r : ℕ) : Type 0 where
+  pub low : i ≤ r
+  pub high : r ≤ i + n
+  pub is : r + length (textAt t r) ≡ i + length (textAt t i)
+  pub ends : r < i + n → length (textAt t r) ≡ 0
 
 -- a value that is no array and no object stands at i
 pub record Leaf (t : List ℕ) (i : ℕ) : Type 0 where

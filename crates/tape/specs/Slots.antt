@@ -13,7 +13,7 @@ use Rattle.tape.specs.declared.keys.Probed.the-variants.{There, Free, Fu
 
 unfoldable pub slotFrom : ℕ → List ℕ → ℕ
 slotFrom h [] = h
-slotFrom h (x ∷ xs) = slotFrom ((h * 257 + x) % 16381) xs
+slotFrom h (x ∷ xs) = slotFrom ((h * 15541 + x) % 16381) xs
 
 unfoldable pub slotOf : List ℕ → ℕ
 slotOf k = slotFrom 0 k

@@ -51,7 +51,7 @@ fn slot_of(key: &[u8]) -> usize
     let mut h: usize = 0;
     let mut i = 0;
     while i < key.len() {
-        h = (h * 257 + key[i] as usize) % 16381;
+        h = (h * 15541 + key[i] as usize) % 16381;
         i += 1;
     }
     h

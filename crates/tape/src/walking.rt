@@ -5,6 +5,7 @@ use super::NUMBER;
 use super::OBJECT;
 use super::STRING;
 use super::Text;
+use super::texts::text_end;
 ghost use mathlib.Core.Path.{_≡_};
 ghost use Prim.Native.Nat.{_+_, min};
 ghost use lib.ListN.{length};
@@ -23,20 +24,6 @@ pub fn after(t: &[u8], at: usize) -> usize
     ensures { λ r. ⌜ After (now (t .entry)) at r ⌝ }
 {
     if at < t.len() { at + 1 } else { t.len() }
-}
-
-// Where the text at `at` ends.
-fn text_end(t: &[u8], at: usize) -> usize
-    ensures { λ r. ⌜ r ≡ at + length (textAt (now (t .entry)) at) ⌝ }
-{
-    let mut e = at;
-    while e < t.len() {
-        if t[e] == END {
-            return e;
-        }
-        e += 1;
-    }
-    e
 }
 
 // Behind the text at `at` and its end.

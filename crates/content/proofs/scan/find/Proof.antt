@@ -1,21 +1,20 @@
 -- `content::scan::find` meets its contract.
-use Rattle.content.proofs.Scanning.{until-none, until-here, until-on}
+use Rattle.content.proofs.Scanning.{until-none}
 use Rattle.content.specs.Scan.{until}
 use lib.ListN.{length, drop}
 use lib.Dec.{eqb}
-use borrow.Author.Tests.{eq-eqb, ne-eqb}
 use native.Mathlib.Omega.{arith}
-use mathlib.Core.Path.{_≡_, refl}
+use mathlib.Core.Path.{_≡_, _∙_}
 use Prim.Native.Nat.{_+_, _-_}
 use borrow.Author.Needs.{needs}
 use Rattle.content.proofs.scan.find.Statement.{statement}
 use Rattle.content.proofs.scan.find.Tie as tie
 
 abbrev Inv-loop : tie.InvT-loop
-Inv-loop s at b i₀ i = i + length (until (λ c. eqb c b) (drop i s)) ≡ at + length (until (λ c. eqb c b) (drop at s))
+Inv-loop s at b n i₀ i = i + length (until (λ c. eqb c b) (drop i s)) ≡ at + length (until (λ c. eqb c b) (drop at s))
 
 abbrev μ-loop : tie.MeasureT-loop
-μ-loop s at b i₀ i = length s - i
+μ-loop s at b n i₀ i = length s - i
 
 past-blocks-requires : tie.Need-past-blocks-requires Inv-loop μ-loop
 past-blocks-requires c κs = search needs
@@ -23,23 +22,32 @@ past-blocks-requires c κs = search needs
 loop-holds : tie.Need-loop-holds Inv-loop μ-loop
 loop-holds c = c .past-blocks .ensures
 
-shared-slice-read-if1 : tie.Need-shared-slice-read-if1 Inv-loop μ-loop
-shared-slice-read-if1 c = search needs
+sub-if1 : tie.Need-sub-if1 Inv-loop μ-loop
+sub-if1 c = search needs
+
+find-last-requires : tie.Need-find-last-requires Inv-loop μ-loop
+find-last-requires c κs = search needs
 
 returns : tie.Need-returns Inv-loop μ-loop
-returns c = omega (arith, until-here (λ x. eqb x (c .before .before .before .before .before .before .args .b)) (c .before .before .before .before .before .before .args .s .now) (c .before .before .before .loop .i) (c .before .before .loop-test .taken) (eq-eqb _ _ (c .if1 .taken)))
+returns c = c .find-last .ensures ∙ c .before .before .before .loop .inv
 
-add-i : tie.Need-add-i Inv-loop μ-loop
-add-i c = search needs
+in-eight-requires : tie.Need-in-eight-requires Inv-loop μ-loop
+in-eight-requires c κs = search needs
 
-loop-less : tie.Need-loop-less Inv-loop μ-loop
-loop-less c = search needs
-
-loop-again : tie.Need-loop-again Inv-loop μ-loop
-loop-again c = omega (arith, until-on (λ x. eqb x (c .before .before .before .before .before .before .args .b)) (c .before .before .before .before .before .before .args .s .now) (c .before .before .before .loop .i) (c .before .before .loop-test .taken) (ne-eqb _ _ (c .if1 .left)))
+add-if2 : tie.Need-add-if2 Inv-loop μ-loop
+add-if2 c = search needs
 
 returns-2 : tie.Need-returns-2 Inv-loop μ-loop
-returns-2 c = omega (arith, until-none (λ x. eqb x (c .before .before .before .before .args .b)) (c .before .before .before .before .args .s .now) (c .before .loop .i) (c .loop-test .left))
+returns-2 c = let f = c .before .in-eight .ensures in omega (arith, f .is, f .ends (c .if2 .taken))
+
+loop-less : tie.Need-loop-less Inv-loop μ-loop
+loop-less c = let f = c .before .in-eight .ensures in omega (arith, f .low, f .high)
+
+loop-again : tie.Need-loop-again Inv-loop μ-loop
+loop-again c = c .before .in-eight .ensures .is ∙ c .before .before .before .before .loop .inv
+
+returns-3 : tie.Need-returns-3 Inv-loop μ-loop
+returns-3 c = omega (arith, until-none (λ x. eqb x (c .before .before .before .before .args .b)) (c .before .before .before .before .args .s .now) (c .before .loop .i) (c .loop-test .left))
 
 pub find-spec : {M : Type 1} → statement M
 find-spec =
@@ -49,9 +57,12 @@ find-spec =
     μ-loop
     past-blocks-requires
     loop-holds
-    shared-slice-read-if1
+    sub-if1
+    find-last-requires
     returns
-    add-i
+    in-eight-requires
+    add-if2
+    returns-2
     loop-less
     loop-again
-    returns-2)
+    returns-3)

@@ -1,37 +1,35 @@
 -- `content::scan::next_bare` meets its contract.
-use lib.ListN.{length, drop}
-use lib.Dec.{eqb}
-use native.Mathlib.Omega.{arith}
-use mathlib.Core.Bool.{false}
+use Prim.Native.Nat.{_+_, _-_, _≤_}
 use mathlib.Core.Path.{_≡_, refl, sym, _∙_}
-use Prim.Native.Nat.{_+_, _-_}
+use mathlib.Core.Bool.{false}
+use native.Mathlib.Omega.{arith}
+use lib.Dec.{eqb}
+use lib.ListN.{length, drop}
+use borrow.Author.Tests.{ne-eqb}
 use borrow.Author.Needs.{needs}
-use Rattle.content.specs.Scan.{untilBare}
 use Rattle.octets.specs.Basics.{_or_}
-use Rattle.content.proofs.Scanning.{bare-none, bare-here, bare-on}
+use Rattle.content.specs.Scan.{untilBare}
+use Rattle.content.proofs.Scanning.{bare-none, bare-here, bare-plain, above-one, above}
 use Rattle.content.proofs.scan.next_bare.Statement.{statement}
 use Rattle.content.proofs.scan.next_bare.Tie as tie
 
 abbrev Inv-loop : tie.InvT-loop
-Inv-loop s at a b i₀ quoted₀ i quoted = i + length (untilBare (λ c. eqb c a or eqb c b) quoted (drop i s)) ≡ at + length (untilBare (λ c. eqb c a or eqb c b) false (drop at s))
+Inv-loop s at a b most i₀ i = (a ≤ most) × (b ≤ most) × (34 ≤ most) × (i + length (untilBare (λ c. eqb c a or eqb c b) false (drop i s)) ≡ at + length (untilBare (λ c. eqb c a or eqb c b) false (drop at s)))
 
 abbrev μ-loop : tie.MeasureT-loop
-μ-loop s at a b i₀ quoted₀ i quoted = length s - i
+μ-loop s at a b most i₀ i = length s - i
+
+greater-requires : tie.Need-greater-requires Inv-loop μ-loop
+greater-requires c κs = search needs
+
+greater-requires-2 : tie.Need-greater-requires-2 Inv-loop μ-loop
+greater-requires-2 c κs = search needs
 
 loop-holds : tie.Need-loop-holds Inv-loop μ-loop
-loop-holds c = refl
+loop-holds c = (omega arith, omega arith, omega arith, refl)
 
 shared-slice-read-c : tie.Need-shared-slice-read-c Inv-loop μ-loop
 shared-slice-read-c c = search needs
-
-is-bare-requires : tie.Need-is-bare-requires Inv-loop μ-loop
-is-bare-requires c κs = search needs
-
-returns : tie.Need-returns Inv-loop μ-loop
-returns c = omega (arith, bare-here (λ x. eqb x (c .before .before .before .before .before .before .args .a) or eqb x (c .before .before .before .before .before .before .args .b)) (c .before .before .before .before .before .before .args .s .now) (c .before .before .before .before .loop .i) (c .before .before .before .before .loop .quoted) (c .before .before .before .loop-test .taken) (sym (c .before .is-bare .ensures) ∙ c .if1 .taken))
-
-quote-after-requires : tie.Need-quote-after-requires Inv-loop μ-loop
-quote-after-requires c κs = search needs
 
 add-i : tie.Need-add-i Inv-loop μ-loop
 add-i c = search needs
@@ -40,10 +38,43 @@ loop-less : tie.Need-loop-less Inv-loop μ-loop
 loop-less c = search needs
 
 loop-again : tie.Need-loop-again Inv-loop μ-loop
-loop-again c = rw (c .quote-after .ensures) (omega (arith, bare-on (λ x. eqb x (c .before .before .before .before .before .before .before .args .a) or eqb x (c .before .before .before .before .before .before .before .args .b)) (c .before .before .before .before .before .before .before .args .s .now) (c .before .before .before .before .before .loop .i) (c .before .before .before .before .before .loop .quoted) (c .before .before .before .before .loop-test .taken) (sym (c .before .before .is-bare .ensures) ∙ c .before .if1 .left)))
+loop-again c =
+    let l = c .before .before .before .loop in
+    let p = c .before .before .before .before .before .before .before .args in
+    (l .inv .0, l .inv .1, l .inv .2, omega (arith, bare-plain (λ x. eqb x (p .a) or eqb x (p .b)) (p .s .now) (l .i) (c .before .before .loop-test .taken) (above _ (p .a) (p .b) _ (l .inv .0) (l .inv .1) (c .if1 .taken)) (above-one _ 34 _ (l .inv .2) (c .if1 .taken)), l .inv .3))
+
+is-bare-requires : tie.Need-is-bare-requires Inv-loop μ-loop
+is-bare-requires c κs = search needs
+
+returns : tie.Need-returns Inv-loop μ-loop
+returns c =
+    let l = c .before .before .before .before .before .loop in
+    let p = c .before .before .before .before .before .before .before .before .before .args in
+    omega (arith, bare-here (λ x. eqb x (p .a) or eqb x (p .b)) (p .s .now) (l .i) false (c .before .before .before .before .loop-test .taken) (sym (c .before .is-bare .ensures) ∙ c .if2 .taken), l .inv .3)
+
+next-past-quotes-requires : tie.Need-next-past-quotes-requires Inv-loop μ-loop
+next-past-quotes-requires c κs = search needs
 
 returns-2 : tie.Need-returns-2 Inv-loop μ-loop
-returns-2 c = omega (arith, bare-none (λ x. eqb x (c .before .before .before .args .a) or eqb x (c .before .before .before .args .b)) (c .before .before .before .args .s .now) (c .before .loop .i) (c .before .loop .quoted) (c .loop-test .left))
+returns-2 c = c .next-past-quotes .ensures ∙ c .before .before .before .before .before .before .before .loop .inv .3
+
+add-i-2 : tie.Need-add-i-2 Inv-loop μ-loop
+add-i-2 c = search needs
+
+loop-less-2 : tie.Need-loop-less-2 Inv-loop μ-loop
+loop-less-2 c = search needs
+
+loop-again-2 : tie.Need-loop-again-2 Inv-loop μ-loop
+loop-again-2 c =
+    let l = c .before .before .before .before .before .before .loop in
+    let p = c .before .before .before .before .before .before .before .before .before .before .args in
+    (l .inv .0, l .inv .1, l .inv .2, omega (arith, bare-plain (λ x. eqb x (p .a) or eqb x (p .b)) (p .s .now) (l .i) (c .before .before .before .before .before .loop-test .taken) (sym (c .before .before .is-bare .ensures) ∙ c .before .if2 .left) (ne-eqb _ 34 (c .if3 .left)), l .inv .3))
+
+returns-3 : tie.Need-returns-3 Inv-loop μ-loop
+returns-3 c =
+    let l = c .before .loop in
+    let p = c .before .before .before .before .before .args in
+    omega (arith, bare-none (λ x. eqb x (p .a) or eqb x (p .b)) (p .s .now) (l .i) false (c .loop-test .left), l .inv .3)
 
 pub next-bare-spec : {M : Type 1} → statement M
 next-bare-spec =
@@ -51,12 +82,18 @@ next-bare-spec =
     (tie.spec
     Inv-loop
     μ-loop
+    greater-requires
+    greater-requires-2
     loop-holds
     shared-slice-read-c
-    is-bare-requires
-    returns
-    quote-after-requires
     add-i
     loop-less
     loop-again
-    returns-2)
+    is-bare-requires
+    returns
+    next-past-quotes-requires
+    returns-2
+    add-i-2
+    loop-less-2
+    loop-again-2
+    returns-3)

@@ -1,4 +1,4 @@
--- `tape::walking::text_end` meets its contract. The loop's invariant: the text from here on ends where the text at `at` does.
+-- `tape::texts::last_end` meets its contract. The loop's invariant: the text from here on ends where the text at `at` does.
 use Prim.Native.Nat.{_+_, _-_}
 use mathlib.Core.Path.{_≡_, refl, sym, ap, _∙_}
 use native.Mathlib.Omega.{arith}
@@ -6,8 +6,8 @@ use borrow.Author.Needs.{needs}
 use lib.ListN.{length}
 use Rattle.tape.specs.Decode.{textAt}
 use Rattle.tape.proofs.Tags.{read-tag, text-here, text-on, text-past}
-use Rattle.tape.proofs.walking.text_end.Statement.{statement}
-use Rattle.tape.proofs.walking.text_end.Tie as tie
+use Rattle.tape.proofs.texts.last_end.Statement.{statement}
+use Rattle.tape.proofs.texts.last_end.Tie as tie
 
 abbrev Inv-loop : tie.InvT-loop
 Inv-loop t at e₀ e = e + length (textAt t e) ≡ at + length (textAt t at)
@@ -42,5 +42,5 @@ loop-again c =
 returns-2 : tie.Need-returns-2 Inv-loop μ-loop
 returns-2 c = omega (arith, ap length (text-past (c .before .before .args .t .now) (c .before .loop .e) (c .loop-test .left)))
 
-pub text-end-spec : {M : Type 1} → statement M
-text-end-spec = tie.close (tie.spec Inv-loop μ-loop loop-holds shared-slice-read-if1 returns add-e loop-less loop-again returns-2)
+pub last-end-spec : {M : Type 1} → statement M
+last-end-spec = tie.close (tie.spec Inv-loop μ-loop loop-holds shared-slice-read-if1 returns add-e loop-less loop-again returns-2)
