@@ -7,12 +7,14 @@ ghost use Rattle.values.specs.Read.{readValues, listed};
 ghost use Rattle.values.specs.Single.{readOne};
 ghost use Rattle.values.specs.Shown.{oneShown, WroteValues};
 ghost use Rattle.values.specs.Coded.{sortSaid};
+ghost use Rattle.jcalvalues.specs.Attempts.{Attempted};
 ghost use Rattle.jcalvalues.specs.Parts.{commaList};
 use crate::single::holds_one;
 use crate::single::put_one;
 use calendar::parts::find;
 use octets::put;
 use values::Sort;
+use valuetexts::Attempt;
 use valuetexts::count_texts;
 use valuetexts::put_texts;
 
@@ -84,4 +86,14 @@ pub fn put_values(out: &mut [u8], at: usize, sort: Sort, raw: &[u8]) -> usize
         return put_list(out, first, sort, raw);
     }
     put_one(out, first, sort, raw)
+}
+
+// Tests the values of a raw value, and writes each with a comma before it.
+pub fn put_tested(out: &mut [u8], at: usize, sort: Sort, many: bool, raw: &[u8]) -> Attempt
+    ensures { λ r. ⌜ Attempted many (sortSaid sort) (now (raw .entry)) (pen (now (out .entry)) at) (now (out .exit)) r ⌝ }
+{
+    if !holds_values(sort, many, raw) {
+        return Attempt::Invalid;
+    }
+    Attempt::Wrote(put_values(out, at, sort, raw))
 }

@@ -16,6 +16,12 @@ use octets::put;
 use octets::put_all;
 use octets::upper_octet;
 
+// What a writer that tests answers: where the next octet goes, or that the value does not stand.
+pub enum Attempt {
+    Wrote(usize),
+    Invalid,
+}
+
 fn is_run_octet(c: u8) -> bool
     ensures { λ r. ⌜ r ≡ runOctet c ⌝ }
 {

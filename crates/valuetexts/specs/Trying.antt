@@ -1,0 +1,13 @@
+-- What a writer that tests promises.
+use Prim.Native.Nat.{ℕ}
+use mathlib.Core.Path.{_≡_}
+use mathlib.Core.Bool.{Bool, true, false}
+use mathlib.Core.List.{List}
+use Rattle.octets.specs.Pen.{Pen, pen, Wrote}
+use Rattle.valuetexts.specs.declared.Attempt.{Attempt}
+use Rattle.valuetexts.specs.declared.Attempt.the-variants.{Wrote as Done, Invalid}
+
+-- the value stands, and its text is written; or it does not stand, and what is left in the buffer is the code's choice
+abbrev pub Tried : Bool → List ℕ → Pen → List ℕ → Attempt → Type 0
+Tried stands text p out (Done q) = (stands ≡ true) × Wrote p text (pen out q)
+Tried stands text p out Invalid = stands ≡ false
