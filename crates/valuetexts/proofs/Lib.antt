@@ -3,3 +3,4 @@ pub mod Strings
 pub mod Separators
 pub mod Blocks
 pub mod Going
+pub mod Plain

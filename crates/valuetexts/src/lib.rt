@@ -4,7 +4,7 @@ ghost use mathlib.Core.Bool.{false};
 ghost use Prim.Native.Nat.{_≤_};
 ghost use lib.ListN.{length, drop};
 ghost use Rattle.octets.specs.Basics.{_and_, all};
-ghost use Rattle.octets.specs.Classes.{upper};
+ghost use Rattle.octets.specs.Classes.{plainOctet, upper};
 ghost use Rattle.octets.specs.Pen.{pen, Wrote};
 ghost use Rattle.json.specs.Print.{escaped, printString};
 ghost use Rattle.json.specs.Promise.{Run};
@@ -230,6 +230,28 @@ pub fn put_tested_texts(out: &mut [u8], at: usize, s: &[u8], many: bool) -> Atte
             p = put_escaped(out, q, c);
             i = e + 1;
         }
+    }
+    Attempt::Wrote(put(out, p, b'"'))
+}
+
+// Tests that no control character but tab stands there, and writes a string.
+pub fn put_tested_plain(out: &mut [u8], at: usize, s: &[u8]) -> Attempt
+    ensures { λ r. ⌜ Tried (all plainOctet (now (s .entry))) (printString (now (s .entry))) (pen (now (out .entry)) at) (now (out .exit)) r ⌝ }
+{
+    let mut p = put(out, at, b'"');
+    let mut i = 0;
+    while i < s.len() {
+        let e = past_run(s, i);
+        let q = put_all(out, p, &s[i..e]);
+        if e == s.len() {
+            return Attempt::Wrote(put(out, q, b'"'));
+        }
+        let c = s[e];
+        if !is_plain_octet(c) {
+            return Attempt::Invalid;
+        }
+        p = put_escaped(out, q, c);
+        i = e + 1;
     }
     Attempt::Wrote(put(out, p, b'"'))
 }
