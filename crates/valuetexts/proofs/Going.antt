@@ -1,13 +1,13 @@
 -- Texts between bare commas that are tested and written in one loop.
-use Prim.Native.Nat.{ℕ, _+_, _-_, _≤_, _<_}
 use Prim.Native.Char.{code}
-use mathlib.Core.Path.{_≡_, refl, ap, _∙_}
+use Prim.Native.Nat.{ℕ, _+_, _-_, _≤_, _<_}
 use mathlib.Core.Bool.{Bool, true, false}
 use mathlib.Core.List.{List, [], _∷_, _++_}
 use mathlib.Core.Option.{Option, none, some}
+use mathlib.Core.Path.{_≡_, refl, ap, _∙_}
 use native.Mathlib.Omega.{arith}
-use borrow.Author.Tests.{ne-eqb}
 use lib.ListN.{length, take, drop, getD}
+use borrow.Author.Tests.{ne-eqb}
 use Rattle.octets.specs.Basics.{octets}
 use Rattle.octets.specs.Classes.{plainOctet}
 use Rattle.octets.specs.Pen.{Pen, Wrote}
@@ -21,7 +21,7 @@ use Rattle.valuetexts.specs.Trying.{countFits}
 use Rattle.valuetexts.proofs.Separators.{comma-ends, semicolon-ends}
 use Rattle.valuetexts.proofs.TextRuns.{shown-run, shown-end, shown-escape, shown-next, shown-other, texts-filled, count-run, count-end, count-escape, count-wrong, count-next, count-other, count-control, count-octet}
 
--- a text more
+-- one text, none, and one more
 fits-one : (many : Bool) → countFits many 1 ≡ true
 unfolding countFits
 fits-one true = refl

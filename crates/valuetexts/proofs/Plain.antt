@@ -1,11 +1,11 @@
 -- A string of plain octets that is tested and written in one loop.
-use Prim.Native.Nat.{ℕ, _+_, _-_, _≤_, _<_}
 use Prim.Native.Char.{code}
-use mathlib.Core.Path.{_≡_, refl, ap, _∙_}
+use Prim.Native.Nat.{ℕ, _+_, _-_, _≤_, _<_}
 use mathlib.Core.Bool.{true, false}
 use mathlib.Core.List.{List, [], _∷_, _++_}
+use mathlib.Core.Path.{_≡_, refl, ap, _∙_}
 use lib.ListN.{length, take, drop, getD}
-use Rattle.octets.specs.Basics.{_and_, all}
+use Rattle.octets.specs.Basics.{all}
 use Rattle.octets.specs.Classes.{plainOctet}
 use Rattle.octets.specs.Pen.{Pen, Wrote}
 use Rattle.octets.proofs.Cases.{both}

@@ -3,8 +3,8 @@ use Prim.Native.Nat.{_-_}
 use mathlib.Core.Path.{sym, _∙_}
 use native.Mathlib.Omega.{arith}
 use lib.ListN.{length}
-use borrow.Author.Tests.{not-false}
 use borrow.Author.Needs.{needs}
+use borrow.Author.Tests.{not-false}
 use Rattle.json.proofs.Runs.{Passed, passed-none, run-end}
 use Rattle.values.specs.Shown.{runOctet}
 use Rattle.valuetexts.proofs.Blocks.{passed-part, run-on}

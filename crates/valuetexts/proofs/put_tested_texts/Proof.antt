@@ -1,18 +1,18 @@
 -- `valuetexts::put_tested_texts` meets its contract.
 use Prim.Native.Nat.{_+_, _-_, _≤_, _<_}
-use Rattle.octets.proofs.Pen.{then}
+use mathlib.Core.Path.{_≡_, refl, sym, ap, _∙_}
+use native.Mathlib.Omega.{arith}
+use lib.ListN.{length}
+use borrow.Author.Needs.{needs}
+use borrow.Author.Tests.{not-true, not-false}
 use Rattle.octets.specs.Basics.{octets}
 use Rattle.octets.specs.Pen.{pen}
+use Rattle.octets.proofs.Pen.{then}
 use Rattle.values.specs.Shown.{textsShown}
 use Rattle.values.specs.Steps.{isEscape}
 use Rattle.valuetexts.proofs.Going.{Going, going-start, going-run, going-end, going-escape, going-wrong, going-next, going-alone, going-other, going-control, going-octet}
 use Rattle.valuetexts.proofs.put_tested_texts.Statement.{statement}
 use Rattle.valuetexts.proofs.put_tested_texts.Tie as tie
-use borrow.Author.Needs.{needs}
-use borrow.Author.Tests.{not-true, not-false}
-use lib.ListN.{length}
-use mathlib.Core.Path.{_≡_, refl, sym, ap, _∙_}
-use native.Mathlib.Omega.{arith}
 
 abbrev Inv-loop : tie.InvT-loop
 Inv-loop out₀ at s many p₀ i₀ t10 out p i = (i ≤ length s + 1) × (length out ≡ length out₀) × (t10 ≡ octets "\",\"") × Going many s (pen out₀ p₀) (pen out p) i
