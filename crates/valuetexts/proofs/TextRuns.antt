@@ -37,11 +37,11 @@ module _ (c : ℕ) (h : runOctet c ≡ true) where
   no-tab : eqb c (code "\t") ≡ false
   no-tab = apart runOctet c (code "\t") h (unfold runOctet in refl)
 
-  run-escaped : escaped c ≡ c ∷ []
+  pub run-escaped : escaped c ≡ c ∷ []
   unfolding escaped
   run-escaped = rw (no-quote, no-backslash, no-newline, no-tab)
 
-  run-plain : plainOctet c ≡ true
+  pub run-plain : plainOctet c ≡ true
   unfolding plainOctet isControl
   run-plain =
       let g : (leb 32 c and not (eqb c (code "\"") or eqb c (code ",") or eqb c (code ";") or eqb c (code "\\") or eqb c 127)) ≡ true = unfold runOctet in h in

@@ -1,0 +1,57 @@
+-- A string of plain octets that is tested and written in one loop.
+use Prim.Native.Char.{code}
+use Prim.Native.Nat.{ℕ, _+_, _-_, _≤_, _<_}
+use mathlib.Core.Bool.{true, false}
+use mathlib.Core.List.{List, [], _∷_, _++_}
+use mathlib.Core.Path.{_≡_, refl, ap, _∙_}
+use lib.ListN.{length, take, drop, getD}
+use Rattle.octets.specs.Basics.{all}
+use Rattle.octets.specs.Classes.{plainOctet}
+use Rattle.octets.specs.Pen.{Pen, Wrote}
+use Rattle.octets.proofs.Cases.{both}
+use Rattle.octets.proofs.Pen.{Leads, leads-start, leads-on, leads-last}
+use Rattle.octets.proofs.Positions.{here, ended, part-rest}
+use Rattle.json.specs.Print.{escaped, quoted}
+use Rattle.json.specs.Promise.{Run}
+use Rattle.json.proofs.Runs.{run-passes}
+use Rattle.values.specs.Shown.{runOctet}
+use Rattle.valuetexts.proofs.TextRuns.{run-escaped, run-plain}
+
+-- a run
+quoted-all : (xs ys : List ℕ) → all runOctet xs ≡ true → quoted (xs ++ ys) ≡ xs ++ quoted ys
+unfolding all quoted
+quoted-all [] ys h = refl
+quoted-all (x ∷ xs) ys h = let b = both (runOctet x) (all runOctet xs) h in rw (run-escaped x (b .0), quoted-all xs ys (b .1))
+
+plain-step : (b : ℕ) (s : List ℕ) → runOctet b ≡ true → all plainOctet (b ∷ s) ≡ all plainOctet s
+unfolding all
+plain-step b s h = rw (run-plain b h)
+
+-- s is plain if what lies ahead of i is, and to write that from q on is to write all from p on
+pub record Plainly (s : List ℕ) (p q : Pen) (i : ℕ) : Type 0 where
+  pub holds : all plainOctet s ≡ all plainOctet (drop i s)
+  pub leads : Leads p (quoted s) q (quoted (drop i s))
+
+module _ (s : List ℕ) where
+  pub plainly-start : {p : Pen} → Plainly s p p 0
+  plainly-start = record { holds = refl; leads = leads-start }
+
+  module _ {p q : Pen} {i : ℕ} (g : Plainly s p q i) where
+    pub plainly-run : {e : ℕ} {r : Pen} → Run runOctet s i e → Wrote q (take (e - i) (drop i s)) r → Plainly s p r e
+    plainly-run {e} v w = record {
+      holds = g .holds ∙ run-passes (all plainOctet) plain-step v;
+      leads = leads-on (g .leads) w (ap quoted (part-rest s i e (v .above)) ∙ quoted-all (take (e - i) (drop i s)) (drop e s) (v .inside));
+    }
+
+    pub plainly-end : {r : Pen} → length s ≤ i → Wrote q (code "\"" ∷ []) r → (all plainOctet s ≡ true) × Wrote p (quoted s) r
+    unfolding all quoted
+    plainly-end h w = (g .holds ∙ ap (all plainOctet) (ended s i h), leads-last (g .leads) w (ap quoted (ended s i h)))
+
+    module _ (h : i < length s) where
+      pub plainly-not : plainOctet (getD s i 0) ≡ false → all plainOctet s ≡ false
+      unfolding all
+      plainly-not x = g .holds ∙ rw (here s i h, x)
+
+      pub plainly-octet : {r : Pen} → plainOctet (getD s i 0) ≡ true → Wrote q (escaped (getD s i 0)) r → Plainly s p r (i + 1)
+      unfolding all quoted
+      plainly-octet x w = record { holds = g .holds ∙ rw (here s i h, x); leads = leads-on (g .leads) w (ap quoted (here s i h)) }
