@@ -6,3 +6,4 @@ pub mod OnesShown
 pub mod RecurShown
 pub mod ValuesShown
 pub mod Writing
+pub mod Trying

@@ -2,7 +2,7 @@
 use Prim.Native.Nat.{ℕ, _-_}
 use Prim.Native.Char.{code}
 use mathlib.Core.Path.{_≡_, refl, sym, ap, _∙_}
-use mathlib.Core.Bool.{Bool, true, false}
+use mathlib.Core.Bool.{Bool, true, false, not}
 use mathlib.Core.List.{List, [], _∷_, _++_, append-assoc}
 use mathlib.Core.Option.{Option, none, some}
 use borrow.Author.Tests.{not-true, eqb-true}
@@ -12,6 +12,7 @@ use Rattle.octets.specs.Optional.{isSome, given}
 use Rattle.octets.proofs.Cases.{cases, never, both, neither, apart}
 use Rattle.calendar.specs.Texts.{octetsIn, textSaid, Says}
 use Rattle.calendar.specs.declared.texts.Text.{Text}
+use Rattle.calendar.proofs.Fixed.{says-any}
 use Rattle.json.specs.Tree.{Json, itemsOf}
 use Rattle.json.specs.Print.{escaped, quoted, printString, print, moreItems}
 use Rattle.json.specs.Promise.{bareOctet}
@@ -46,6 +47,10 @@ short-shown t o w = cases (eqb (t .len) 0)
     rw (n, q) (unfold given in refl))
     (λ e. let q : o ≡ some (octetsIn t) = sym (w .text) ∙ unfold textSaid in rw e in
     rw q (unfold given in refl))
+
+-- it says something where it is not empty
+pub short-there : (t : Text) (o : Option (List ℕ)) → Says t o → isSome o ≡ not (eqb (t .len) 0)
+short-there t o w = ap isSome (sym (w .text)) ∙ says-any t
 
 -- the end of a period: a moment, or what stands there in uppercase
 module _ (s : List ℕ) where

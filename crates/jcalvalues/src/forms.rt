@@ -1,9 +1,11 @@
 // Dates, times, offsets and periods, written for jCal.
 ghost use Rattle.octets.specs.Classes.{upper};
+ghost use Rattle.octets.specs.Optional.{isSome};
 ghost use Rattle.octets.specs.Pen.{pen, Wrote};
 ghost use Rattle.calendar.specs.Texts.{formOf, octetsIn};
 ghost use Rattle.json.specs.Print.{printString};
 ghost use Rattle.values.specs.Shown.{stringShown, endShown, periodShown};
+ghost use Rattle.valuetexts.specs.Trying.{Tried};
 use calendar::parts::find;
 use calendar::texts::Form;
 use calendar::texts::Text;
@@ -12,6 +14,7 @@ use calendar::texts::is_basic;
 use json::put_string;
 use octets::put;
 use values::simple::past;
+use valuetexts::Attempt;
 use valuetexts::put_upper_string;
 
 // Writes a short text as a string.
@@ -31,6 +34,17 @@ pub(crate) fn put_form(out: &mut [u8], at: usize, form: Form, s: &[u8]) -> usize
     ensures { λ r. ⌜ Wrote (pen (now (out .entry)) at) (stringShown (formOf form (upper (now (s .entry))))) (pen (now (out .exit)) r) ⌝ }
 {
     put_short(out, at, extended(form, s))
+}
+
+// Tests a text of a fixed form, and writes it in the extended form.
+pub(crate) fn put_tested_form(out: &mut [u8], at: usize, form: Form, s: &[u8]) -> Attempt
+    ensures { λ r. ⌜ Tried (isSome (formOf form (upper (now (s .entry))))) (stringShown (formOf form (upper (now (s .entry))))) (pen (now (out .entry)) at) (now (out .exit)) r ⌝ }
+{
+    let t = extended(form, s);
+    if t.len == 0 {
+        return Attempt::Invalid;
+    }
+    Attempt::Wrote(put_short(out, at, t))
 }
 
 // Writes the end of a period.

@@ -5,4 +5,5 @@ mod recur;
 mod single;
 
 pub use raw::holds_values;
+pub use raw::put_tested;
 pub use raw::put_values;

@@ -7,13 +7,18 @@ ghost use Rattle.values.specs.Read.{readValues, listed};
 ghost use Rattle.values.specs.Single.{readOne};
 ghost use Rattle.values.specs.Shown.{oneShown, WroteValues};
 ghost use Rattle.values.specs.Coded.{sortSaid};
+ghost use Rattle.valuetexts.specs.Trying.{Tried};
+ghost use Rattle.jcalvalues.specs.Attempts.{Attempted};
 ghost use Rattle.jcalvalues.specs.Parts.{commaList};
 use crate::single::holds_one;
 use crate::single::put_one;
+use crate::single::put_tested_one;
 use calendar::parts::find;
 use octets::put;
 use values::Sort;
+use valuetexts::Attempt;
 use valuetexts::count_texts;
+use valuetexts::put_tested_texts;
 use valuetexts::put_texts;
 
 // The values between commas stand, and there is one only where there may not be many.
@@ -84,4 +89,45 @@ pub fn put_values(out: &mut [u8], at: usize, sort: Sort, raw: &[u8]) -> usize
         return put_list(out, first, sort, raw);
     }
     put_one(out, first, sort, raw)
+}
+
+// Tests the values between commas, one only where there may not be many, and writes them with a comma between them.
+fn put_tested_list(out: &mut [u8], at: usize, sort: Sort, many: bool, raw: &[u8]) -> Attempt
+    ensures { λ r. ⌜ Tried (isSome (guard (λ vs. many or single vs) (listed (readOne (sortSaid sort)) (now (raw .entry))))) (commaList (oneShown (sortSaid sort)) (now (raw .entry))) (pen (now (out .entry)) at) (now (out .exit)) r ⌝ }
+{
+    let mut p = at;
+    let mut i = 0;
+    loop {
+        let rest = &raw[i..];
+        let e = find(rest, b',');
+        match put_tested_one(out, p, sort, &rest[0..e]) {
+            Attempt::Invalid => {
+                return Attempt::Invalid;
+            }
+            Attempt::Wrote(q) => {
+                if e >= rest.len() {
+                    return Attempt::Wrote(q);
+                }
+                if !many {
+                    return Attempt::Invalid;
+                }
+                p = put(out, q, b',');
+                i = i + e + 1;
+            }
+        }
+    }
+}
+
+// Tests the values of a raw value, and writes each with a comma before it.
+pub fn put_tested(out: &mut [u8], at: usize, sort: Sort, many: bool, raw: &[u8]) -> Attempt
+    ensures { λ r. ⌜ Attempted many (sortSaid sort) (now (raw .entry)) (pen (now (out .entry)) at) (now (out .exit)) r ⌝ }
+{
+    let first = put(out, at, b',');
+    if sort.is_text() {
+        return put_tested_texts(out, first, raw, many);
+    }
+    if sort.splits() {
+        return put_tested_list(out, first, sort, many, raw);
+    }
+    put_tested_one(out, first, sort, raw)
 }

@@ -6,8 +6,10 @@ ghost use Rattle.values.specs.Read.{readStatus};
 ghost use Rattle.values.specs.Single.{readOne};
 ghost use Rattle.values.specs.Shown.{statusShown, oneShown};
 ghost use Rattle.values.specs.Coded.{sortSaid};
+ghost use Rattle.valuetexts.specs.Trying.{Tried};
 use crate::forms::put_form;
 use crate::forms::put_period;
+use crate::forms::put_tested_form;
 use crate::recur::put_recur;
 use calendar::durations::is_duration;
 use calendar::rules::is_rule;
@@ -27,6 +29,7 @@ use values::simple::is_period;
 use values::simple::put_boolean;
 use values::simple::put_float;
 use values::simple::put_geo;
+use valuetexts::Attempt;
 use valuetexts::count_fields;
 use valuetexts::put_fields;
 use valuetexts::put_upper_string;
@@ -93,5 +96,23 @@ pub(crate) fn put_one(out: &mut [u8], at: usize, sort: Sort, s: &[u8]) -> usize
         Sort::Status => put_status(out, at, s),
         Sort::Time => put_form(out, at, Form::Time, s),
         Sort::UtcOffset => put_form(out, at, Form::Offset, s),
+    }
+}
+
+// Tests the value and writes it; a date or a time is read once for both.
+pub(crate) fn put_tested_one(out: &mut [u8], at: usize, sort: Sort, s: &[u8]) -> Attempt
+    ensures { λ r. ⌜ Tried (isSome (readOne (sortSaid sort) (now (s .entry)))) (oneShown (sortSaid sort) (now (s .entry))) (pen (now (out .entry)) at) (now (out .exit)) r ⌝ }
+{
+    match sort {
+        Sort::Date => put_tested_form(out, at, Form::Date, s),
+        Sort::DateTime => put_tested_form(out, at, Form::DateTime, s),
+        Sort::Time => put_tested_form(out, at, Form::Time, s),
+        Sort::UtcOffset => put_tested_form(out, at, Form::Offset, s),
+        _ => {
+            if !holds_one(sort, s) {
+                return Attempt::Invalid;
+            }
+            Attempt::Wrote(put_one(out, at, sort, s))
+        }
     }
 }

@@ -1,3 +1,5 @@
 pub mod TextRuns
 pub mod Strings
 pub mod Separators
+pub mod Blocks
+pub mod Going

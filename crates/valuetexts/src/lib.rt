@@ -3,6 +3,7 @@ ghost use mathlib.Core.Path.{_≡_};
 ghost use mathlib.Core.Bool.{false};
 ghost use Prim.Native.Nat.{_≤_};
 ghost use lib.ListN.{length, drop};
+ghost use Rattle.octets.specs.Basics.{_and_, all};
 ghost use Rattle.octets.specs.Classes.{upper};
 ghost use Rattle.octets.specs.Pen.{pen, Wrote};
 ghost use Rattle.json.specs.Print.{escaped, printString};
@@ -10,27 +11,55 @@ ghost use Rattle.json.specs.Promise.{Run};
 ghost use Rattle.values.specs.Texts.{textsFrom, texts, fields};
 ghost use Rattle.values.specs.Shown.{runOctet, escapeShown, textsShown, commaTexts, semicolonTexts};
 ghost use Rattle.values.specs.Steps.{counted, isEscape};
+ghost use Rattle.valuetexts.specs.Trying.{countFits, Tried};
 use octets::is_plain_octet;
 use octets::peek;
 use octets::put;
 use octets::put_all;
 use octets::upper_octet;
 
+// What a writer that tests answers: where the next octet goes, or that the value does not stand.
+pub enum Attempt {
+    Wrote(usize),
+    Invalid,
+}
+
+// Octets that are looked at together.
+const BLOCK: usize = 16;
+
+// Both, with no branch.
+fn both(a: bool, b: bool) -> bool
+    ensures { λ r. ⌜ r ≡ (a and b) ⌝ }
+{
+    if a { b } else { false }
+}
+
+// Comparisons with no branch between them, so that many octets are looked at together.
 fn is_run_octet(c: u8) -> bool
     ensures { λ r. ⌜ r ≡ runOctet c ⌝ }
 {
-    match c {
-        b'"' => false,
-        b',' => false,
-        b';' => false,
-        b'\\' => false,
-        127 => false,
-        _ => 32 <= c,
-    }
+    let quote = both(32 <= c, c != b'"');
+    let comma = both(quote, c != b',');
+    let semicolon = both(comma, c != b';');
+    let backslash = both(semicolon, c != b'\\');
+    both(backslash, c != 127)
 }
 
-// The end of the run at `at`.
-fn past_run(s: &[u8], at: usize) -> usize
+// Each octet may stand in a run. The loop has no way out on the way.
+fn all_run(s: &[u8]) -> bool
+    ensures { λ r. ⌜ r ≡ all runOctet (now (s .entry)) ⌝ }
+{
+    let mut so_far = true;
+    let mut i = 0;
+    while i < s.len() {
+        so_far = both(so_far, is_run_octet(s[i]));
+        i += 1;
+    }
+    so_far
+}
+
+// The end of the run at `at`, octet by octet.
+fn past_octets(s: &[u8], at: usize) -> usize
     requires { ⌜ at ≤ length (now s) ⌝ }
     ensures { λ r. ⌜ Run runOctet (now (s .entry)) at r ⌝ }
 {
@@ -40,6 +69,25 @@ fn past_run(s: &[u8], at: usize) -> usize
             return i;
         }
         i += 1;
+    }
+    i
+}
+
+// The end of the run at `at`: whole blocks first.
+fn past_run(s: &[u8], at: usize) -> usize
+    requires { ⌜ at ≤ length (now s) ⌝ }
+    ensures { λ r. ⌜ Run runOctet (now (s .entry)) at r ⌝ }
+{
+    let n = s.len();
+    let mut i = at;
+    while i < n {
+        if n - i < BLOCK {
+            return past_octets(s, i);
+        }
+        if !all_run(&s[i..i + BLOCK]) {
+            return past_octets(s, i);
+        }
+        i += BLOCK;
     }
     i
 }
@@ -145,6 +193,45 @@ fn put_between(out: &mut [u8], at: usize, s: &[u8], sep: u8) -> usize
         }
     }
     put(out, p, b'"')
+}
+
+// Tests the texts between the bare commas, one only where there may not be many, and writes them.
+pub fn put_tested_texts(out: &mut [u8], at: usize, s: &[u8], many: bool) -> Attempt
+    ensures { λ r. ⌜ Tried (countFits many (counted (texts (now (s .entry))))) (commaTexts (now (s .entry))) (pen (now (out .entry)) at) (now (out .exit)) r ⌝ }
+{
+    let mut p = put(out, at, b'"');
+    let mut i = 0;
+    while i < s.len() {
+        let e = past_run(s, i);
+        let q = put_all(out, p, &s[i..e]);
+        if e == s.len() {
+            return Attempt::Wrote(put(out, q, b'"'));
+        }
+        let c = s[e];
+        if c == b'\\' {
+            if !is_escape(peek(s, e + 1)) {
+                return Attempt::Invalid;
+            }
+            p = put_escape(out, q, s, e + 1);
+            i = e + 2;
+        } else if c == b',' {
+            if !many {
+                return Attempt::Invalid;
+            }
+            p = put_all(out, q, b"\",\"");
+            i = e + 1;
+        } else {
+            if c == b';' {
+                return Attempt::Invalid;
+            }
+            if !is_plain_octet(c) {
+                return Attempt::Invalid;
+            }
+            p = put_escaped(out, q, c);
+            i = e + 1;
+        }
+    }
+    Attempt::Wrote(put(out, p, b'"'))
 }
 
 // How many texts stand between the bare commas; 0 where one is no text.

@@ -1,34 +1,45 @@
 -- `valuetexts::is_run_octet` meets its contract.
-use mathlib.Core.Path.{sym}
-use borrow.Author.Tests.{ne-eqb}
-use Rattle.octets.proofs.Cases.{and-true-right}
+use Prim.Native.Nat.{ℕ}
+use Prim.Native.Char.{code}
+use mathlib.Core.Path.{_≡_, refl, _∙_}
+use mathlib.Core.Bool.{Bool, true, false, not}
+use lib.Dec.{eqb, leb}
+use borrow.Author.Needs.{needs}
+use Rattle.octets.specs.Basics.{_and_, _or_}
 use Rattle.values.specs.Shown.{runOctet}
 use Rattle.valuetexts.proofs.is_run_octet.Statement.{statement}
 use Rattle.valuetexts.proofs.is_run_octet.Tie as tie
 
+-- neither of two
+none-of : (l a b : Bool) → ((l and not a) and not b) ≡ (l and not (a or b))
+none-of true true b = refl
+none-of true false b = refl
+none-of false a b = refl
+
+compared : (c : ℕ)
+    → (((((leb 32 c and not (eqb c (code "\""))) and not (eqb c (code ","))) and not (eqb c (code ";"))) and not (eqb c (code "\\"))) and not (eqb c 127)) ≡ runOctet c
+unfolding runOctet
+compared c =
+    let quote = eqb c (code "\"") in
+    let comma = eqb c (code ",") in
+    let semicolon = eqb c (code ";") in
+    let backslash = eqb c (code "\\") in
+    let delete = eqb c 127 in
+    none-of (((leb 32 c and not quote) and not comma) and not semicolon) backslash delete
+    ∙ none-of ((leb 32 c and not quote) and not comma) semicolon (backslash or delete)
+    ∙ none-of (leb 32 c and not quote) comma (semicolon or backslash or delete)
+    ∙ none-of (leb 32 c) quote (comma or semicolon or backslash or delete)
+
 returns : tie.Need-returns
-unfolding runOctet
-returns c = rw (c .match .keys1)
-
-returns-2 : tie.Need-returns-2
-unfolding runOctet
-returns-2 c = rw (c .match .keys2)
-
-returns-3 : tie.Need-returns-3
-unfolding runOctet
-returns-3 c = rw (c .match .keys3)
-
-returns-4 : tie.Need-returns-4
-unfolding runOctet
-returns-4 c = rw (c .match .keys4)
-
-returns-5 : tie.Need-returns-5
-unfolding runOctet
-returns-5 c = rw (c .match .keys5)
-
-returns-6 : tie.Need-returns-6
-unfolding runOctet
-returns-6 c = rw (ne-eqb _ 34 (c .match .rest .0 .0 .0 .0 .1), ne-eqb _ 44 (c .match .rest .0 .0 .0 .1), ne-eqb _ 59 (c .match .rest .0 .0 .1), ne-eqb _ 92 (c .match .rest .0 .1), ne-eqb _ 127 (c .match .rest .1)) (sym (and-true-right _))
+returns c = rw (c .both5 .ensures, c .before .both4 .ensures, c .before .before .both3 .ensures, c .before .before .before .both2 .ensures, c .before .before .before .before .both .ensures) (compared (c .before .before .before .before .before .args .c))
 
 pub is-run-octet-spec : {M : Type 1} → statement M
-is-run-octet-spec = tie.close (tie.spec returns returns-2 returns-3 returns-4 returns-5 returns-6)
+is-run-octet-spec =
+    tie.close
+    (tie.spec
+    (λ c κs. search needs)
+    (λ c κs. search needs)
+    (λ c κs. search needs)
+    (λ c κs. search needs)
+    (λ c κs. search needs)
+    returns)

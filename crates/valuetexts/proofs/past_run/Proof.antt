@@ -1,31 +1,36 @@
 -- `valuetexts::past_run` meets its contract.
 use Prim.Native.Nat.{_-_}
 use mathlib.Core.Path.{sym, _∙_}
+use native.Mathlib.Omega.{arith}
 use lib.ListN.{length}
-use borrow.Author.Tests.{not-true, not-false}
+use borrow.Author.Tests.{not-false}
 use borrow.Author.Needs.{needs}
-use Rattle.json.proofs.Runs.{Passed, passed-none, passed-more, run-over, run-end}
+use Rattle.json.proofs.Runs.{Passed, passed-none, run-end}
 use Rattle.values.specs.Shown.{runOctet}
+use Rattle.valuetexts.proofs.Blocks.{passed-part, run-on}
 use Rattle.valuetexts.proofs.past_run.Statement.{statement}
 use Rattle.valuetexts.proofs.past_run.Tie as tie
 
 abbrev Inv-loop : tie.InvT-loop
-Inv-loop s at i₀ i = Passed runOctet s at i
+Inv-loop s at n i₀ i = Passed runOctet s at i
 
 abbrev μ-loop : tie.MeasureT-loop
-μ-loop s at i₀ i = length s - i
+μ-loop s at n i₀ i = length s - i
 
 loop-holds : tie.Need-loop-holds Inv-loop μ-loop
 loop-holds c = passed-none (c .before .pre)
 
 returns : tie.Need-returns Inv-loop μ-loop
-returns c = run-over (c .before .before .before .before .loop .inv) (sym (c .before .is-run-octet .ensures) ∙ not-true _ (c .if1 .taken))
-
-loop-again : tie.Need-loop-again Inv-loop μ-loop
-loop-again c = passed-more (c .before .before .before .before .loop .inv) (c .before .before .before .loop-test .taken) (sym (c .before .is-run-octet .ensures) ∙ not-false _ (c .if1 .left))
+returns c = run-on (c .before .before .before .loop .inv) (c .past-octets .ensures)
 
 returns-2 : tie.Need-returns-2 Inv-loop μ-loop
-returns-2 c = run-end (c .before .loop .inv) (c .loop-test .left)
+returns-2 c = run-on (c .before .before .before .before .before .before .loop .inv) (c .past-octets2 .ensures)
+
+loop-again : tie.Need-loop-again Inv-loop μ-loop
+loop-again c = passed-part (c .before .before .before .before .before .loop .inv) (omega arith) (omega arith) (sym (c .before .all-run .ensures) ∙ not-false _ (c .if2 .left))
+
+returns-3 : tie.Need-returns-3 Inv-loop μ-loop
+returns-3 c = run-end (c .before .loop .inv) (c .loop-test .left)
 
 pub past-run-spec : {M : Type 1} → statement M
 past-run-spec =
@@ -39,5 +44,12 @@ past-run-spec =
     returns
     (λ c. search needs)
     (λ c. search needs)
+    (λ c. search needs)
+    (λ c. search needs)
+    (λ c κs. search needs)
+    (λ c κs. search needs)
+    returns-2
+    (λ c. search needs)
+    (λ c. search needs)
     loop-again
-    returns-2)
+    returns-3)
