@@ -16,7 +16,7 @@ use Rattle.octets.proofs.Limits.{most-levels}
 use Rattle.content.specs.Line.{Line}
 use Rattle.converter.specs.Tree.{Property, Component, component, leaf, grow, levels, levelsIn}
 use Rattle.converter.specs.Structure.{Event, begins, ends, holds, stray, Nest, fresh, closed, inside, fault, left, nest, nestAfter}
-use Rattle.jcal.specs.Walk.{levelAt, componentAt}
+use Rattle.jcal.specs.Walk.{behindEnd, levelAt, componentAt}
 use Rattle.jcal.proofs.Levels.{level-ends, level-left, level-holds, level-passed, level-begins, level-entered}
 
 not-closed {ℓ} : {P : Type ℓ} {k : ℕ} → _≡_ {A = Nest} (fault k) closed → P
@@ -83,19 +83,38 @@ module _ (f : Line → Answer Property) where
   within-levels (holds l ∷ es) n ns h d (suc j) m z e = rw (level-passed f j l es) (within-levels es n ns h d (suc j) m z e)
   within-levels (stray ∷ es) n ns h d j m z e = faulty 5 es h
 
--- lines that pass 5 and 6 begin with a component, and it has at most the levels allowed
+-- nothing stands behind the END of the outermost component
+closed-none : (es : List (Event Line)) → nestAfter closed es ≡ closed → es ≡ []
+unfolding nestAfter nest
+closed-none [] h = refl
+closed-none (begins n ∷ es) h = faulty 5 es h
+closed-none (ends n ∷ es) h = faulty 5 es h
+closed-none (holds l ∷ es) h = faulty 5 es h
+closed-none (stray ∷ es) h = faulty 5 es h
+
+closed-behind : (es : List (Event Line)) (n : List ℕ) (ns : List (List ℕ)) → nestAfter (inside n ns) es ≡ closed → behindEnd (length ns) es ≡ []
+unfolding nestAfter nest left behindEnd
+closed-behind [] n ns h = refl
+closed-behind (begins x ∷ es) n ns h = picked (leb mostLevels (suc (length ns))) 6 (inside x (n ∷ ns)) es h (λ t g. closed-behind es x (n ∷ ns) g)
+closed-behind (ends x ∷ es) n [] h = picked-not (same x n) 5 (left []) es h (λ t g. closed-none es g)
+closed-behind (ends x ∷ es) n (y ∷ ns) h = picked-not (same x n) 5 (left (y ∷ ns)) es h (λ t g. closed-behind es y ns g)
+closed-behind (holds l ∷ es) n ns h = closed-behind es n ns h
+closed-behind (stray ∷ es) n ns h = faulty 5 es h
+
+-- lines that pass 5 and 6 begin with a component, which has at most the levels allowed, and are its lines alone
 pub record Passes (f : Line → Answer Property) (es : List (Event Line)) : Type 0 where
   pub name : List ℕ
   pub body : List (Event Line)
   pub begun : es ≡ begins name ∷ body
   pub few : levels (componentAt f name body) ≤ mostLevels
+  pub alone : behindEnd 0 body ≡ []
 
 pub passes : (f : Line → Answer Property) (es : List (Event Line)) → nestAfter fresh es ≡ closed → Passes f es
 unfolding nestAfter nest levels componentAt
 passes f [] h = not-fresh h
 passes f (begins n ∷ es) h = picked-not (same n (octets "vcalendar")) 5 (inside n []) es h (λ t g.
     let a = within-levels f es n [] g (rw most-levels (omega arith)) 0 1 (omega arith) refl in
-    record { name = n; body = es; begun = refl; few = omega (arith, a) })
+    record { name = n; body = es; begun = refl; few = omega (arith, a); alone = closed-behind es n [] g })
 passes f (ends n ∷ es) h = faulty 5 es h
 passes f (holds l ∷ es) h = faulty 5 es h
 passes f (stray ∷ es) h = faulty 5 es h

@@ -1,8 +1,10 @@
 -- The component that the lines from a place on make, line by line.
-use Prim.Native.Nat.{ℕ, zero, suc, _+_}
+use Prim.Native.Nat.{ℕ, zero, suc, max, _+_, _-_, _≤_}
 use mathlib.Core.Path.{_≡_, refl, sym, ap, _∙_}
 use mathlib.Core.Bool.{Bool, true, false}
 use mathlib.Core.List.{List, [], _∷_, _++_, map, append-assoc}
+use native.Mathlib.Nat.{le-max-left, le-max-right}
+use native.Mathlib.Omega.{arith}
 use Rattle.octets.specs.Basics.{octets, _and_, all}
 use Rattle.octets.specs.Answers.{Answer, refused, accepted}
 use Rattle.octets.proofs.Cases.{never, both}
@@ -10,7 +12,7 @@ use Rattle.octets.proofs.Answers.{not-accepted, accepted-same, then-accepted}
 use Rattle.json.specs.Tree.{Json, Items, noItems, item, itemsOf}
 use Rattle.json.specs.Print.{print, firstItem, moreItems, printString}
 use Rattle.content.specs.Line.{Line}
-use Rattle.converter.specs.Tree.{Property, component, leaf, grow}
+use Rattle.converter.specs.Tree.{Property, component, leaf, grow, levels, levelsIn}
 use Rattle.converter.specs.Structure.{Event, begins, ends, holds, stray}
 use Rattle.converter.specs.Growth.{behindEvent, eachProperty, Level, level, innermost, around, withProperty, withComponent, levelsFrom, outermost, treeOf}
 use Rattle.converter.specs.Jcal.{propertyJson, jcalOf, jcalsOf}
@@ -64,6 +66,26 @@ module _ (f : Line → Answer Property) where
   level-behind k (holds l ∷ es) = level-passed k l es ∙ level-behind k es
   level-behind k (stray ∷ es) = level-stray (suc k) es ∙ level-behind k es
 
+  -- the levels of a sub-component, and of what stands behind it
+  pub few-opens : (left : ℕ) (n : List ℕ) (es : List (Event Line)) → suc (levelsIn ((levelAt f 0 (begins n ∷ es)) .subs)) ≤ left
+      → (suc (levelsIn ((levelAt f 0 es) .subs)) ≤ left - 1) × (1 ≤ left) × (suc (levelsIn ((levelAt f 0 (behindEnd 0 es)) .subs)) ≤ left)
+  unfolding levelsIn levels componentAt
+  few-opens left n es h =
+      let a = suc (levelsIn ((levelAt f 0 es) .subs)) in
+      let b = levelsIn ((levelAt f 1 es) .subs) in
+      let m : suc (max a b) ≤ left = rw (level-begins n es) at h in
+      (omega (arith, le-max-left a b), omega arith, rw (← level-behind 0 es) (omega (arith, le-max-right a b)))
+
+  -- behind the END of a component within
+  pub behind-within : (k : ℕ) (es : List (Event Line)) → behindEnd (suc k) es ≡ behindEnd 0 (behindEnd k es)
+  unfolding behindEnd
+  behind-within k [] = refl
+  behind-within k (begins n ∷ es) = behind-within (suc k) es
+  behind-within zero (ends n ∷ es) = refl
+  behind-within (suc k) (ends n ∷ es) = behind-within k es
+  behind-within k (holds l ∷ es) = behind-within k es
+  behind-within k (stray ∷ es) = behind-within k es
+
   -- properties that are accepted stay so
   pub reads-behind : (k : ℕ) (es : List (Event Line)) → all (reads f) es ≡ true → all (reads f) (behindEnd k es) ≡ true
   unfolding behindEnd all reads
@@ -75,7 +97,7 @@ module _ (f : Line → Answer Property) where
   reads-behind k (stray ∷ es) h = reads-behind k es h
 
 -- items one by one
-listed-none : (first : Bool) → listed first noItems ≡ octets "]"
+pub listed-none : (first : Bool) → listed first noItems ≡ octets "]"
 unfolding listed firstItem moreItems
 listed-none true = refl
 listed-none false = refl

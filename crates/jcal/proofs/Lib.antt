@@ -3,7 +3,9 @@ pub mod Telling
 pub mod Stacks
 pub mod Levels
 pub mod Depths
+pub mod Order
 pub mod Walking
 pub mod Subcomponents
 pub mod Turns
+pub mod Bodies
 pub mod Stages

@@ -24,14 +24,13 @@ use Rattle.content.proofs.Scanning.{scan-is}
 use Rattle.content.proofs.Buffer.{line-here, lines-none}
 use Rattle.content.proofs.Walking.{same-lower}
 use Rattle.converter.specs.Structure.{Event, begins, ends, holds, stray, fresh, closed, inside, fault, left, nest, nestAfter, verdict}
-use Rattle.jcal.specs.Events.{eventAt, eventsIn, lineFrom, LineAt, nameFrom, told, Tells}
-use Rattle.jcal.specs.Nesting.{stack, inner, nestOf, aroundOf, Nests, Judged}
+use Rattle.jcal.specs.Events.{eventAt, eventsIn, lineFrom, LineAt, nameFrom, told, Named, Tells}
+use Rattle.jcal.specs.Nesting.{stack, inner, nestOf, aroundOf, NestsBehind, paired, Judged}
 use Rattle.jcal.specs.declared.events.Kind.{Kind}
 use Rattle.jcal.specs.declared.events.Kind.the-variants.{Opens, Closes, Plain, Broken}
 use Rattle.jcal.specs.declared.nesting.Nesting.{Nesting}
 use Rattle.jcal.specs.declared.nesting.Nesting.the-variants.{Unbegun, Within, Complete, Wrong}
-use Rattle.jcalproperties.specs.declared.Tested.the-variants.{Passed, Failed}
-use Rattle.jcalproperties.specs.Passed.{passed}
+use Rattle.jcal.specs.declared.nesting.Structure.the-variants.{Paired, Failed}
 use Rattle.jcal.proofs.Telling.{line-is}
 
 -- a name is nothing where it has no octets
@@ -80,75 +79,73 @@ Else Plain = Unit {0}
 Else Broken = Unit {0}
 
 -- what a line makes of the open components
-module _ (s xs : List ℕ) (room : length xs ≡ mostLevels) (i e : ℕ) where
-  abbrev ev : Event Line
-  ev = eventAt (lineFrom s i)
-
-  pub first-else : (k : Kind) → Else k → Tells s i e k → Nests s xs (nest fresh ev) (Wrong NotPaired)
+module _ (s xs : List ℕ) (room : length xs ≡ mostLevels) where
+  pub first-else : (k : Kind) → Else k → NestsBehind s xs fresh k (Wrong NotPaired)
   unfolding nestOf nest told
-  first-else (Opens n) f t = absurd f
-  first-else (Closes n) f t = record { is = rw (← t .is); few = few 0 (omega arith); room = room }
-  first-else Plain f t = record { is = rw (← t .is); few = few 0 (omega arith); room = room }
-  first-else Broken f t = record { is = rw (← t .is); few = few 0 (omega arith); room = room }
+  first-else (Opens n) f i = absurd f
+  first-else (Closes n) f i = record { is = refl; few = few 0 (omega arith); room = room }
+  first-else Plain f i = record { is = refl; few = few 0 (omega arith); room = room }
+  first-else Broken f i = record { is = refl; few = few 0 (omega arith); room = room }
 
-  module _ (at : ℕ) (t : Tells s i e (Opens at)) where
+  module _ (at e : ℕ) (t : Named s at e) where
     vcalendar-is : (b : Bool) → sameName (take (e - at) (drop at s)) (octets "VCALENDAR") ≡ b → same (nameFrom s at) (octets "vcalendar") ≡ b
     unfolding lower lowerOctet isUpper between
     vcalendar-is b q = ap (λ (n : List ℕ). same n (octets "vcalendar")) (sym (name-part s at e (t .ends))) ∙ sym (same-lower (take (e - at) (drop at s)) (octets "VCALENDAR")) ∙ q
 
-    pub first-opens : sameName (take (e - at) (drop at s)) (octets "VCALENDAR") ≡ true → Nests s (set xs 0 at) (nest fresh ev) (Within 0)
+    pub first-opens : sameName (take (e - at) (drop at s)) (octets "VCALENDAR") ≡ true → NestsBehind s (set xs 0 at) fresh (Opens at) (Within 0)
     unfolding nestOf inner stack nest told
-    first-opens q =
-        record { is = rw (← t .is, vcalendar-is true q, getD-set-same xs 0 at 0 (omega (arith, most-levels))); few = few 0 (omega arith); room = rw length-set room }
+    first-opens q i =
+        record { is = rw (vcalendar-is true q, getD-set-same xs 0 at 0 (omega (arith, most-levels))); few = few 0 (omega arith); room = rw length-set room }
 
-    pub first-other : sameName (take (e - at) (drop at s)) (octets "VCALENDAR") ≡ false → Nests s xs (nest fresh ev) (Wrong NotPaired)
+    pub first-other : sameName (take (e - at) (drop at s)) (octets "VCALENDAR") ≡ false → NestsBehind s xs fresh (Opens at) (Wrong NotPaired)
     unfolding nestOf nest told
-    first-other q = record { is = rw (← t .is, vcalendar-is false q); few = few 0 (omega arith); room = room }
+    first-other q i = record { is = rw (vcalendar-is false q); few = few 0 (omega arith); room = room }
 
-    opens-on : (d : ℕ) → leb mostLevels (suc (length (stack s xs d))) ≡ false → nest (inner s xs d) ev ≡ inside (nameFrom s at) (nameFrom s (getD xs d 0) ∷ stack s xs d)
+  module _ (at d : ℕ) where
+    opens-on : (i : ℕ) → leb mostLevels (suc (length (stack s xs d))) ≡ false → nest (inner s xs d) (told s i (Opens at)) ≡ inside (nameFrom s at) (nameFrom s (getD xs d 0) ∷ stack s xs d)
     unfolding inner nest told
-    opens-on d m = rw (← t .is, m)
+    opens-on i m = rw m
 
-    pub inner-opens : (d : ℕ) → d + 1 < 8 → Nests s (set xs (d + 1) at) (nest (inner s xs d) ev) (Within (d + 1))
+    pub inner-opens : d + 1 < 8 → NestsBehind s (set xs (d + 1) at) (inner s xs d) (Opens at) (Within (d + 1))
     unfolding nestOf
-    inner-opens d h =
+    inner-opens h i =
         let m : leb mostLevels (suc (length (stack s xs d))) ≡ false = rw (stack-length s xs d, most-levels) (lt-leb 8 (suc d) (omega arith)) in
-        record { is = inner-set s xs d at (omega (arith, most-levels)) ∙ sym (opens-on d m); few = few (d + 1) h; room = rw length-set room }
+        record { is = inner-set s xs d at (omega (arith, most-levels)) ∙ sym (opens-on i m); few = few (d + 1) h; room = rw length-set room }
 
-    pub inner-deep : (d : ℕ) → 8 ≤ d + 1 → Nests s xs (nest (inner s xs d) ev) (Wrong TooDeep)
+    pub inner-deep : 8 ≤ d + 1 → NestsBehind s xs (inner s xs d) (Opens at) (Wrong TooDeep)
     unfolding nestOf inner nest told
-    inner-deep d h =
+    inner-deep h i =
         let m : leb mostLevels (suc (length (stack s xs d))) ≡ true = rw (stack-length s xs d, most-levels) (le-leb 8 (suc d) (omega arith)) in
-        record { is = rw (← t .is, m); few = few 0 (omega arith); room = room }
+        record { is = rw m; few = few 0 (omega arith); room = room }
 
-  module _ (at d : ℕ) (t : Tells s i e (Closes at)) where
+  module _ (at e d : ℕ) (t : Named s at e) where
     closes-is : (b : Bool) → same (lower (take (e - at) (drop at s))) (nameFrom s (getD xs d 0)) ≡ b → same (nameFrom s at) (nameFrom s (getD xs d 0)) ≡ b
     closes-is b q = ap (λ (n : List ℕ). same n (nameFrom s (getD xs d 0))) (sym (name-part s at e (t .ends))) ∙ q
 
-    pub inner-other : same (lower (take (e - at) (drop at s))) (nameFrom s (getD xs d 0)) ≡ false → Nests s xs (nest (inner s xs d) ev) (Wrong NotPaired)
+    pub inner-other : same (lower (take (e - at) (drop at s))) (nameFrom s (getD xs d 0)) ≡ false → NestsBehind s xs (inner s xs d) (Closes at) (Wrong NotPaired)
     unfolding nestOf inner nest told
-    inner-other q = record { is = rw (← t .is, closes-is false q); few = few 0 (omega arith); room = room }
+    inner-other q i = record { is = rw (closes-is false q); few = few 0 (omega arith); room = room }
 
     module _ (q : same (lower (take (e - at) (drop at s))) (nameFrom s (getD xs d 0)) ≡ true) where
-      pub inner-last : d ≡ 0 → Nests s xs (nest (inner s xs d) ev) Complete
+      pub inner-last : d ≡ 0 → NestsBehind s xs (inner s xs d) (Closes at) Complete
       unfolding nestOf inner nest told
-      inner-last z = record { is = rw (← t .is, closes-is true q, z) (unfold left stack in refl); few = few 0 (omega arith); room = room }
+      inner-last z i = record { is = rw (closes-is true q, z) (unfold left stack in refl); few = few 0 (omega arith); room = room }
 
       left-at : (k : ℕ) → d ≡ suc k → left (stack s xs d) ≡ inner s xs k
       unfolding left stack inner
       left-at k z = rw z
 
-      pub inner-closes : (d ≡ 0 → ⊥) → d < mostLevels → Nests s xs (nest (inner s xs d) ev) (Within (d - 1))
+      pub inner-closes : (d ≡ 0 → ⊥) → d < mostLevels → NestsBehind s xs (inner s xs d) (Closes at) (Within (d - 1))
       unfolding nestOf nest told
-      inner-closes z h = record { is = rw (← t .is) (unfold inner in (sym (rw (closes-is true q) (left-at (d - 1) (omega arith))))); few = omega (arith, h); room = room }
+      inner-closes z h i = record { is = unfold inner in (sym (rw (closes-is true q) (left-at (d - 1) (omega arith)))); few = omega (arith, h); room = room }
 
-  pub inner-plain : (d : ℕ) → d < mostLevels → Tells s i e Plain → Nests s xs (nest (inner s xs d) ev) (Within d)
+  pub inner-plain : (d : ℕ) → d < mostLevels → NestsBehind s xs (inner s xs d) Plain (Within d)
   unfolding nestOf inner nest told
-  inner-plain d h t = record { is = rw (← t .is); few = h; room = room }
+  inner-plain d h i = record { is = refl; few = h; room = room }
 
-  pub inner-broken : (d : ℕ) → Tells s i e Broken → Nests s xs (nest (inner s xs d) ev) (Wrong NotPaired)
+  pub inner-broken : (d : ℕ) → NestsBehind s xs (inner s xs d) Broken (Wrong NotPaired)
   unfolding nestOf inner nest told
-  inner-broken d t = record { is = rw (← t .is); few = few 0 (omega arith); room = room }
+  inner-broken d i = record { is = refl; few = few 0 (omega arith); room = room }
 
 -- behind the outermost component, and behind a fault
 nest-closed : (e : Event Line) → nest closed e ≡ fault 5
@@ -165,13 +162,13 @@ nest-fault k (ends m) = refl
 nest-fault k (holds a) = refl
 nest-fault k stray = refl
 
-pub complete-on : (s xs : List ℕ) → length xs ≡ mostLevels → (e : Event Line) → Nests s xs (nest (nestOf s xs Complete) e) (Wrong NotPaired)
+pub complete-on : (s xs : List ℕ) → length xs ≡ mostLevels → (k : Kind) → NestsBehind s xs (nestOf s xs Complete) k (Wrong NotPaired)
 unfolding nestOf
-complete-on s xs room e = record { is = sym (nest-closed e); few = few 0 (omega arith); room = room }
+complete-on s xs room k i = record { is = sym (nest-closed (told s i k)); few = few 0 (omega arith); room = room }
 
-pub wrong-on : (s xs : List ℕ) → length xs ≡ mostLevels → (r : Refusal) (e : Event Line) → Nests s xs (nest (nestOf s xs (Wrong r)) e) (Wrong r)
+pub wrong-on : (s xs : List ℕ) → length xs ≡ mostLevels → (r : Refusal) (k : Kind) → NestsBehind s xs (nestOf s xs (Wrong r)) k (Wrong r)
 unfolding nestOf
-wrong-on s xs room r e = record { is = sym (nest-fault (number r) e); few = few 0 (omega arith); room = room }
+wrong-on s xs room r k i = record { is = sym (nest-fault (number r) (told s i k)); few = few 0 (omega arith); room = room }
 
 -- the events from a line on
 pub events-here : (s : List ℕ) (i e : ℕ) → LineAt s i e → eventsIn (drop i s) ≡ eventAt (lineFrom s i) ∷ eventsIn (drop (e + 1) s)
@@ -182,32 +179,37 @@ pub events-none : (s : List ℕ) (i : ℕ) → length s ≤ i → eventsIn (drop
 unfolding eventsIn
 events-none s i h = rw (lines-none s i h)
 
+-- the events at a line of which is told
+pub events-told : (s : List ℕ) (i e : ℕ) (k : Kind) → LineAt s i e → Tells s i e k → eventsIn (drop i s) ≡ told s i k ∷ eventsIn (drop (e + 1) s)
+events-told s i e k h t = rw (t .is) (events-here s i e h)
+
 -- one line more
-pub nests-on : (s xs ys : List ℕ) (i e : ℕ) (t u : Nesting) → LineAt s i e → Nests s ys (nest (nestOf s xs t) (eventAt (lineFrom s i))) u
+pub nests-on : (s xs ys : List ℕ) (i e : ℕ) (t u : Nesting) (k : Kind) → LineAt s i e → Tells s i e k → NestsBehind s ys (nestOf s xs t) k u
     → nestAfter (nestOf s xs t) (eventsIn (drop i s)) ≡ nestAfter (nestOf s ys u) (eventsIn (drop (e + 1) s))
 unfolding nestAfter
-nests-on s xs ys i e t u h n = rw (events-here s i e h, n .is)
+nests-on s xs ys i e t u k h l n = rw (events-told s i e k h l, n i .is)
 
 pub nests-end : (s xs : List ℕ) (i : ℕ) (t : Nesting) → length s ≤ i → nestAfter (nestOf s xs t) (eventsIn (drop i s)) ≡ nestOf s xs t
 unfolding nestAfter
 nests-end s xs i t h = rw (events-none s i h)
 
 -- the answer behind the last line
-pub judged-unbegun : Judged Unbegun (Failed NotPaired)
-unfolding passed nestOf verdict
-judged-unbegun s xs = refl
+module _ (b : Bool) where
+  pub judged-unbegun : Judged Unbegun b (Failed NotPaired)
+  unfolding paired nestOf verdict
+  judged-unbegun s xs = refl
 
-pub judged-within : (d : ℕ) → Judged (Within d) (Failed NotPaired)
-unfolding passed nestOf inner verdict
-judged-within d s xs = refl
+  pub judged-within : (d : ℕ) → Judged (Within d) b (Failed NotPaired)
+  unfolding paired nestOf inner verdict
+  judged-within d s xs = refl
 
-pub judged-complete : Judged Complete Passed
-unfolding passed nestOf verdict
-judged-complete s xs = refl
+  pub judged-complete : Judged Complete b (Paired b)
+  unfolding paired nestOf verdict
+  judged-complete s xs = refl
 
-pub judged-wrong : (r : Refusal) → Judged (Wrong r) (Failed r)
-unfolding passed nestOf verdict
-judged-wrong r s xs = refl
+  pub judged-wrong : (r : Refusal) → Judged (Wrong r) b (Failed r)
+  unfolding paired nestOf verdict
+  judged-wrong r s xs = refl
 
 -- a nesting under another name
 pub few-as : {t m : Nesting} → aroundOf t < mostLevels → t ≡ m → aroundOf m < mostLevels

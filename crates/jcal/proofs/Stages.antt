@@ -2,14 +2,14 @@
 use Prim.Native.Nat.{ℕ, _+_, _-_, _≤_, _<_}
 use mathlib.Core.Path.{_≡_, refl, sym, ap, _∙_}
 use mathlib.Core.Bool.{Bool, true, false}
-use mathlib.Core.List.{List, [], _∷_}
+use mathlib.Core.List.{List, [], _∷_, _++_}
 use native.Mathlib.Omega.{arith}
 use borrow.Author.Tests.{le-leb, lt-leb}
 use lib.ListN.{length, take, drop}
 use Rattle.octets.specs.Basics.{all}
 use Rattle.octets.specs.Utf8.{clean}
 use Rattle.octets.specs.Limits.{mostText, mostLevels}
-use Rattle.octets.specs.Answers.{Answer, refused, accepted, then, unless, number, outcome}
+use Rattle.octets.specs.Answers.{Answer, refused, accepted, then, unless, number, zeroed, answer, outcome}
 use Rattle.octets.specs.declared.Refusal.{Refusal}
 use Rattle.octets.specs.declared.Converted.{Converted}
 use Rattle.octets.specs.declared.Converted.the-variants.{Written, Refused}
@@ -36,15 +36,26 @@ use Rattle.converter.specs.Jcal.{jcalOf}
 use Rattle.converter.specs.Property.{readProperty}
 use Rattle.converter.specs.ToJcal.{readLinesBy, readLines, reading, toJcal}
 use Rattle.jcal.specs.Events.{eventsIn, lineFrom, LineAt, nameFrom, told, Tells}
-use Rattle.jcal.specs.Walk.{isAccepted, reads, componentAt}
+use Rattle.jcal.specs.Walk.{isAccepted, reads, eachTested, behindEnd, componentAt, nameText, restText}
+use Rattle.jcal.specs.Order.{mayStand, endsHere, orderedFrom, ordered}
 use Rattle.jcal.specs.Stages.{propertiesJcal, eventsJcal, linesJcal}
+use Rattle.jcal.specs.Nesting.{paired}
+use Rattle.jcal.specs.declared.nesting.Structure.{Structure}
+use Rattle.jcal.specs.declared.nesting.Structure.the-variants.{Paired, Failed}
 use Rattle.jcal.specs.declared.events.Kind.the-variants.{Opens, Closes, Plain, Broken}
 use Rattle.jcal.proofs.Levels.{Grown, grown, tree-is}
 use Rattle.jcal.proofs.Depths.{Passes, passes}
-use Rattle.jcal.proofs.Walking.{events-told}
+use Rattle.jcal.proofs.Stacks.{events-told}
+use Rattle.jcal.proofs.Turns.{turn-on, opens-tested}
+use Rattle.jcal.proofs.Bodies.{body-text}
 
 refused-same : {A : Type 0} {m n : ℕ} → _≡_ {A = Answer A} (refused m) (refused n) → m ≡ n
 refused-same e = cc
+
+-- a refusal zeroes whatever stands in the buffer
+pub refused-alike : (n : ℕ) (a b : List ℕ) → length a ≡ length b → answer (refused n) a ≡ answer (refused n) b
+unfolding answer zeroed
+refused-alike n a b e = rw e
 
 -- a refusal stands, whatever comes behind
 then-refused : {A B C : Type 0} (a : Answer A) (g : A → B) (h : A → Answer C) (n : ℕ) → refused n ≡ then a (λ x. accepted (g x)) → refused n ≡ then a h
@@ -74,24 +85,26 @@ verdict-refused closed a b h n e = not-accepted e
 verdict-refused (inside m ms) a b h n e = ap refused (refused-same e)
 verdict-refused (fault k) a b h n e = ap refused (refused-same e)
 
-verdict-closed : {A : Type 0} (s : Nest) (a b : A) → accepted b ≡ verdict s a → s ≡ closed
+verdict-closed : {A : Type 0} (s : Nest) (a b : A) → accepted b ≡ verdict s a → (s ≡ closed) × (b ≡ a)
 unfolding verdict
 verdict-closed fresh a b e = not-accepted (sym e)
-verdict-closed closed a b e = refl
+verdict-closed closed a b e = (refl, accepted-same e)
 verdict-closed (inside m ms) a b e = not-accepted (sym e)
 verdict-closed (fault k) a b e = not-accepted (sym e)
 
-pub structure-passed : (es : List (Event Line)) → accepted tt ≡ verdict (nestAfter fresh es) (tt {0}) → nestAfter fresh es ≡ closed
-structure-passed es e = verdict-closed (nestAfter fresh es) tt tt e
+-- what a returned `Structure` says, where it is known which
+pub structure-passed : {r : Structure} {b : Bool} (es : List (Event Line)) → paired r ≡ verdict (nestAfter fresh es) (ordered es) → r ≡ Paired b → (nestAfter fresh es ≡ closed) × (b ≡ ordered es)
+unfolding paired
+structure-passed {r} {b} es e q = verdict-closed (nestAfter fresh es) (ordered es) b (rw q at e)
 
 module _ (f : Line → Answer Property) (es : List (Event Line)) where
-  pub structure-failed : (n : ℕ) → refused n ≡ verdict (nestAfter fresh es) (tt {0}) → refused n ≡ eventsJcal f es
-  unfolding eventsJcal structured
-  structure-failed n e = verdict-refused (nestAfter fresh es) tt es (propertiesJcal f) n e
+  pub structure-failed : {r : Structure} {w : Refusal} → paired r ≡ verdict (nestAfter fresh es) (ordered es) → r ≡ Failed w → refused (number w) ≡ eventsJcal f es
+  unfolding eventsJcal structured paired
+  structure-failed {r} {w} e q = verdict-refused (nestAfter fresh es) (ordered es) es (propertiesJcal f) (number w) (rw q at e)
 
-  pub paired : nestAfter fresh es ≡ closed → propertiesJcal f es ≡ eventsJcal f es
+  pub pairs : nestAfter fresh es ≡ closed → propertiesJcal f es ≡ eventsJcal f es
   unfolding eventsJcal structured verdict then
-  paired h = rw h
+  pairs h = rw h
 
 -- 3 and 4
 tested-refused : (a b : Bool) (ls : List (List ℕ)) {C : Type 0} (g : Unit {0} → Answer Component) (h : Component → Answer C) (n : ℕ)
@@ -230,6 +243,12 @@ module _ (f : Line → Answer Property) (s : List ℕ) (e : ℕ) (h : LineAt s 0
         let c : begun .body ≡ next = cc in
         rw (← b, ← c) (begun .few)
 
+    calendar-alone : behindEnd 0 next ≡ []
+    calendar-alone =
+        let a : begins (begun .name) ∷ begun .body ≡ begins (nameFrom s n) ∷ next = sym (begun .begun) ∙ first-opens in
+        let c : begun .body ≡ next = cc in
+        rw (← c) (begun .alone)
+
     module _ (q : isAccepted (eachProperty f (eventsIn s)) ≡ true) where
       grows {ℓ} : {P : Type ℓ} → ((ps : List (Event Property)) → eachProperty f (eventsIn s) ≡ accepted ps → Grown f (begins (nameFrom s n) ∷ next) ps → P) → P
       grows k = accepted-is (eachProperty f (eventsIn s)) q (λ ps a. k ps a (grown f (begins (nameFrom s n) ∷ next) ps (rw first-opens at a)))
@@ -241,3 +260,19 @@ module _ (f : Line → Answer Property) (s : List ℕ) (e : ℕ) (h : LineAt s 0
       pub calendar-text : accepted (print (jcalOf (componentAt f (nameFrom s n) next))) ≡ propertiesJcal f (eventsIn s)
       unfolding propertiesJcal then
       calendar-text = grows (λ ps a g. rw (a, tree-is f (nameFrom s n) next ps g))
+
+    -- the properties tested where they are written
+    pub calendar-order : ordered (eventsIn s) ≡ true → ordered next ≡ true
+    unfolding ordered orderedFrom mayStand endsHere
+    calendar-order o = rw first-opens at o
+
+    calendar-tested : eachTested f (eventsIn s) ≡ eachTested f next
+    calendar-tested = turn-on f s 0 e h (opens-tested f s 0 e n t)
+
+    pub calendar-refused : (k : ℕ) → eachTested f next ≡ refused k → refused k ≡ propertiesJcal f (eventsIn s)
+    calendar-refused k r = properties-failed f (eventsIn s) k (sym (calendar-tested ∙ r))
+
+    pub calendar-placed : eachTested f next ≡ eachTested f (behindEnd 0 next) → accepted (nameText (nameFrom s n) ++ restText f false true next) ≡ propertiesJcal f (eventsIn s)
+    calendar-placed r =
+        let a : eachTested f (behindEnd 0 next) ≡ accepted tt = ap (eachTested f) calendar-alone ∙ (unfold eachProperty then in refl) in
+        ap accepted (sym (body-text f (nameFrom s n) next)) ∙ calendar-text (properties-passed f (eventsIn s) (sym (calendar-tested ∙ r ∙ a)))

@@ -1,10 +1,8 @@
 -- The walk over the lines of a component for its sub-components: what each line adds to what is left to write.
-use Prim.Native.Nat.{ℕ, suc, max, _+_, _-_, _≤_}
+use Prim.Native.Nat.{ℕ, suc, _+_, _-_, _≤_}
 use mathlib.Core.Path.{_≡_, refl, sym, ap, _∙_}
 use mathlib.Core.Bool.{Bool, true, false}
 use mathlib.Core.List.{List, [], _∷_, _++_, append-assoc}
-use native.Mathlib.Nat.{le-max-left, le-max-right}
-use native.Mathlib.Omega.{arith}
 use lib.ListN.{length, drop}
 use Rattle.octets.specs.Basics.{octets, all}
 use Rattle.octets.specs.Pen.{Pen, pen, Wrote}
@@ -18,13 +16,11 @@ use Rattle.converter.specs.Structure.{Event, begins, ends, holds, stray}
 use Rattle.converter.specs.Jcal.{jcalOf}
 use Rattle.jcal.specs.Events.{eventsIn, lineFrom, LineAt, nameFrom, told, Tells}
 use Rattle.jcal.specs.Walk.{isAccepted, reads, behindEnd, levelAt, componentAt, comma, propertiesText, subsText, headText}
-use Rattle.jcal.specs.Walked.{Named, Walked}
+use Rattle.jcal.specs.Walked.{Walked}
 use Rattle.jcal.specs.declared.components.Progress.{Progress}
 use Rattle.jcal.specs.declared.events.Kind.the-variants.{Opens, Closes, Plain, Broken}
-use Rattle.jcal.proofs.Stacks.{events-none}
-use Rattle.jcal.proofs.Telling.{line-high}
-use Rattle.jcal.proofs.Levels.{level-begins, level-holds, level-stray, level-behind, reads-behind, component-head, subs-none, subs-stray, subs-ends, subs-holds, subs-begins}
-use Rattle.jcal.proofs.Walking.{events-told}
+use Rattle.jcal.proofs.Stacks.{events-none, events-told}
+use Rattle.jcal.proofs.Levels.{level-holds, level-stray, few-opens, reads-behind, component-head, subs-none, subs-stray, subs-ends, subs-holds, subs-begins}
 
 -- a component up to its sub-components
 pub head-text : (f : Line → Answer Property) (n : List ℕ) (es : List (Event Line))
@@ -32,10 +28,6 @@ pub head-text : (f : Line → Answer Property) (n : List ℕ) (es : List (Event 
 unfolding headText
 head-text f n es =
     ap (λ (r : List ℕ). octets "[" ++ r) (append-assoc (printString n ++ octets ",") (octets "[" ++ propertiesText f true 0 es) (octets ",[") ∙ append-assoc (printString n) (octets ",") (octets "[" ++ (propertiesText f true 0 es ++ octets ",[")))
-
--- the name of a component of which is told
-pub named : (s : List ℕ) (i e n : ℕ) → LineAt s i e → Tells s i e (Opens n) → Named s n e
-named s i e n h t = record { low = t .within; high = line-high s i e h; ends = t .ends }
 
 -- the sub-components from the line at i on, with so many levels left
 pub record Subs (f : Line → Answer Property) (s : List ℕ) (from : ℕ) (p : Pen) (left i : ℕ) (first : Bool) (q : Pen) : Type 0 where
@@ -76,30 +68,27 @@ module _ (f : Line → Answer Property) (s : List ℕ) (from : ℕ) (p : Pen) (l
       unfolding all reads
       sub-accepts = accepts-is (begins (nameFrom s n) ∷ next) opens
 
-      both-few : suc (max (levels sub) (levelsIn ((levelAt f 1 next) .subs))) ≤ left
-      unfolding levelsIn
-      both-few = rw (level-begins f (nameFrom s n) next) at (few-is (begins (nameFrom s n) ∷ next) opens)
+      sub-levels : (levels sub ≤ left - 1) × (1 ≤ left) × (suc (levelsIn ((levelAt f 0 (behindEnd 0 next)) .subs)) ≤ left)
+      unfolding levels componentAt
+      sub-levels = few-opens f left (nameFrom s n) next (few-is (begins (nameFrom s n) ∷ next) opens)
 
       pub sub-few : levels sub ≤ left - 1
-      sub-few = omega (arith, both-few, le-max-left (levels sub) (levelsIn ((levelAt f 1 next) .subs)))
+      sub-few = sub-levels .0
 
       pub left-some : 1 ≤ left
-      left-some = omega (arith, both-few)
+      left-some = sub-levels .1
 
       sub-text : subsText f first (eventsIn (drop i s)) ++ octets "]" ≡ comma first ++ (print (jcalOf sub) ++ (subsText f false (behindEnd 0 next) ++ octets "]"))
       sub-text =
           text-is (begins (nameFrom s n) ∷ next) _ opens (subs-begins f first (nameFrom s n) next)
           ∙ append-assoc (comma first) _ _ ∙ ap (λ (v : List ℕ). comma first ++ v) (append-assoc (print (jcalOf sub)) _ _)
 
-      few-behind : suc (levelsIn ((levelAt f 0 (behindEnd 0 next)) .subs)) ≤ left
-      few-behind = rw (← level-behind f 0 next) (omega (arith, both-few, le-max-right (levels sub) (levelsIn ((levelAt f 1 next) .subs))))
-
       pub sub-goes : (m : Pen) (out : List ℕ) (r : Progress) → Wrote q (comma first) m → Walked s (e + 1) (behindEnd 0 next) m (print (jcalOf sub)) out r
           → Subs f s from p left (r .next) false (pen out (r .at))
       sub-goes m out r w z = record {
         leads = rw (z .rest) (leads-on (leads-on (g .leads) w sub-text) (z .wrote) refl);
         accepts = rw (z .rest) (reads-behind f 0 next sub-accepts);
-        few = rw (z .rest) few-behind;
+        few = rw (z .rest) (sub-levels .2);
       }
 
     -- a property

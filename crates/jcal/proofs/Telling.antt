@@ -14,7 +14,7 @@ use Rattle.content.specs.Scan.{until}
 use Rattle.content.specs.Buffer.{isLf, linesIn}
 use Rattle.content.proofs.Scanning.{scan-is, scan-high, until-le}
 use Rattle.converter.specs.Structure.{Event, begins, ends, holds, stray, bounds, eventOf}
-use Rattle.jcal.specs.Events.{eventAt, lineFrom, LineAt, nameFrom, told, restOf, Tells}
+use Rattle.jcal.specs.Events.{eventAt, lineFrom, LineAt, nameFrom, told, NameOf, restOf, Tells}
 use Rattle.jcal.specs.declared.events.Kind.{Kind}
 use Rattle.jcal.specs.declared.events.Kind.the-variants.{Opens, Closes, Plain, Broken}
 use Rattle.jcal.proofs.Heads.{alike-length, Bound, bound-at}
@@ -42,6 +42,13 @@ module _ (s : List ℕ) (i e : ℕ) (h : LineAt s i e) where
 
   pub line-high : e ≤ length s
   line-high = scan-high isLf s i e (h .ends) (omega (arith, h .within))
+
+  -- the name in a line of which is told
+  pub name-of : (k : Kind) → Tells s i e k → NameOf s e k
+  name-of (Opens n) t = record { low = t .within; high = line-high; ends = t .ends }
+  name-of (Closes n) t = record { low = t .within; high = line-high; ends = t .ends }
+  name-of Plain t = tt
+  name-of Broken t = tt
 
   -- the component's name, behind a name of n octets and a colon
   module _ (n : ℕ) (b : Bound (lineFrom s i) n) where

@@ -13,7 +13,7 @@ use Rattle.jcalproperties.specs.Passed.{passed}
 use Rattle.jcalproperties.specs.declared.Tested.{Tested}
 use Rattle.jcalproperties.specs.declared.Tested.the-variants.{Passed, Failed}
 use Rattle.jcal.specs.Events.{eventAt, eventsIn, lineFrom, LineAt, told, Tells}
-use Rattle.jcal.specs.Walk.{eventTested}
+use Rattle.jcal.specs.Walk.{eventTested, eachTested}
 use Rattle.jcal.specs.declared.events.Kind.the-variants.{Opens, Closes, Plain, Broken}
 use Rattle.jcal.proofs.Stacks.{events-here, events-none}
 
@@ -25,10 +25,6 @@ passed-as e q = rw q at e
 pub failed-as : {r : Tested} {w : Refusal} {a : Answer (Unit {0})} → passed r ≡ a → r ≡ Failed w → refused (number w) ≡ a
 unfolding passed
 failed-as e q = rw q at e
-
--- what the tests of all properties answer
-abbrev pub eachTested : (Line → Answer Property) → List (Event Line) → Answer (Unit {0})
-eachTested f es = then (eachProperty f es) (λ _. accepted tt)
 
 behind-tested : (e : Event Property) (a : Answer (List (Event Property))) → then (behindEvent e a) (λ _. accepted (tt {0})) ≡ then a (λ _. accepted tt)
 unfolding then behindEvent

@@ -20,7 +20,7 @@ use Rattle.jcal.specs.Events.{eventsIn, lineFrom, LineAt, nameFrom, told
 use Rattle.jcal.specs.Walk.{propertyOr, isAccepted, reads, behindEnd, comma, propertiesText}
 use Rattle.jcal.specs.declared.events.Kind.{Kind}
 use Rattle.jcal.specs.declared.events.Kind.the-variants.{Opens, Closes, Plain, Broken}
-use Rattle.jcal.proofs.Stacks.{events-here, events-none}
+use Rattle.jcal.proofs.Stacks.{events-none, events-told}
 use Rattle.jcal.proofs.Levels.{properties-none, properties-stray, properties-ends, properties-left, properties-begins, properties-passed, properties-holds}
 
 -- from the line at i on, with `within` components open
@@ -33,10 +33,6 @@ pub record Going (f : Line → Answer Property) (s : List ℕ) (from : ℕ) (p :
 
 pub going-start : (f : Line → Answer Property) (s : List ℕ) (from : ℕ) (p : Pen) → all (reads f) (eventsIn (drop from s)) ≡ true → Going f s from p from 0 true p
 going-start f s from p h = record { leads = leads-start; behind = refl; accepts = h; few = omega arith; low = omega arith }
-
--- the events at a line of which is told
-pub events-told : (s : List ℕ) (i e : ℕ) (k : Kind) → LineAt s i e → Tells s i e k → eventsIn (drop i s) ≡ told s i k ∷ eventsIn (drop (e + 1) s)
-events-told s i e k h t = rw (t .is) (events-here s i e h)
 
 module _ (f : Line → Answer Property) (s : List ℕ) (from : ℕ) (p : Pen) (i within : ℕ) (first : Bool) (q : Pen) (g : Going f s from p i within first q) where
   module _ (e : ℕ) (h : LineAt s i e) where

@@ -37,6 +37,19 @@ told s i (Closes n) = ends (nameFrom s n)
 told s i Plain = holds (lineOf (lineFrom s i))
 told s i Broken = stray
 
+-- the name of a component stands from n to e, up to the end of its line
+pub record Named (s : List ℕ) (n e : ℕ) : Type 0 where
+  pub low : n ≤ e
+  pub high : e ≤ length s
+  pub ends : e ≡ n + length (until isLf (drop n s))
+
+-- the name in a line that is told of, up to its end
+abbrev pub NameOf : List ℕ → ℕ → Kind → Type 0
+NameOf s e (Opens n) = Named s n e
+NameOf s e (Closes n) = Named s n e
+NameOf s e Plain = Unit {0}
+NameOf s e Broken = Unit {0}
+
 -- where the line goes on that is told of
 abbrev pub restOf : ℕ → Kind → ℕ
 restOf i (Opens n) = n

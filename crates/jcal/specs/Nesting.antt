@@ -1,16 +1,18 @@
 -- The components that are open at a line, by the places of their names: how the code holds what `Nest` is.
 use Prim.Native.Nat.{ℕ, zero, suc, _<_}
 use mathlib.Core.Path.{_≡_}
+use mathlib.Core.Bool.{Bool}
 use mathlib.Core.List.{List, [], _∷_}
 use lib.ListN.{length, getD}
 use Rattle.octets.specs.Limits.{mostLevels}
-use Rattle.octets.specs.Answers.{number}
-use Rattle.jcalproperties.specs.Passed.{passed}
-use Rattle.jcalproperties.specs.declared.Tested.{Tested}
-use Rattle.converter.specs.Structure.{Nest, fresh, closed, inside, fault, verdict}
-use Rattle.jcal.specs.Events.{nameFrom}
+use Rattle.octets.specs.Answers.{Answer, refused, accepted, number}
+use Rattle.converter.specs.Structure.{Nest, fresh, closed, inside, fault, nest, verdict}
+use Rattle.jcal.specs.Events.{nameFrom, told}
+use Rattle.jcal.specs.declared.events.Kind.{Kind}
 use Rattle.jcal.specs.declared.nesting.Nesting.{Nesting}
 use Rattle.jcal.specs.declared.nesting.Nesting.the-variants.{Unbegun, Within, Complete, Wrong}
+use Rattle.jcal.specs.declared.nesting.Structure.{Structure}
+use Rattle.jcal.specs.declared.nesting.Structure.the-variants.{Paired, Failed}
 
 -- the names at the first d places, the last one first
 unfoldable pub stack : List ℕ → List ℕ → ℕ → List (List ℕ)
@@ -39,6 +41,15 @@ pub record Nests (s xs : List ℕ) (n : Nest) (t : Nesting) : Type 0 where
   pub few : aroundOf t < mostLevels
   pub room : length xs ≡ mostLevels
 
+-- behind a line that is told of, wherever it begins
+abbrev pub NestsBehind : List ℕ → List ℕ → Nest → Kind → Nesting → Type 0
+NestsBehind s xs n k t = (i : ℕ) → Nests s xs (nest n (told s i k)) t
+
+-- what is answered: whether the lines are in order, or a refusal
+unfoldable pub paired : Structure → Answer Bool
+paired (Paired b) = accepted b
+paired (Failed r) = refused (number r)
+
 -- the answer behind the last line
-abbrev pub Judged : Nesting → Tested → Type 0
-Judged t r = (s xs : List ℕ) → passed r ≡ verdict (nestOf s xs t) tt
+abbrev pub Judged : Nesting → Bool → Structure → Type 0
+Judged t b r = (s xs : List ℕ) → paired r ≡ verdict (nestOf s xs t) b

@@ -9,7 +9,7 @@ use Rattle.json.specs.Print.{firstItem, moreItems, printString}
 use Rattle.content.specs.Line.{Line}
 use Rattle.converter.specs.Tree.{Property, property, Component, component}
 use Rattle.converter.specs.Structure.{Event, begins, ends, holds, stray}
-use Rattle.converter.specs.Growth.{Level, innermost, around, levelsFrom}
+use Rattle.converter.specs.Growth.{eachProperty, Level, innermost, around, levelsFrom}
 use Rattle.converter.specs.Jcal.{propertyJson, jcalsOf}
 
 -- the property that is accepted; of no use where it is refused
@@ -41,6 +41,10 @@ eventTested f (begins n) = accepted tt
 eventTested f (ends n) = accepted tt
 eventTested f (holds l) = then (f l) (λ _. accepted tt)
 eventTested f stray = accepted tt
+
+-- 7, 8 or 9 of all lines, at the first property in fault
+abbrev pub eachTested : (Line → Answer Property) → List (Event Line) → Answer (Unit {0})
+eachTested f es = then (eachProperty f es) (λ _. accepted tt)
 
 -- the events behind the END of the component in whose lines they begin, where k components are open within it
 unfoldable pub behindEnd : ℕ → List (Event Line) → List (Event Line)
@@ -76,6 +80,21 @@ propertiesText f first k es = listed first (itemsOf (map propertyJson ((levelAt 
 
 unfoldable pub subsText : (Line → Answer Property) → Bool → List (Event Line) → List ℕ
 subsText f first es = listed first (jcalsOf ((levelAt f 0 es) .subs))
+
+-- what stands before a sub-component, up to its properties: the first sub-component ends the properties around it
+unfoldable pub nameText : List ℕ → List ℕ
+nameText n = octets "[" ++ (printString n ++ octets ",[")
+
+unfoldable pub subText : Bool → List ℕ → List ℕ
+subText subs n = pick subs (octets ",") (octets "],[") ++ nameText n
+
+-- what closes a component, with sub-components or without
+unfoldable pub closing : Bool → List ℕ
+closing subs = pick subs (octets "]]") (octets "],[]]")
+
+-- a component from its properties on, where the first property is due or some stand already, or where some sub-components do
+unfoldable pub restText : (Line → Answer Property) → Bool → Bool → List (Event Line) → List ℕ
+restText f subs first es = pick subs (subsText f false es ++ octets "]") (propertiesText f first 0 es ++ (octets ",[" ++ (subsText f true es ++ octets "]")))
 
 -- a component up to its sub-components
 unfoldable pub headText : (Line → Answer Property) → List ℕ → List (Event Line) → List ℕ

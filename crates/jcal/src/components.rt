@@ -15,10 +15,10 @@ ghost use Rattle.converter.specs.Structure.{fresh, closed, nestAfter};
 ghost use Rattle.converter.specs.Growth.{eachProperty};
 ghost use Rattle.converter.specs.Property.{readProperty};
 ghost use Rattle.converter.specs.Jcal.{propertyJson, jcalOf};
-ghost use Rattle.jcal.specs.Events.{eventsIn, LineAt, nameFrom, Outermost};
+ghost use Rattle.jcal.specs.Events.{eventsIn, LineAt, nameFrom, Named, Outermost};
 ghost use Rattle.jcal.specs.Walk.{isAccepted, propertyOr, reads, comma, propertiesText, behindEnd, componentAt, headText};
 ghost use Rattle.jcal.specs.Stages.{propertiesJcal};
-ghost use Rattle.jcal.specs.Walked.{Named, Walked};
+ghost use Rattle.jcal.specs.Walked.{Walked};
 use crate::events::Kind;
 use crate::events::kind_at;
 use content::line_end;
@@ -37,7 +37,7 @@ pub(crate) struct Progress {
 }
 
 // Writes a comma, but before the first item.
-fn put_comma(out: &mut [u8], at: usize, first: bool) -> usize
+pub(crate) fn put_comma(out: &mut [u8], at: usize, first: bool) -> usize
     ensures { λ r. ⌜ Wrote (pen (now (out .entry)) at) (comma first) (pen (now (out .exit)) r) ⌝ }
 {
     if first {
@@ -169,7 +169,7 @@ fn put_component(
 }
 
 // The place of the outermost component's name in the first line, which ends at e.
-fn outermost_name(lines: &[u8], e: usize) -> usize
+pub(crate) fn outermost_name(lines: &[u8], e: usize) -> usize
     requires { ⌜ LineAt (now lines) 0 e ⌝ }
     requires { ⌜ nestAfter fresh (eventsIn (now lines)) ≡ closed ⌝ }
     ensures { λ r. ⌜ Outermost (now (lines .entry)) e r ⌝ }

@@ -10,9 +10,12 @@ ghost use Rattle.converter.specs.Structure.{fresh, closed, nestAfter};
 ghost use Rattle.converter.specs.Property.{readProperty};
 ghost use Rattle.converter.specs.ToJcal.{toJcal};
 ghost use Rattle.jcal.specs.Events.{eventsIn};
+ghost use Rattle.jcal.specs.Order.{ordered};
 ghost use Rattle.jcal.specs.Stages.{propertiesJcal, eventsJcal, linesJcal};
 use crate::components::write_calendar;
+use crate::nesting::Structure;
 use crate::nesting::test_structure;
+use crate::placing::place_calendar;
 use crate::testing::test_properties;
 use content::Lines;
 use content::read_lines;
@@ -23,11 +26,15 @@ use octets::Refusal;
 use octets::refuse;
 use types::read_rows;
 
-// Converts lines that pair: tests 7, 8 and 9.
-fn convert_paired(lines: &[u8], rows: &[u8], out: &mut [u8]) -> Converted
+// Converts lines that pair: tests 7, 8 and 9. Lines that are not in order are tested before they are written.
+fn convert_paired(lines: &[u8], rows: &[u8], in_order: bool, out: &mut [u8]) -> Converted
     requires { ⌜ nestAfter fresh (eventsIn (now lines)) ≡ closed ⌝ }
+    requires { ⌜ in_order ≡ ordered (eventsIn (now lines)) ⌝ }
     ensures { λ r. ⌜ outcome r (now (out .exit)) ≡ answer (propertiesJcal (readProperty (tableIn (now (rows .entry)))) (eventsIn (now (lines .entry)))) (now (out .entry)) ⌝ }
 {
+    if in_order {
+        return place_calendar(lines, rows, out);
+    }
     match test_properties(lines, rows) {
         Tested::Passed => write_calendar(lines, rows, out),
         Tested::Failed(why) => refuse(out, why),
@@ -39,8 +46,8 @@ fn convert_lines(lines: &[u8], rows: &[u8], out: &mut [u8]) -> Converted
     ensures { λ r. ⌜ outcome r (now (out .exit)) ≡ answer (eventsJcal (readProperty (tableIn (now (rows .entry)))) (eventsIn (now (lines .entry)))) (now (out .entry)) ⌝ }
 {
     match test_structure(lines) {
-        Tested::Passed => convert_paired(lines, rows, out),
-        Tested::Failed(why) => refuse(out, why),
+        Structure::Paired(in_order) => convert_paired(lines, rows, in_order, out),
+        Structure::Failed(why) => refuse(out, why),
     }
 }
 

@@ -3,7 +3,9 @@ mod components;
 mod conversion;
 mod events;
 mod nesting;
+mod placing;
 mod testing;
 
 pub use conversion::to_jcal;
+pub use nesting::Structure;
 pub use nesting::test_structure;

@@ -5,14 +5,13 @@ ghost use lib.ListN.{length};
 ghost use Rattle.octets.specs.Basics.{same};
 ghost use Rattle.octets.specs.Classes.{lower};
 ghost use Rattle.octets.specs.Limits.{mostLevels};
-ghost use Rattle.converter.specs.Structure.{fresh, nest, nestAfter, verdict};
-ghost use Rattle.jcal.specs.Events.{eventAt, eventsIn, lineFrom, LineAt, nameFrom};
-ghost use Rattle.jcalproperties.specs.Passed.{passed};
-ghost use Rattle.jcal.specs.Nesting.{inner, nestOf, aroundOf, Nests, Judged};
+ghost use Rattle.converter.specs.Structure.{fresh, nestAfter, verdict};
+ghost use Rattle.jcal.specs.Events.{eventsIn, nameFrom, NameOf};
+ghost use Rattle.jcal.specs.Nesting.{inner, nestOf, aroundOf, NestsBehind, paired, Judged};
+ghost use Rattle.jcal.specs.Order.{ordered, Keeps, Ends};
 use crate::events::Kind;
 use crate::events::kind_at;
 use content::line_end;
-use jcalproperties::Tested;
 use octets::MOST_LEVELS;
 use octets::Refusal;
 use octets::same_name;
@@ -23,6 +22,12 @@ enum Nesting {
     Within(usize),
     Complete,
     Wrong(Refusal),
+}
+
+// BEGIN and END pair, and the lines are in order or not; or they are refused.
+pub enum Structure {
+    Paired(bool),
+    Failed(Refusal),
 }
 
 // The name of a component is that which begins at this place.
@@ -37,12 +42,12 @@ fn is_named(buf: &[u8], at: usize, name: &[u8]) -> bool
 }
 
 // Behind a line where no component was begun before it.
-fn after_first(buf: &[u8], i: usize, e: usize, names: &mut [usize; 8]) -> Nesting
-    requires { ⌜ LineAt (now buf) i e ⌝ }
+fn after_first(buf: &[u8], e: usize, kind: Kind, names: &mut [usize; 8]) -> Nesting
+    requires { ⌜ NameOf (now buf) e kind ⌝ }
     requires { ⌜ length (now names) ≡ mostLevels ⌝ }
-    ensures { λ r. ⌜ Nests (now (buf .entry)) (now (names .exit)) (nest fresh (eventAt (lineFrom (now (buf .entry)) i))) r ⌝ }
+    ensures { λ r. ⌜ NestsBehind (now (buf .entry)) (now (names .exit)) fresh kind r ⌝ }
 {
-    match kind_at(buf, i, e) {
+    match kind {
         Kind::Opens(at) => {
             if same_name(&buf[at..e], b"VCALENDAR") {
                 names[0] = at;
@@ -57,13 +62,13 @@ fn after_first(buf: &[u8], i: usize, e: usize, names: &mut [usize; 8]) -> Nestin
 }
 
 // Behind a line in a component with so many around it.
-fn after_inner(buf: &[u8], i: usize, e: usize, around: usize, names: &mut [usize; 8]) -> Nesting
-    requires { ⌜ LineAt (now buf) i e ⌝ }
+fn after_inner(buf: &[u8], e: usize, kind: Kind, around: usize, names: &mut [usize; 8]) -> Nesting
+    requires { ⌜ NameOf (now buf) e kind ⌝ }
     requires { ⌜ around < mostLevels ⌝ }
     requires { ⌜ length (now names) ≡ mostLevels ⌝ }
-    ensures { λ r. ⌜ Nests (now (buf .entry)) (now (names .exit)) (nest (inner (now (buf .entry)) (now (names .entry)) around) (eventAt (lineFrom (now (buf .entry)) i))) r ⌝ }
+    ensures { λ r. ⌜ NestsBehind (now (buf .entry)) (now (names .exit)) (inner (now (buf .entry)) (now (names .entry)) around) kind r ⌝ }
 {
-    match kind_at(buf, i, e) {
+    match kind {
         Kind::Opens(at) => {
             let next = around + 1;
             if next < MOST_LEVELS {
@@ -88,43 +93,72 @@ fn after_inner(buf: &[u8], i: usize, e: usize, around: usize, names: &mut [usize
 }
 
 // Behind a line.
-fn after_line(buf: &[u8], i: usize, e: usize, nesting: Nesting, names: &mut [usize; 8]) -> Nesting
-    requires { ⌜ LineAt (now buf) i e ⌝ }
+fn after_line(buf: &[u8], e: usize, kind: Kind, nesting: Nesting, names: &mut [usize; 8]) -> Nesting
+    requires { ⌜ NameOf (now buf) e kind ⌝ }
     requires { ⌜ aroundOf nesting < mostLevels ⌝ }
     requires { ⌜ length (now names) ≡ mostLevels ⌝ }
-    ensures { λ r. ⌜ Nests (now (buf .entry)) (now (names .exit)) (nest (nestOf (now (buf .entry)) (now (names .entry)) nesting) (eventAt (lineFrom (now (buf .entry)) i))) r ⌝ }
+    ensures { λ r. ⌜ NestsBehind (now (buf .entry)) (now (names .exit)) (nestOf (now (buf .entry)) (now (names .entry)) nesting) kind r ⌝ }
 {
     match nesting {
-        Nesting::Unbegun => after_first(buf, i, e, names),
-        Nesting::Within(around) => after_inner(buf, i, e, around, names),
+        Nesting::Unbegun => after_first(buf, e, kind, names),
+        Nesting::Within(around) => after_inner(buf, e, kind, around, names),
         Nesting::Complete => Nesting::Wrong(Refusal::NotPaired),
         Nesting::Wrong(why) => Nesting::Wrong(why),
     }
 }
 
-// Behind the last line: a missing END counts there.
-fn at_end(nesting: Nesting) -> Tested
-    ensures { λ r. ⌜ Judged nesting r ⌝ }
+// Lines in order stay so, unless a property stands directly behind an END line.
+fn keeps_order(in_order: bool, behind: bool, kind: Kind) -> bool
+    ensures { λ r. ⌜ Keeps in_order behind kind r ⌝ }
 {
-    match nesting {
-        Nesting::Unbegun => Tested::Failed(Refusal::NotPaired),
-        Nesting::Within(_) => Tested::Failed(Refusal::NotPaired),
-        Nesting::Complete => Tested::Passed,
-        Nesting::Wrong(why) => Tested::Failed(why),
+    match kind {
+        Kind::Opens(_) => in_order,
+        Kind::Closes(_) => in_order,
+        Kind::Plain => if behind { false } else { in_order },
+        Kind::Broken => in_order,
     }
 }
 
-// Tests 5 and 6, at the first line in fault.
-pub fn test_structure(buf: &[u8]) -> Tested
-    ensures { λ r. ⌜ passed r ≡ verdict (nestAfter fresh (eventsIn (now (buf .entry)))) tt ⌝ }
+// The next line stands directly behind an END line.
+fn is_behind(behind: bool, kind: Kind) -> bool
+    ensures { λ r. ⌜ Ends behind kind r ⌝ }
+{
+    match kind {
+        Kind::Opens(_) => false,
+        Kind::Closes(_) => true,
+        Kind::Plain => false,
+        Kind::Broken => behind,
+    }
+}
+
+// Behind the last line: a missing END counts there.
+fn at_end(nesting: Nesting, in_order: bool) -> Structure
+    ensures { λ r. ⌜ Judged nesting in_order r ⌝ }
+{
+    match nesting {
+        Nesting::Unbegun => Structure::Failed(Refusal::NotPaired),
+        Nesting::Within(_) => Structure::Failed(Refusal::NotPaired),
+        Nesting::Complete => Structure::Paired(in_order),
+        Nesting::Wrong(why) => Structure::Failed(why),
+    }
+}
+
+// Tests 5 and 6, at the first line in fault, and whether the lines are in order.
+pub fn test_structure(buf: &[u8]) -> Structure
+    ensures { λ r. ⌜ paired r ≡ verdict (nestAfter fresh (eventsIn (now (buf .entry)))) (ordered (eventsIn (now (buf .entry)))) ⌝ }
 {
     let mut names = [0usize; 8];
     let mut nesting = Nesting::Unbegun;
+    let mut in_order = true;
+    let mut behind = false;
     let mut i = 0;
     while i < buf.len() {
         let e = line_end(buf, i);
-        nesting = after_line(buf, i, e, nesting, &mut names);
+        let kind = kind_at(buf, i, e);
+        nesting = after_line(buf, e, kind, nesting, &mut names);
+        in_order = keeps_order(in_order, behind, kind);
+        behind = is_behind(behind, kind);
         i = e + 1;
     }
-    at_end(nesting)
+    at_end(nesting, in_order)
 }

@@ -12,12 +12,13 @@ use lib.ListN.{length, take, drop}
 use Rattle.octets.specs.Basics.{octets, pick, _and_, _or_, all, any, same, single, filled}
 use Rattle.octets.specs.Optional.{map?, isSome, guard}
 use Rattle.octets.specs.Classes.{lower, lowerNameOctet, isLowerName, isLower, isDigit, between}
-use Rattle.octets.specs.Answers.{Answer, refused, accepted, then, orElse, unless}
+use Rattle.octets.specs.Answers.{Answer, refused, accepted, then, orElse, unless, number}
+use Rattle.octets.specs.declared.Refusal.{Refusal}
 use Rattle.octets.specs.Pen.{Pen, Wrote}
 use Rattle.octets.proofs.Cases.{cases, both, apart}
 use Rattle.octets.proofs.Classes.{same-is}
 use Rattle.octets.proofs.Optional.{map-is, guard-is}
-use Rattle.octets.proofs.Answers.{then-accepted, orElse-accepted, unless-accepted}
+use Rattle.octets.proofs.Answers.{not-accepted, then-accepted, orElse-accepted, unless-accepted}
 use Rattle.octets.proofs.Pen.{then as behind, as-text}
 use Rattle.octets.proofs.Positions.{upto, from}
 use Rattle.json.specs.Tree.{Json, obj}
@@ -39,7 +40,10 @@ use Rattle.jcalvalues.proofs.Quoting.{items-json}
 use Rattle.converter.specs.Tree.{Property, property}
 use Rattle.converter.specs.Property.{typeOf, codeOf, manyOf, encodingFits, readAs, readProperty}
 use Rattle.converter.specs.Jcal.{propertyJson}
-use Rattle.jcalproperties.specs.Passed.{paramsTested}
+use Rattle.jcalproperties.specs.Passed.{passed, paramsTested}
+use Rattle.jcalproperties.specs.Placed.{Stands}
+use Rattle.jcalproperties.specs.declared.Tested.{Tested}
+use Rattle.jcalproperties.specs.declared.Tested.the-variants.{Passed, Failed}
 use Rattle.jcalproperties.specs.Shown.{namedType, frontText, propertyShown, WroteProperty}
 
 -- ENCODING is asked for with VALUE or without it
@@ -221,3 +225,20 @@ module _ (t : Table) (l : Line) where
 -- what the first tests answer, and what the second
 pub both-tested : {a b : Answer (Unit {0})} {p q : Answer (Unit {0})} → p ≡ a → q ≡ b → then p (λ _. q) ≡ then a (λ _. b)
 both-tested e f = rw (e, f)
+
+-- tested and then written
+module _ (t : Table) (l : Line) where
+  pub passed-stands : {r : Tested} {p q : Pen} → passed r ≡ then (readProperty t l) (λ _. accepted (tt {0})) → r ≡ Passed → WroteProperty t l p q → Stands t l p q
+  unfolding passed
+  passed-stands {r} {p} {q} e k w =
+      let a : accepted tt ≡ then (readProperty t l) (λ _. accepted (tt {0})) = rw k at e in
+      then-accepted (readProperty t l) _ tt (sym a) (λ x h _. record { property = x; read = h; wrote = w .property x h })
+
+  refused-then : {A : Type 0} (a : Answer A) (n : ℕ) → refused n ≡ then a (λ _. accepted (tt {0})) → a ≡ refused n
+  unfolding then
+  refused-then (refused m) n e = let z : n ≡ m = cc in ap refused (sym z)
+  refused-then (accepted x) n e = not-accepted e
+
+  pub failed-refused : {r : Tested} {w : Refusal} → passed r ≡ then (readProperty t l) (λ _. accepted (tt {0})) → r ≡ Failed w → readProperty t l ≡ refused (number w)
+  unfolding passed
+  failed-refused e k = refused-then (readProperty t l) _ (rw k at e)

@@ -14,7 +14,9 @@ ghost use Rattle.content.specs.Parameters.{nameTwice, withoutValue};
 ghost use Rattle.content.specs.Kinds.{kindOf, Bounded};
 ghost use Rattle.converter.specs.Property.{typeOf, codeOf, manyOf, encodingFits, readAs, readProperty};
 ghost use Rattle.jcalproperties.specs.Passed.{passed, paramsTested};
+ghost use Rattle.jcalproperties.specs.Placed.{Places};
 ghost use Rattle.jcalproperties.specs.Shown.{namedType, frontText, WroteProperty};
+use crate::Placed;
 use crate::Tested;
 use crate::names::put_name;
 use content::ValueType;
@@ -186,4 +188,14 @@ pub fn put_property(line: &[u8], rows: &[u8], out: &mut [u8], at: usize) -> usiz
     let b = put_type(found, params, kind, out, a);
     let c = put_values(out, b, sort, &line[v..]);
     put(out, c, b']')
+}
+
+// Tests a property by 7, 8 and 9, and writes it.
+pub fn place_property(line: &[u8], rows: &[u8], out: &mut [u8], at: usize) -> Placed
+    ensures { λ r. ⌜ Places (tableIn (now (rows .entry))) (lineOf (now (line .entry))) (pen (now (out .entry)) at) (now (out .exit)) r ⌝ }
+{
+    match test_property(line, rows) {
+        Tested::Passed => Placed::At(put_property(line, rows, out, at)),
+        Tested::Failed(why) => Placed::Failed(why),
+    }
 }

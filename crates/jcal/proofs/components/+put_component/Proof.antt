@@ -14,8 +14,8 @@ use Rattle.content.specs.Buffer.{isLf}
 use Rattle.content.proofs.line_end.Reads as line-end-reads
 use Rattle.converter.specs.Property.{readProperty}
 use Rattle.jcal.specs.Events.{LineAt}
-use Rattle.jcal.proofs.Subcomponents.{named, Subs, subs-start, sub-accepts, sub-few, left-some, sub-goes, sub-plain, sub-broken, sub-ends, sub-none, component-wrote}
-use Rattle.jcal.proofs.Telling.{told-as}
+use Rattle.jcal.proofs.Subcomponents.{Subs, subs-start, sub-accepts, sub-few, left-some, sub-goes, sub-plain, sub-broken, sub-ends, sub-none, component-wrote}
+use Rattle.jcal.proofs.Telling.{told-as, name-of}
 use Rattle.jcal.proofs.components.put_component.Reads as put-component
 use Rattle.jcal.proofs.components.put_component.Kinds as put-component-kinds
 use Rattle.jcal.proofs.components.+put_component.Lts-put_component as put-component-lts
@@ -95,7 +95,7 @@ put-component-put-component-requires t c κs =
     let at-start = at-loop .before .before .before .before .before .before .before .before in
     let at : LineAt (at-start .args .buf .now) (at-loop .loop .i) (at-line-end .line-end .result) = record { within = at-loop-test .loop-test .taken; ends = at-line-end .line-end .ensures } in
     let told = told-as (at-kind-at .kind-at .ensures) (at-inner .inner .given .1) in
-    (omega (arith, left-some _ _ _ _ _ _ _ _ (at-loop .loop .inv .1) (at-line-end .line-end .result) at _ told), (named _ _ _ _ at told, (sub-accepts _ _ _ _ _ _ _ _ (at-loop .loop .inv .1) (at-line-end .line-end .result) at _ told, sub-few _ _ _ _ _ _ _ _ (at-loop .loop .inv .1) (at-line-end .line-end .result) at _ told)))
+    (omega (arith, left-some _ _ _ _ _ _ _ _ (at-loop .loop .inv .1) (at-line-end .line-end .result) at _ told), (name-of _ _ _ at _ told, (sub-accepts _ _ _ _ _ _ _ _ (at-loop .loop .inv .1) (at-line-end .line-end .result) at _ told, sub-few _ _ _ _ _ _ _ _ (at-loop .loop .inv .1) (at-line-end .line-end .result) at _ told)))
 
 put-component-loop-less : (t : ℕ) → put-component-lts.Need-loop-less (claims-put-component t) (put-component-at t) put-component.Post put-component-Inv-loop put-component-μ-loop
 put-component-loop-less t c =

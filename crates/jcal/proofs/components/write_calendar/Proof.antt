@@ -10,7 +10,7 @@ use Rattle.types.specs.Laid.{tableIn}
 use Rattle.converter.specs.Property.{readProperty}
 use Rattle.jcal.specs.Events.{LineAt}
 use Rattle.jcal.proofs.Stages.{some-line, calendar-few, calendar-accepts, calendar-text}
-use Rattle.jcal.proofs.Subcomponents.{named}
+use Rattle.jcal.proofs.Telling.{name-of}
 -- `jcal::components::write_calendar` meets its contract.
 use borrow.Author.Needs.{needs}
 use Rattle.jcal.proofs.components.write_calendar.Statement.{statement}
@@ -30,7 +30,7 @@ put-component-requires c κs =
     let at-line-end = at-outermost-name .before in
     let at-start = at-line-end .before .before .before .before in
     let at : LineAt (at-start .args .lines .now) 0 (at-line-end .line-end .result) = record { within = some-line _ (at-start .pre .0); ends = at-line-end .line-end .ensures } in
-    (named _ _ _ _ at (at-outermost-name .outermost-name .ensures), (calendar-accepts _ _ _ at (at-start .pre .0) _ (at-outermost-name .outermost-name .ensures) (at-start .pre .1), omega (arith, most-levels, calendar-few (readProperty (tableIn (at-start .args .rows .now))) _ _ at (at-start .pre .0) _ (at-outermost-name .outermost-name .ensures))))
+    (name-of _ _ _ at _ (at-outermost-name .outermost-name .ensures), (calendar-accepts _ _ _ at (at-start .pre .0) _ (at-outermost-name .outermost-name .ensures) (at-start .pre .1), omega (arith, most-levels, calendar-few (readProperty (tableIn (at-start .args .rows .now))) _ _ at (at-start .pre .0) _ (at-outermost-name .outermost-name .ensures))))
 
 finish-requires : tie.Need-finish-requires
 finish-requires c κs = search needs

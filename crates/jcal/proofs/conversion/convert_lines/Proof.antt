@@ -2,25 +2,24 @@
 use Prim.Native.Nat.{ℕ}
 use mathlib.Core.List.{List}
 use mathlib.Core.Path.{ap, _∙_}
-use Rattle.octets.specs.Answers.{Answer, answer}
-use Rattle.jcal.proofs.Stages.{structure-failed, structure-passed, paired}
-use Rattle.jcal.proofs.Turns.{passed-as, failed-as}
--- `jcal::conversion::convert_lines` meets its contract.
 use borrow.Author.Needs.{needs}
+use Rattle.octets.specs.Answers.{Answer, answer}
+use Rattle.jcal.proofs.Stages.{structure-failed, structure-passed, pairs}
 use Rattle.jcal.proofs.conversion.convert_lines.Statement.{statement}
 use Rattle.jcal.proofs.conversion.convert_lines.Tie as tie
 
 test-structure-requires : tie.Need-test-structure-requires
 test-structure-requires c κs = search needs
 
-enum-told : tie.Need-enum-told
-enum-told c = search needs
+enum-known-in-order : tie.Need-enum-known-in-order
+enum-known-in-order c = search needs
 
 convert-paired-requires : tie.Need-convert-paired-requires
 convert-paired-requires c κs =
-    let at-enum-told = c .before in
-    let at-test-structure = at-enum-told .before .before in
-    structure-passed _ (passed-as (at-test-structure .test-structure .ensures) (at-enum-told .enum-told .given .1))
+    let at-in-order = c .before .before in
+    let at-test-structure = at-in-order .before .before in
+    let p = structure-passed _ (at-test-structure .test-structure .ensures) (at-in-order .in-order .given .1) in
+    (p .0, p .1)
 
 enum-known-why : tie.Need-enum-known-why
 enum-known-why c = search needs
@@ -34,10 +33,10 @@ same-length c = search needs
 returns : tie.Need-returns
 returns c =
     let at-convert-paired = c .before .before in
-    let at-enum-told = at-convert-paired .before .before in
-    let at-test-structure = at-enum-told .before .before in
+    let at-in-order = at-convert-paired .before .before .before in
+    let at-test-structure = at-in-order .before .before in
     let at-start = at-test-structure .before .before .before .before in
-    at-convert-paired .convert-paired .ensures ∙ ap (λ (a : Answer (List ℕ)). answer a (at-start .args .out .now)) (paired _ _ (structure-passed _ (passed-as (at-test-structure .test-structure .ensures) (at-enum-told .enum-told .given .1))))
+    at-convert-paired .convert-paired .ensures ∙ ap (λ (a : Answer (List ℕ)). answer a (at-start .args .out .now)) (pairs _ _ (structure-passed _ (at-test-structure .test-structure .ensures) (at-in-order .in-order .given .1) .0))
 
 same-length-2 : tie.Need-same-length-2
 same-length-2 c = search needs
@@ -48,14 +47,14 @@ returns-2 c =
     let at-why = at-refuse .before .before .before in
     let at-test-structure = at-why .before .before in
     let at-start = at-test-structure .before .before .before .before in
-    at-refuse .refuse .ensures ∙ ap (λ (a : Answer (List ℕ)). answer a (at-start .args .out .now)) (structure-failed _ _ _ (failed-as (at-test-structure .test-structure .ensures) (at-why .why .given .1)))
+    at-refuse .refuse .ensures ∙ ap (λ (a : Answer (List ℕ)). answer a (at-start .args .out .now)) (structure-failed _ _ (at-test-structure .test-structure .ensures) (at-why .why .given .1))
 
 pub convert-lines-spec : {M : Type 1} → statement M
 convert-lines-spec =
     tie.close
     (tie.spec
     test-structure-requires
-    enum-told
+    enum-known-in-order
     convert-paired-requires
     enum-known-why
     refuse-requires

@@ -3,32 +3,29 @@ use mathlib.Core.Path.{sym, _∙_}
 use native.Mathlib.Omega.{arith}
 use borrow.Author.Needs.{needs}
 use Rattle.jcal.proofs.Stacks.{first-else, first-opens, first-other}
-use Rattle.jcal.proofs.Telling.{line-high, told-as}
 use Rattle.jcal.proofs.nesting.after_first.Statement.{statement}
 use Rattle.jcal.proofs.nesting.after_first.Tie as tie
 
-kind-at-requires : tie.Need-kind-at-requires
-kind-at-requires c κs = search needs
-
-enum-known-at : tie.Need-enum-known-at
-enum-known-at c = search needs
+enum-known-kind : tie.Need-enum-known-kind
+enum-known-kind c = search needs
 
 sub-same-name : tie.Need-sub-same-name
 sub-same-name c =
-    let at-at = c .before in
-    let at-kind-at = at-at .before .before in
-    omega (arith, told-as (at-kind-at .kind-at .ensures) (at-at .at .given .1) .within)
+    let at-kind = c .before in
+    let at-start = at-kind .before .before .before in
+    omega (arith, (rw (at-kind .kind .given .1) at (at-start .pre .0)) .low)
 
 part-same-name-start : tie.Need-part-same-name-start
 part-same-name-start c =
-    let at-at = c .before in
-    let at-kind-at = at-at .before .before in
-    told-as (at-kind-at .kind-at .ensures) (at-at .at .given .1) .within
+    let at-kind = c .before in
+    let at-start = at-kind .before .before .before in
+    (rw (at-kind .kind .given .1) at (at-start .pre .0)) .low
 
 part-same-name-end : tie.Need-part-same-name-end
 part-same-name-end c =
-    let at-start = c .before .before .before .before .before in
-    line-high (at-start .args .buf .now) (at-start .args .i) (at-start .args .e) (at-start .pre .0)
+    let at-kind = c .before in
+    let at-start = at-kind .before .before .before in
+    (rw (at-kind .kind .given .1) at (at-start .pre .0)) .high
 
 slice-aggregate-same-name : tie.Need-slice-aggregate-same-name
 slice-aggregate-same-name c = search needs
@@ -42,10 +39,9 @@ element-write-names c = search needs
 returns : tie.Need-returns
 returns c =
     let at-same-name = c .before in
-    let at-at = at-same-name .before .before .before .before in
-    let at-kind-at = at-at .before .before in
-    let at-start = at-kind-at .before .before in
-    first-opens (at-start .args .buf .now) (at-start .args .names .now) (at-start .pre .1) (at-start .args .i) (at-start .args .e) (at-at .at .given .0 .0) (told-as (at-kind-at .kind-at .ensures) (at-at .at .given .1)) (sym (at-same-name .same-name .ensures) ∙ c .if1 .taken)
+    let at-kind = at-same-name .before .before .before .before in
+    let at-start = at-kind .before .before .before in
+    rw (at-kind .kind .given .1) (first-opens (at-start .args .buf .now) (at-start .args .names .now) (at-start .pre .1) _ (at-start .args .e) (rw (at-kind .kind .given .1) at (at-start .pre .0)) (sym (at-same-name .same-name .ensures) ∙ c .if1 .taken))
 
 enum-told : tie.Need-enum-told
 enum-told c = search needs
@@ -59,35 +55,30 @@ enum-told-3 c = search needs
 returns-2 : tie.Need-returns-2
 returns-2 c =
     let at-same-name = c .before in
-    let at-at = at-same-name .before .before .before .before in
-    let at-kind-at = at-at .before .before in
-    let at-start = at-kind-at .before .before in
-    first-other (at-start .args .buf .now) (at-start .args .names .now) (at-start .pre .1) (at-start .args .i) (at-start .args .e) (at-at .at .given .0 .0) (told-as (at-kind-at .kind-at .ensures) (at-at .at .given .1)) (sym (at-same-name .same-name .ensures) ∙ c .if1 .left)
+    let at-kind = at-same-name .before .before .before .before in
+    let at-start = at-kind .before .before .before in
+    rw (at-kind .kind .given .1) (first-other (at-start .args .buf .now) (at-start .args .names .now) (at-start .pre .1) _ (at-start .args .e) (rw (at-kind .kind .given .1) at (at-start .pre .0)) (sym (at-same-name .same-name .ensures) ∙ c .if1 .left))
 
 returns-3 : tie.Need-returns-3
 returns-3 c =
-    let at-kind-at = c .before .before in
-    let at-start = at-kind-at .before .before in
-    first-else (at-start .args .buf .now) (at-start .args .names .now) (at-start .pre .1) (at-start .args .i) (at-start .args .e) _ tt (told-as (at-kind-at .kind-at .ensures) (c .enum-told .given .1))
+    let at-start = c .before .before .before in
+    rw (c .enum-told .given .1) (first-else (at-start .args .buf .now) (at-start .args .names .now) (at-start .pre .1) _ tt)
 
 returns-4 : tie.Need-returns-4
 returns-4 c =
-    let at-kind-at = c .before .before in
-    let at-start = at-kind-at .before .before in
-    first-else (at-start .args .buf .now) (at-start .args .names .now) (at-start .pre .1) (at-start .args .i) (at-start .args .e) _ tt (told-as (at-kind-at .kind-at .ensures) (c .enum-told2 .given .1))
+    let at-start = c .before .before .before in
+    rw (c .enum-told2 .given .1) (first-else (at-start .args .buf .now) (at-start .args .names .now) (at-start .pre .1) _ tt)
 
 returns-5 : tie.Need-returns-5
 returns-5 c =
-    let at-kind-at = c .before .before in
-    let at-start = at-kind-at .before .before in
-    first-else (at-start .args .buf .now) (at-start .args .names .now) (at-start .pre .1) (at-start .args .i) (at-start .args .e) _ tt (told-as (at-kind-at .kind-at .ensures) (c .enum-told3 .given .1))
+    let at-start = c .before .before .before in
+    rw (c .enum-told3 .given .1) (first-else (at-start .args .buf .now) (at-start .args .names .now) (at-start .pre .1) _ tt)
 
 pub after-first-spec : {M : Type 1} → statement M
 after-first-spec =
     tie.close
     (tie.spec
-    kind-at-requires
-    enum-known-at
+    enum-known-kind
     sub-same-name
     part-same-name-start
     part-same-name-end

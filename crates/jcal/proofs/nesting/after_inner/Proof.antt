@@ -1,19 +1,15 @@
 -- `jcal::nesting::after_inner` meets its contract.
 use mathlib.Core.Path.{sym, _∙_}
 use native.Mathlib.Omega.{arith}
-use borrow.Author.Needs.{needs}
 use borrow.Author.Tests.{not-true, not-false}
+use borrow.Author.Needs.{needs}
 use Rattle.octets.proofs.Limits.{most-levels}
 use Rattle.jcal.proofs.Stacks.{inner-opens, inner-deep, inner-other, inner-last, inner-closes, inner-plain, inner-broken}
-use Rattle.jcal.proofs.Telling.{line-high, told-as}
 use Rattle.jcal.proofs.nesting.after_inner.Statement.{statement}
 use Rattle.jcal.proofs.nesting.after_inner.Tie as tie
 
-kind-at-requires : tie.Need-kind-at-requires
-kind-at-requires c κs = search needs
-
-enum-known-at : tie.Need-enum-known-at
-enum-known-at c = search needs
+enum-known-kind : tie.Need-enum-known-kind
+enum-known-kind c = search needs
 
 add-next : tie.Need-add-next
 add-next c = omega (arith, most-levels)
@@ -26,13 +22,12 @@ element-write-names c = search needs
 
 returns : tie.Need-returns
 returns c =
-    let at-at = c .before .before in
-    let at-kind-at = at-at .before .before in
-    let at-start = at-kind-at .before .before in
-    inner-opens (at-start .args .buf .now) (at-start .args .names .now) (at-start .pre .1 .1) (at-start .args .i) (at-start .args .e) (at-at .at .given .0 .0) (told-as (at-kind-at .kind-at .ensures) (at-at .at .given .1)) (at-start .args .around) (c .if1 .taken)
+    let at-kind = c .before .before in
+    let at-start = at-kind .before .before .before in
+    rw (at-kind .kind .given .1) (inner-opens (at-start .args .buf .now) (at-start .args .names .now) (at-start .pre .1 .1) _ (at-start .args .around) (c .if1 .taken))
 
-enum-known-at-2 : tie.Need-enum-known-at-2
-enum-known-at-2 c = search needs
+enum-known-kind-2 : tie.Need-enum-known-kind-2
+enum-known-kind-2 c = search needs
 
 mul-open : tie.Need-mul-open
 mul-open c = omega (arith, most-levels)
@@ -42,20 +37,21 @@ element-copy-out-open c = omega (arith, most-levels)
 
 sub-is-named : tie.Need-sub-is-named
 sub-is-named c =
-    let at-at2 = c .before .before in
-    let at-kind-at = at-at2 .before .before in
-    omega (arith, told-as (at-kind-at .kind-at .ensures) (at-at2 .at2 .given .1) .within)
+    let at-kind2 = c .before .before in
+    let at-start = at-kind2 .before .before .before in
+    omega (arith, (rw (at-kind2 .kind2 .given .1) at (at-start .pre .0)) .low)
 
 part-is-named-start : tie.Need-part-is-named-start
 part-is-named-start c =
-    let at-at2 = c .before .before in
-    let at-kind-at = at-at2 .before .before in
-    told-as (at-kind-at .kind-at .ensures) (at-at2 .at2 .given .1) .within
+    let at-kind2 = c .before .before in
+    let at-start = at-kind2 .before .before .before in
+    (rw (at-kind2 .kind2 .given .1) at (at-start .pre .0)) .low
 
 part-is-named-end : tie.Need-part-is-named-end
 part-is-named-end c =
-    let at-start = c .before .before .before .before .before .before in
-    line-high (at-start .args .buf .now) (at-start .args .i) (at-start .args .e) (at-start .pre .0)
+    let at-kind2 = c .before .before in
+    let at-start = at-kind2 .before .before .before in
+    (rw (at-kind2 .kind2 .given .1) at (at-start .pre .0)) .high
 
 is-named-requires : tie.Need-is-named-requires
 is-named-requires c κs = search needs
@@ -63,22 +59,20 @@ is-named-requires c κs = search needs
 returns-2 : tie.Need-returns-2
 returns-2 c =
     let at-is-named = c .before in
-    let at-at2 = at-is-named .before .before .before .before in
-    let at-kind-at = at-at2 .before .before in
-    let at-start = at-kind-at .before .before in
-    inner-other (at-start .args .buf .now) (at-start .args .names .now) (at-start .pre .1 .1) (at-start .args .i) (at-start .args .e) (at-at2 .at2 .given .0 .0) (at-start .args .around) (told-as (at-kind-at .kind-at .ensures) (at-at2 .at2 .given .1)) (sym (at-is-named .is-named .ensures) ∙ not-true _ (c .if2 .taken))
+    let at-kind2 = at-is-named .before .before .before .before in
+    let at-start = at-kind2 .before .before .before in
+    rw (at-kind2 .kind2 .given .1) (inner-other (at-start .args .buf .now) (at-start .args .names .now) (at-start .pre .1 .1) _ (at-start .args .e) (at-start .args .around) (rw (at-kind2 .kind2 .given .1) at (at-start .pre .0)) (sym (at-is-named .is-named .ensures) ∙ not-true _ (c .if2 .taken)))
 
 returns-3 : tie.Need-returns-3
 returns-3 c =
     let at-if2 = c .before in
     let at-is-named = at-if2 .before in
-    let at-at2 = at-is-named .before .before .before .before in
-    let at-kind-at = at-at2 .before .before in
-    let at-start = at-kind-at .before .before in
-    inner-last (at-start .args .buf .now) (at-start .args .names .now) (at-start .pre .1 .1) (at-start .args .i) (at-start .args .e) (at-at2 .at2 .given .0 .0) (at-start .args .around) (told-as (at-kind-at .kind-at .ensures) (at-at2 .at2 .given .1)) (sym (at-is-named .is-named .ensures) ∙ not-false _ (at-if2 .if2 .left)) (c .if3 .taken)
+    let at-kind2 = at-is-named .before .before .before .before in
+    let at-start = at-kind2 .before .before .before in
+    rw (at-kind2 .kind2 .given .1) (inner-last (at-start .args .buf .now) (at-start .args .names .now) (at-start .pre .1 .1) _ (at-start .args .e) (at-start .args .around) (rw (at-kind2 .kind2 .given .1) at (at-start .pre .0)) (sym (at-is-named .is-named .ensures) ∙ not-false _ (at-if2 .if2 .left)) (c .if3 .taken))
 
-sub-t20 : tie.Need-sub-t20
-sub-t20 c = search needs
+sub-t19 : tie.Need-sub-t19
+sub-t19 c = search needs
 
 enum-told : tie.Need-enum-told
 enum-told c = search needs
@@ -88,43 +82,38 @@ enum-told-2 c = search needs
 
 returns-4 : tie.Need-returns-4
 returns-4 c =
-    let at-at = c .before .before in
-    let at-kind-at = at-at .before .before in
-    let at-start = at-kind-at .before .before in
-    inner-deep (at-start .args .buf .now) (at-start .args .names .now) (at-start .pre .1 .1) (at-start .args .i) (at-start .args .e) (at-at .at .given .0 .0) (told-as (at-kind-at .kind-at .ensures) (at-at .at .given .1)) (at-start .args .around) (c .if1 .left)
+    let at-kind = c .before .before in
+    let at-start = at-kind .before .before .before in
+    rw (at-kind .kind .given .1) (inner-deep (at-start .args .buf .now) (at-start .args .names .now) (at-start .pre .1 .1) _ (at-start .args .around) (c .if1 .left))
 
 returns-5 : tie.Need-returns-5
 returns-5 c =
     let at-if2 = c .before in
     let at-is-named = at-if2 .before in
-    let at-at2 = at-is-named .before .before .before .before in
-    let at-kind-at = at-at2 .before .before in
-    let at-start = at-kind-at .before .before in
-    inner-closes (at-start .args .buf .now) (at-start .args .names .now) (at-start .pre .1 .1) (at-start .args .i) (at-start .args .e) (at-at2 .at2 .given .0 .0) (at-start .args .around) (told-as (at-kind-at .kind-at .ensures) (at-at2 .at2 .given .1)) (sym (at-is-named .is-named .ensures) ∙ not-false _ (at-if2 .if2 .left)) (c .if3 .left) (at-start .pre .1 .0)
+    let at-kind2 = at-is-named .before .before .before .before in
+    let at-start = at-kind2 .before .before .before in
+    rw (at-kind2 .kind2 .given .1) (inner-closes (at-start .args .buf .now) (at-start .args .names .now) (at-start .pre .1 .1) _ (at-start .args .e) (at-start .args .around) (rw (at-kind2 .kind2 .given .1) at (at-start .pre .0)) (sym (at-is-named .is-named .ensures) ∙ not-false _ (at-if2 .if2 .left)) (c .if3 .left) (at-start .pre .1 .0))
 
 returns-6 : tie.Need-returns-6
 returns-6 c =
-    let at-kind-at = c .before .before in
-    let at-start = at-kind-at .before .before in
-    inner-plain (at-start .args .buf .now) (at-start .args .names .now) (at-start .pre .1 .1) (at-start .args .i) (at-start .args .e) (at-start .args .around) (at-start .pre .1 .0) (told-as (at-kind-at .kind-at .ensures) (c .enum-told .given .1))
+    let at-start = c .before .before .before in
+    rw (c .enum-told .given .1) (inner-plain (at-start .args .buf .now) (at-start .args .names .now) (at-start .pre .1 .1) (at-start .args .around) (at-start .pre .1 .0))
 
 returns-7 : tie.Need-returns-7
 returns-7 c =
-    let at-kind-at = c .before .before in
-    let at-start = at-kind-at .before .before in
-    inner-broken (at-start .args .buf .now) (at-start .args .names .now) (at-start .pre .1 .1) (at-start .args .i) (at-start .args .e) (at-start .args .around) (told-as (at-kind-at .kind-at .ensures) (c .enum-told2 .given .1))
+    let at-start = c .before .before .before in
+    rw (c .enum-told2 .given .1) (inner-broken (at-start .args .buf .now) (at-start .args .names .now) (at-start .pre .1 .1) (at-start .args .around))
 
 pub after-inner-spec : {M : Type 1} → statement M
 after-inner-spec =
     tie.close
     (tie.spec
-    kind-at-requires
-    enum-known-at
+    enum-known-kind
     add-next
     mul-names
     element-write-names
     returns
-    enum-known-at-2
+    enum-known-kind-2
     mul-open
     element-copy-out-open
     sub-is-named
@@ -133,7 +122,7 @@ after-inner-spec =
     is-named-requires
     returns-2
     returns-3
-    sub-t20
+    sub-t19
     enum-told
     enum-told-2
     returns-4

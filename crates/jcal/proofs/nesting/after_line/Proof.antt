@@ -28,7 +28,9 @@ enum-known-nesting-2 c = search needs
 
 returns : tie.Need-returns
 unfolding nestOf
-returns c = rw (c .before .before .enum-told .given .1) (c .after-first .ensures)
+returns c =
+    let at-enum-told = c .before .before in
+    rw (at-enum-told .enum-told .given .1) (c .after-first .ensures)
 
 returns-2 : tie.Need-returns-2
 unfolding nestOf

@@ -17,16 +17,18 @@ enum-known-nesting : tie.Need-enum-known-nesting
 enum-known-nesting c = search needs
 
 returns : tie.Need-returns
-returns c = rw (c .enum-told .given .1) judged-unbegun
+returns c = rw (c .enum-told .given .1) (judged-unbegun _)
 
 returns-2 : tie.Need-returns-2
-returns-2 c = rw (c .enum-told2 .given .1) (judged-within _)
+returns-2 c = rw (c .enum-told2 .given .1) (judged-within _ _)
 
 returns-3 : tie.Need-returns-3
-returns-3 c = rw (c .enum-told3 .given .1) judged-complete
+returns-3 c = rw (c .enum-told3 .given .1) (judged-complete _)
 
 returns-4 : tie.Need-returns-4
-returns-4 c = rw (c .before .nesting .given .1) (judged-wrong _)
+returns-4 c =
+    let at-nesting = c .before in
+    rw (at-nesting .nesting .given .1) (judged-wrong _ _)
 
 pub at-end-spec : {M : Type 1} → statement M
 at-end-spec =

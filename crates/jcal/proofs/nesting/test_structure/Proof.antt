@@ -1,61 +1,83 @@
 -- `jcal::nesting::test_structure` meets its contract.
 use Prim.Native.Nat.{_-_, _<_}
-use mathlib.Core.Path.{_≡_, refl, sym, _∙_, ap}
+use mathlib.Core.Path.{_≡_, refl, sym, _∙_}
 use native.Mathlib.Omega.{arith}
 use borrow.Author.Needs.{needs}
 use lib.ListN.{length, drop}
-use Rattle.octets.proofs.Limits.{most-levels}
 use Rattle.octets.specs.Limits.{mostLevels}
-use Rattle.content.proofs.Scanning.{scan-high}
+use Rattle.octets.specs.Basics.{_and_}
+use Rattle.octets.proofs.Limits.{most-levels}
 use Rattle.content.specs.Buffer.{isLf}
-use Rattle.converter.specs.Structure.{Nest, fresh, nestAfter, verdict}
-use Rattle.jcal.specs.Events.{eventsIn}
+use Rattle.content.proofs.Scanning.{scan-high}
+use Rattle.converter.specs.Structure.{fresh, nestAfter}
+use Rattle.jcal.specs.Order.{ordered, orderedFrom}
 use Rattle.jcal.specs.Nesting.{nestOf, aroundOf}
+use Rattle.jcal.specs.Events.{eventsIn, LineAt}
+use Rattle.jcal.proofs.Order.{order-on, order-end}
 use Rattle.jcal.proofs.Stacks.{nests-on, nests-end}
+use Rattle.jcal.proofs.Telling.{name-of}
 use Rattle.jcal.proofs.nesting.test_structure.Statement.{statement}
 use Rattle.jcal.proofs.nesting.test_structure.Tie as tie
 
 abbrev Inv-loop : tie.InvT-loop
-Inv-loop buf names₀ nesting₀ i₀ names nesting i = (nestAfter fresh (eventsIn buf) ≡ nestAfter (nestOf buf names nesting) (eventsIn (drop i buf))) × (aroundOf nesting < mostLevels) × (length names ≡ mostLevels)
+Inv-loop buf names₀ nesting₀ in-order₀ behind₀ i₀ names nesting in-order behind i = (nestAfter fresh (eventsIn buf) ≡ nestAfter (nestOf buf names nesting) (eventsIn (drop i buf))) × (aroundOf nesting < mostLevels) × (length names ≡ mostLevels) × (ordered (eventsIn buf) ≡ (in-order and orderedFrom behind (eventsIn (drop i buf))))
 
 abbrev μ-loop : tie.MeasureT-loop
-μ-loop buf names₀ nesting₀ i₀ names nesting i = length buf - i
+μ-loop buf names₀ nesting₀ in-order₀ behind₀ i₀ names nesting in-order behind i = length buf - i
 
 loop-holds : tie.Need-loop-holds Inv-loop μ-loop
-unfolding nestOf
-loop-holds c = (refl, rw most-levels (omega arith), sym most-levels)
+unfolding nestOf ordered
+loop-holds c = (refl, rw most-levels (omega arith), sym most-levels, refl)
 
 line-end-requires : tie.Need-line-end-requires Inv-loop μ-loop
 line-end-requires c κs = search needs
 
+kind-at-requires : tie.Need-kind-at-requires Inv-loop μ-loop
+kind-at-requires c κs =
+    let at-loop-test = c .before in
+    record { within = at-loop-test .loop-test .taken; ends = c .line-end .ensures }
+
 after-line-requires : tie.Need-after-line-requires Inv-loop μ-loop
 after-line-requires c κs =
-    let at-line-end = c .before in
+    let at-kind-at = c .before in
+    let at-line-end = at-kind-at .before in
     let at-loop-test = at-line-end .before in
     let at-loop = at-loop-test .before in
-    (record { within = at-loop-test .loop-test .taken; ends = at-line-end .line-end .ensures }, (at-loop .loop .inv .1, at-loop .loop .inv .2))
+    let at-start = at-loop .before .before in
+    (name-of (at-start .args .buf .now) (at-loop .loop .i) (at-line-end .line-end .result) (record { within = at-loop-test .loop-test .taken; ends = at-line-end .line-end .ensures }) _ (at-kind-at .kind-at .ensures), (at-loop .loop .inv .1, at-loop .loop .inv .2))
+
+keeps-order-requires : tie.Need-keeps-order-requires Inv-loop μ-loop
+keeps-order-requires c κs = search needs
+
+is-behind-requires : tie.Need-is-behind-requires Inv-loop μ-loop
+is-behind-requires c κs = search needs
 
 add-i : tie.Need-add-i Inv-loop μ-loop
 add-i c =
-    let at-line-end = c .before .before in
+    let at-line-end = c .before .before .before .before .before in
     let at-loop = at-line-end .before .before in
     let at-start = at-loop .before .before in
     omega (arith, scan-high isLf (at-start .args .buf .now) (at-loop .loop .i) _ (at-line-end .line-end .ensures) (omega arith))
 
 loop-less : tie.Need-loop-less Inv-loop μ-loop
 loop-less c =
-    let at-line-end = c .before .before in
+    let at-line-end = c .before .before .before .before .before in
     let at-loop = at-line-end .before .before in
     let at-start = at-loop .before .before in
     omega (arith, scan-high isLf (at-start .args .buf .now) (at-loop .loop .i) _ (at-line-end .line-end .ensures) (omega arith))
 
 loop-again : tie.Need-loop-again Inv-loop μ-loop
 loop-again c =
-    let at-line-end = c .before .before in
+    let at-keeps-order = c .before in
+    let at-after-line = at-keeps-order .before in
+    let at-kind-at = at-after-line .before .before in
+    let at-line-end = at-kind-at .before in
     let at-loop-test = at-line-end .before in
     let at-loop = at-loop-test .before in
     let at-start = at-loop .before .before in
-    (at-loop .loop .inv .0 ∙ nests-on (at-start .args .buf .now) (at-loop .loop .names) _ (at-loop .loop .i) (at-line-end .line-end .result) (at-loop .loop .nesting) (c .after-line .result) (record { within = at-loop-test .loop-test .taken; ends = at-line-end .line-end .ensures }) (c .after-line .ensures), c .after-line .ensures .few, c .after-line .ensures .room)
+    let at : LineAt (at-start .args .buf .now) (at-loop .loop .i) (at-line-end .line-end .result) = record { within = at-loop-test .loop-test .taken; ends = at-line-end .line-end .ensures } in
+    let n = at-after-line .after-line .ensures 0 in
+    (at-loop .loop .inv .0 ∙ nests-on (at-start .args .buf .now) (at-loop .loop .names) _ (at-loop .loop .i) (at-line-end .line-end .result) (at-loop .loop .nesting) (at-after-line .after-line .result) _ at (at-kind-at .kind-at .ensures) (at-after-line .after-line .ensures), n .few, n .room, at-loop .loop .inv .3 ∙ order-on (at-start .args .buf .now) (at-loop .loop .i) (at-loop .loop .in-order) (at-loop .loop .behind) (at-line-end .line-end .result) (at-kind-at .kind-at .result) (at-keeps-order .keeps-order .result) (c .is-behind .result) at (at-kind-at .kind-at .ensures) (at-keeps-order .keeps-order .ensures) (c .is-behind .ensures))
 
 at-end-requires : tie.Need-at-end-requires Inv-loop μ-loop
 at-end-requires c κs = search needs
@@ -65,7 +87,7 @@ returns c =
     let at-loop-test = c .before in
     let at-loop = at-loop-test .before in
     let at-start = at-loop .before .before in
-    c .at-end .ensures (at-start .args .buf .now) (at-loop .loop .names) ∙ ap (λ (n : Nest). verdict n tt) (sym (at-loop .loop .inv .0 ∙ nests-end (at-start .args .buf .now) (at-loop .loop .names) (at-loop .loop .i) (at-loop .loop .nesting) (at-loop-test .loop-test .left)))
+    rw (at-loop .loop .inv .0 ∙ nests-end (at-start .args .buf .now) (at-loop .loop .names) (at-loop .loop .i) (at-loop .loop .nesting) (at-loop-test .loop-test .left), at-loop .loop .inv .3 ∙ order-end (at-start .args .buf .now) (at-loop .loop .i) (at-loop .loop .in-order) (at-loop .loop .behind) (at-loop-test .loop-test .left)) (c .at-end .ensures (at-start .args .buf .now) (at-loop .loop .names))
 
 pub test-structure-spec : {M : Type 1} → statement M
 test-structure-spec =
@@ -75,7 +97,10 @@ test-structure-spec =
     μ-loop
     loop-holds
     line-end-requires
+    kind-at-requires
     after-line-requires
+    keeps-order-requires
+    is-behind-requires
     add-i
     loop-less
     loop-again

@@ -10,7 +10,8 @@ use Rattle.content.specs.Buffer.{isLf}
 use Rattle.converter.specs.Property.{readProperty}
 use Rattle.jcalproperties.specs.Passed.{passed}
 use Rattle.jcal.specs.Events.{eventsIn}
-use Rattle.jcal.proofs.Turns.{passed-as, failed-as, eachTested, turn-none, turn-on, turn-off}
+use Rattle.jcal.specs.Walk.{eachTested}
+use Rattle.jcal.proofs.Turns.{passed-as, failed-as, turn-none, turn-on, turn-off}
 use Rattle.jcal.proofs.testing.test_properties.Statement.{statement}
 use Rattle.jcal.proofs.testing.test_properties.Tie as tie
 

@@ -1,0 +1,59 @@
+-- `jcal::placing::open_component` meets its contract.
+use mathlib.Core.List.{append-assoc}
+use mathlib.Core.Path.{ap, _∙_}
+use borrow.Author.Needs.{needs}
+use Rattle.octets.proofs.Pen.{then, as-text}
+use Rattle.octets.specs.Basics.{octets}
+use Rattle.json.specs.Print.{printString}
+use Rattle.jcal.specs.Events.{nameFrom}
+use Rattle.jcal.specs.Walk.{nameText}
+use Rattle.jcal.proofs.Stacks.{name-part}
+use Rattle.jcal.proofs.placing.open_component.Statement.{statement}
+use Rattle.jcal.proofs.placing.open_component.Tie as tie
+
+put-requires : tie.Need-put-requires
+put-requires c κs = search needs
+
+sub-put-name : tie.Need-sub-put-name
+sub-put-name c = search needs
+
+part-put-name-start : tie.Need-part-put-name-start
+part-put-name-start c = search needs
+
+part-put-name-end : tie.Need-part-put-name-end
+part-put-name-end c = search needs
+
+put-name-requires : tie.Need-put-name-requires
+put-name-requires c κs = search needs
+
+slice-aggregate-put-all : tie.Need-slice-aggregate-put-all
+slice-aggregate-put-all c = search needs
+
+put-all-requires : tie.Need-put-all-requires
+put-all-requires c κs = search needs
+
+same-length : tie.Need-same-length
+same-length c = search needs
+
+returns : tie.Need-returns
+unfolding nameText
+returns c =
+    let at-put-all = c .before .before in
+    let at-put-name = at-put-all .before .before .before .before .before in
+    let at-put = at-put-name .before .before .before .before .before in
+    let at-start = at-put .before .before .before .before in
+    as-text (then (then (at-put .put .ensures) (as-text (at-put-name .put-name .ensures) (ap printString (name-part (at-start .args .buf .now) (at-start .args .name) (at-start .args .e) (at-start .pre .ends))))) (at-put-all .put-all .ensures)) (append-assoc (octets "[") (printString (nameFrom (at-start .args .buf .now) (at-start .args .name))) (octets ",["))
+
+pub open-component-spec : {M : Type 1} → statement M
+open-component-spec =
+    tie.close
+    (tie.spec
+    put-requires
+    sub-put-name
+    part-put-name-start
+    part-put-name-end
+    put-name-requires
+    slice-aggregate-put-all
+    put-all-requires
+    same-length
+    returns)

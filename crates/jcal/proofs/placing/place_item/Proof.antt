@@ -1,0 +1,27 @@
+-- `jcal::placing::place_item` meets its contract.
+use borrow.Author.Needs.{needs}
+use Rattle.types.specs.Laid.{tableIn}
+use Rattle.content.specs.Line.{lineOf}
+use Rattle.jcal.proofs.Bodies.{item-placed}
+use Rattle.jcal.proofs.placing.place_item.Statement.{statement}
+use Rattle.jcal.proofs.placing.place_item.Tie as tie
+
+put-comma-requires : tie.Need-put-comma-requires
+put-comma-requires c κs = search needs
+
+place-property-requires : tie.Need-place-property-requires
+place-property-requires c κs = search needs
+
+same-length : tie.Need-same-length
+same-length c = search needs
+
+returns : tie.Need-returns
+returns c =
+    let at-place-property = c .before .before in
+    let at-put-comma = at-place-property .before .before .before .before in
+    let at-start = at-put-comma .before .before .before .before .before in
+    item-placed (tableIn (at-start .args .rows .now)) (lineOf (at-start .args .line .now)) _ _ (at-place-property .place-property .result) (at-put-comma .put-comma .ensures) (at-place-property .place-property .ensures)
+
+pub place-item-spec : {M : Type 1} → statement M
+place-item-spec =
+    tie.close (tie.spec put-comma-requires place-property-requires same-length returns)
