@@ -1,12 +1,12 @@
 -- Properties tested for 7, 8 and 9 by what their ruling says.
-use Prim.Native.Nat.{ℕ, _≤_}
+use Prim.Native.Nat.{ℕ, _-_, _≤_, _<_}
 use mathlib.Core.Path.{_≡_, refl, sym, ap, _∙_}
 use mathlib.Core.Bool.{Bool, true, false, not}
 use mathlib.Core.List.{List, [], _∷_, _++_, map}
 use mathlib.Core.Logic.{inl}
 use mathlib.Core.Option.{Option, none, some}
 use native.Mathlib.Omega.{arith}
-use lib.ListN.{length}
+use lib.ListN.{length, take, drop}
 use borrow.Author.Tests.{eq-eqb}
 use lib.Dec.{leb}
 use Rattle.octets.specs.Basics.{octets, pick, _and_, _or_, all, same, single, filled}
@@ -15,35 +15,42 @@ use Rattle.octets.specs.Classes.{lowerNameOctet, isLowerName, lower, isName}
 use Rattle.octets.specs.Answers.{Answer, refused, accepted, then, orElse, unless, number}
 use Rattle.octets.specs.declared.Refusal.{Refusal}
 use Rattle.octets.proofs.Answers.{not-accepted}
-use Rattle.octets.proofs.Cases.{same?, never, both}
+use Rattle.octets.proofs.Cases.{same?, never, both, and-true-right, and-false-right}
 use Rattle.octets.proofs.Classes.{lower-name, lower-name-stays}
 use Rattle.types.specs.Table.{Row, Table, find}
 use Rattle.json.specs.Tree.{Json, null, falsity, truth, num, str, arr, obj, string?, number?, array?, object?, listOf, octetsOf, elements, element}
 use Rattle.json.specs.Tape.{tagEnd}
-use Rattle.tape.specs.Decode.{others, tagAt, valueAt, itemsAt, listAt}
+use Rattle.tape.specs.Decode.{others, tagAt, valueAt, itemsAt, listAt, membersAt}
 use Rattle.tape.specs.Promise.{After, Next, Left, TextAt}
 use Rattle.tape.specs.declared.Text.{Text}
 use Rattle.tape.proofs.Values.{list-end, list-first, list-next, no-text}
 use Rattle.tape.proofs.Walks.{Along, elements-inside, next-group}
+use Rattle.content.specs.Folding.{FoldPen}
 use Rattle.content.specs.Parameters.{isEncoded, mayReturn}
+use Rattle.content.specs.declared.fold.Folder.{Folder}
 use Rattle.values.specs.Sorts.{sortOf}
 use Rattle.values.specs.Coded.{sortSaid}
 use Rattle.values.specs.declared.sorts.Sort.{Sort as SortCode}
 use Rattle.icalrecur.specs.Room.{hasRoom}
-use Rattle.icalrecur.proofs.Room.{room}
+use Rattle.icalrecur.proofs.Room.{room, no-room}
 use Rattle.values.specs.Read.{readValues, valuesOf}
 use Rattle.values.specs.Write.{valuesAre}
 use Rattle.converter.specs.Tree.{Property}
 use Rattle.converter.specs.Property.{codeOf, manyOf, encodingFits, readAs}
-use Rattle.converter.specs.Skeleton.{areParameters, isPropertyName, isListOf, isProperty, propertyFrom}
+use Rattle.converter.specs.Skeleton.{areParameters, isPropertyName, isListOf, isProperty, paramsFrom, propertyFrom}
 use Rattle.converter.specs.Return.{isUnknown, statedType, writtenSort, firstOctets, takenBy, checked}
 use Rattle.converter.specs.ToIcal.{checkedAll}
-use Rattle.properties.specs.Standing.{Within}
+use Rattle.properties.specs.Standing.{Within, PartsAt}
+use Rattle.properties.specs.declared.Parts.{Parts}
 use Rattle.properties.specs.Ruled.{Rules}
 use Rattle.properties.specs.declared.Ruling.{Ruling}
-use Rattle.ical.specs.Tests.{Tests, checkedIn}
-use Rattle.ical.specs.declared.Tested.{Tested}
-use Rattle.ical.specs.declared.Tested.the-variants.{Passed, Refused}
+use Rattle.ical.specs.Valued.{ValuedAs}
+use Rattle.ical.specs.declared.Valued.{Valued}
+use Rattle.ical.specs.declared.Valued.the-variants.{Wrote, Invalid}
+use Rattle.ical.specs.Writes.{standing, Stands}
+use Rattle.ical.specs.Converts.{checkedIn, Puts, Converts}
+use Rattle.ical.specs.declared.Conversion.{Conversion}
+use Rattle.ical.specs.declared.Conversion.the-variants.{Passed, Refused}
 use Rattle.ical.proofs.Arrays.{list-array, property-array}
 
 -- a string's test is passed by its octets
@@ -99,9 +106,40 @@ pub taken-by-sort : (s : SortCode) (n : List ℕ) (c : ℕ) (m : Bool) {raw got 
 unfolding valuesOf
 taken-by-sort s n c m e f = rw (e, f)
 
--- where there is room for the values
-pub with-room : (t s : List ℕ) (b : Bool) {r : Bool} → length t ≤ length s → r ≡ (hasRoom t s and b) → b ≡ r
-with-room t s b h e = sym (e ∙ rw (room t s h))
+-- the values of a ruling, where there is room for them
+module _ (k : Ruling) (n : List ℕ) where
+  pub not-taken : (vs : List Json) {b : Bool} → b ≡ (not (k .taken) or isSome (valuesOf n (k .code) (k .many) (firstOctets vs))) → b ≡ false → standing k n vs ≡ false
+  unfolding standing
+  not-taken vs e f = rw (sym e ∙ f) (and-false-right (valuesAre (k .many) (sortSaid (k .sort)) vs))
+
+  is-standing : (vs : List Json) {b x : Bool} → b ≡ (not (k .taken) or isSome (valuesOf n (k .code) (k .many) (firstOctets vs))) → b ≡ true → valuesAre (k .many) (sortSaid (k .sort)) vs ≡ x → standing k n vs ≡ x
+  unfolding standing
+  is-standing vs e f g = rw (sym e ∙ f, g) (and-true-right _)
+
+  pub stood : (t s u : List ℕ) (i : ℕ) (f : FoldPen) (out : List ℕ) {b : Bool} (r : Valued) → b ≡ (not (k .taken) or isSome (valuesOf n (k .code) (k .many) (firstOctets (listAt t i)))) → b ≡ true
+      → length t ≤ length s → length t ≤ length u → ValuedAs (hasRoom t s and hasRoom t u) (k .many) (sortSaid (k .sort)) t i f out r → Stands k n t i f out r
+  stood t s u i f out (Wrote e q) g h a b v = (is-standing (listAt t i) g h (rw (room t s a, room t u b) at (v .0)), v .1, v .2)
+  stood t s u i f out Invalid g h a b v = is-standing (listAt t i) g h (rw (room t s a, room t u b) at v)
+
+  -- by the answer
+  module _ (t : List ℕ) (i : ℕ) (f : FoldPen) (out : List ℕ) (r : Valued) (v : Stands k n t i f out r) where
+    pub stands-told : {e : ℕ} {q : Folder} → r ≡ Wrote e q → Stands k n t i f out (Wrote e q)
+    stands-told z = rw z at v
+
+    pub invalid-told : r ≡ Invalid → standing k n (listAt t i) ≡ false
+    invalid-told z = rw z at v
+
+-- the values where they are tested and then written
+module _ (t s u : List ℕ) (b : Bool) where
+  pub no-rule : length u < length t → ((hasRoom t s and hasRoom t u) and b) ≡ false
+  no-rule h = rw (no-room t u h, and-false-right (hasRoom t s))
+
+  pub values-are : {r x : Bool} → length t ≤ length u → r ≡ (hasRoom t s and b) → r ≡ x → ((hasRoom t s and hasRoom t u) and b) ≡ x
+  values-are h e f = rw (room t u h, and-true-right (hasRoom t s)) (sym e ∙ f)
+
+  pub values-there : (v xs : List ℕ) → length v ≡ length s → ((hasRoom t s and hasRoom t u) and b) ≡ true → pick (hasRoom t v and hasRoom t u) xs [] ≡ xs
+  unfolding hasRoom
+  values-there v xs e h = rw (e, both (hasRoom t s and hasRoom t u) b h .0)
 
 -- nothing stands against it
 abbrev pub ok : Answer (Unit {0})
@@ -167,21 +205,24 @@ module _ (T : Table) (p : Property) where
     first-passed h = rw (a, fits-by h)
 
     stands-9 : encodingFits (k .code) (isEncoded (p .params)) ≡ true
-        → checkedIn T p ≡ unless 9 (valuesAre (k .many) (sortSaid (k .sort)) (p .values) and (not (k .taken) or isSome (valuesOf (p .name) (k .code) (k .many) (firstOctets (p .values))))) (λ _. ok)
-    unfolding writtenSort
+        → checkedIn T p ≡ unless 9 (standing k (p .name) (p .values)) (λ _. ok)
+    unfolding writtenSort standing
     stands-9 h = rw (g .many, g .sort, g .taken, g .code) (first-passed h ∙ values-answer p (find T (p .name)) (valuesAre (manyOf (find T (p .name))) (writtenSort p) (p .values)) refl (fits-by h))
 
-    pub faulty-9 : {b : Bool} → encodingFits (k .code) (isEncoded (p .params)) ≡ true
-        → b ≡ (valuesAre (k .many) (sortSaid (k .sort)) (p .values) and (not (k .taken) or isSome (valuesOf (p .name) (k .code) (k .many) (firstOctets (p .values)))))
-        → b ≡ false → checkedIn T p ≡ refused 9
+    pub faulty-9 : encodingFits (k .code) (isEncoded (p .params)) ≡ true → standing k (p .name) (p .values) ≡ false → checkedIn T p ≡ refused 9
     unfolding unless
-    faulty-9 h e f = stands-9 h ∙ rw (sym e ∙ f)
+    faulty-9 h e = stands-9 h ∙ rw e
 
-    pub faultless : {b : Bool} → encodingFits (k .code) (isEncoded (p .params)) ≡ true
-        → b ≡ (valuesAre (k .many) (sortSaid (k .sort)) (p .values) and (not (k .taken) or isSome (valuesOf (p .name) (k .code) (k .many) (firstOctets (p .values)))))
-        → b ≡ true → checkedIn T p ≡ ok
+    pub faultless : encodingFits (k .code) (isEncoded (p .params)) ≡ true → standing k (p .name) (p .values) ≡ true → checkedIn T p ≡ ok
     unfolding unless
-    faultless h e f = stands-9 h ∙ rw (sym e ∙ f)
+    faultless h e = stands-9 h ∙ rw e
+
+-- the octets of a text on a tape, and the ruling of a property by its parts there
+abbrev pub octetsIn : List ℕ → Text → List ℕ
+octetsIn t x = take (x .to - x .from) (drop (x .from) t)
+
+abbrev pub RuledAt : Table → List ℕ → Parts → Ruling → Type 0
+RuledAt T t p k = Rules (find T (octetsIn t (p .name))) (lower (octetsIn t (p .name))) (lower (octetsIn t (p .kind))) k
 
 -- the ruling of a property in lowercase
 pub ruled-as : (T : Table) {n t : List ℕ} {k : Ruling} (j : Json) → isProperty j ≡ true → n ≡ propertyFrom j .name → t ≡ propertyFrom j .type → Rules (find T n) (lower n) (lower t) k
@@ -190,8 +231,7 @@ ruled-as T j h e f g = rw (e, f, stays-lower _ (name-lower j h), stays-lower _ (
 
 -- the values of a property in lowercase
 pub as-stood : (k : Ruling) (j : Json) → isProperty j ≡ true → {n : List ℕ} {l : List Json} {b : Bool} → n ≡ propertyFrom j .name → l ≡ propertyFrom j .values
-    → b ≡ (valuesAre (k .many) (sortSaid (k .sort)) l and (not (k .taken) or isSome (valuesOf (lower n) (k .code) (k .many) (firstOctets l))))
-    → b ≡ (valuesAre (k .many) (sortSaid (k .sort)) (propertyFrom j .values) and (not (k .taken) or isSome (valuesOf (propertyFrom j .name) (k .code) (k .many) (firstOctets (propertyFrom j .values)))))
+    → standing k (lower n) l ≡ b → standing k (propertyFrom j .name) (propertyFrom j .values) ≡ b
 as-stood k j h e f g = rw (e, f, stays-lower _ (name-lower j h)) at g
 
 pub kind-name : (j : Json) → isProperty j ≡ true → {t : List ℕ} → t ≡ propertyFrom j .type → isName t ≡ true
@@ -247,12 +287,42 @@ pub array-checked : (T : Table) (p : Json → Bool) (t : List ℕ) (i : ℕ) {a 
 array-checked T p t i h x = ap (λ js. checkedAll T (map propertyFrom js)) (elements-inside x (list-array t i p h))
 
 -- what an answer tells
-module _ (t : List ℕ) (i : ℕ) (a : Answer (Unit {0})) (r : Tested) (c : Tests t i a r) where
-  pub passes : {e : ℕ} → r ≡ Passed e → (a ≡ ok) × Next t i e
-  passes q = rw q at c
+module _ (t : List ℕ) (i : ℕ) (a : Answer (Unit {0})) (out : List ℕ) (to : ℕ) (lines : List (List ℕ)) (out′ : List ℕ) (r : Conversion) (c : Converts t i a out to lines out′ r) where
+  pub passes : {n q : ℕ} → r ≡ Passed n q → Puts t i a out to lines out′ n q
+  passes z = rw z at c
 
   pub refuses : {w : Refusal} → r ≡ Refused w → a ≡ refused (number w)
-  refuses q = rw q at c
+  refuses z = rw z at c
+
+-- the property at i of a tape, by its parts
+module _ (T : Table) {t : List ℕ} {i : ℕ} {p : Parts} (h : isProperty (valueAt t i) ≡ true) (x : PartsAt t i p) where
+  abbrev answered : Answer (Unit {0})
+  answered = checkedIn T (propertyFrom (valueAt t i))
+
+  pub refused-7 : {a : Bool} → a ≡ all mayReturn (paramsFrom (membersAt t (p .params))) → a ≡ false → answered ≡ refused 7
+  refused-7 e f = faulty-7 T _ (ap (all mayReturn) (sym (x .params)) ∙ sym e ∙ f)
+
+  module _ {k : Ruling} (g : RuledAt T t p k) where
+    pub ruled-there : Rules (find T (propertyFrom (valueAt t i) .name)) (propertyFrom (valueAt t i) .name) (propertyFrom (valueAt t i) .type) k
+    ruled-there = ruled-as T (valueAt t i) h (x .name .part) (x .kind .part) g
+
+  module _ {a : Bool} (e : a ≡ all mayReturn (paramsFrom (membersAt t (p .params)))) (f : a ≡ true) {k : Ruling} (g : RuledAt T t p k)
+      {b : Bool} (u : b ≡ isEncoded (paramsFrom (membersAt t (p .params)))) {c : Bool} (v : c ≡ encodingFits (k .code) b) where
+    may : all mayReturn (propertyFrom (valueAt t i) .params) ≡ true
+    may = ap (all mayReturn) (sym (x .params)) ∙ sym e ∙ f
+
+    fits : {r : Bool} → c ≡ r → encodingFits (k .code) (isEncoded (propertyFrom (valueAt t i) .params)) ≡ r
+    fits z = ap (encodingFits (k .code)) (sym (u ∙ ap isEncoded (x .params))) ∙ sym v ∙ z
+
+    pub refused-8 : c ≡ false → answered ≡ refused 8
+    refused-8 z = faulty-8 T _ may (ruled-there g) (fits z)
+
+    module _ (z : c ≡ true) where
+      pub refused-9 : standing k (lower (octetsIn t (p .name))) (listAt t (p .values)) ≡ false → answered ≡ refused 9
+      refused-9 s = faulty-9 T _ may (ruled-there g) (fits z) (as-stood k (valueAt t i) h (x .name .part) (x .values) s)
+
+      pub passed : standing k (lower (octetsIn t (p .name))) (listAt t (p .values)) ≡ true → answered ≡ ok
+      passed s = faultless T _ may (ruled-there g) (fits z) (as-stood k (valueAt t i) h (x .name .part) (x .values) s)
 
 -- behind a property, from its values on
 pub behind-values : {t : List ℕ} {i v e : ℕ} → isProperty (valueAt t i) ≡ true → Within t i v → Left t v e → Next t i e

@@ -1,10 +1,10 @@
 -- The lines of properties and components, from the pieces in which they are written.
-use Prim.Native.Nat.{ℕ, _-_, _≤_}
+use Prim.Native.Nat.{ℕ, _-_}
 use mathlib.Core.Path.{_≡_, refl, sym, ap, _∙_}
 use mathlib.Core.Bool.{Bool, true, false}
 use mathlib.Core.List.{List, [], _∷_, _++_, map, append-nil, append-assoc}
 use mathlib.Core.Option.{Option, none, some}
-use lib.ListN.{length, take, drop}
+use lib.ListN.{take, drop}
 use Rattle.octets.specs.Basics.{octets, pick, _and_, _or_}
 use Rattle.octets.specs.Classes.{isName, upper}
 use Rattle.octets.specs.Optional.{isSome}
@@ -13,7 +13,7 @@ use Rattle.octets.proofs.Classes.{name-upper}
 use Rattle.types.specs.Table.{Table, Row, find}
 use Rattle.json.specs.Tree.{Json, octetsOf, elements, element}
 use Rattle.json.specs.Tape.{tagEnd}
-use Rattle.tape.specs.Decode.{tagAt, valueAt, listAt}
+use Rattle.tape.specs.Decode.{tagAt, valueAt, listAt, membersAt}
 use Rattle.tape.specs.Promise.{After, Next, TextAt}
 use Rattle.tape.specs.declared.Text.{Text}
 use Rattle.tape.proofs.Walks.{elements-inside}
@@ -25,16 +25,17 @@ use Rattle.content.proofs.ParamText.{moreValues, param-text, name-text}
 use Rattle.content.proofs.Folding.{text-append}
 use Rattle.values.specs.Coded.{sortSaid}
 use Rattle.values.specs.Write.{valuesText}
-use Rattle.icalrecur.specs.Room.{hasRoom}
-use Rattle.icalrecur.proofs.Room.{room}
 use Rattle.converter.specs.Tree.{Property, Component, Forest, forestOf}
-use Rattle.converter.specs.Skeleton.{isListOf, isComponent, propertyFrom, componentFrom}
+use Rattle.converter.specs.Skeleton.{isListOf, isProperty, isComponent, paramsFrom, propertyFrom, componentFrom}
 use Rattle.converter.specs.Return.{isUnknown, isDefault, shown, withValue, writtenSort, writtenLine}
 use Rattle.converter.specs.ToIcal.{beginLine, endLine, propertyLine, linesOf, linesIn}
+use Rattle.properties.specs.Standing.{PartsAt}
 use Rattle.properties.specs.Ruled.{Rules}
+use Rattle.properties.specs.declared.Parts.{Parts}
 use Rattle.properties.specs.declared.Ruling.{Ruling}
 use Rattle.ical.specs.Writes.{valueText, headText}
 use Rattle.ical.proofs.Arrays.{list-array, component-array}
+use Rattle.ical.proofs.Judging.{octetsIn, RuledAt, ruled-there}
 use Rattle.ical.proofs.Composed.{component-is, composed, subs-tag}
 use Rattle.skeleton.proofs.Parts.{first-is, second-is, third-is}
 
@@ -71,12 +72,11 @@ head-then n b t ps v =
     append-assoc (upper n) (valueText b t ++ (paramsText ps ++ octets ":")) v
     ∙ ap (λ l. upper n ++ l) (append-assoc (valueText b t) (paramsText ps ++ octets ":") v ∙ ap (λ l. valueText b t ++ l) (append-assoc (paramsText ps) (octets ":") v))
 
-pub line-pieces : (T : Table) (j : Json) {k : Ruling} (t s u : List ℕ) {n d : List ℕ} {ps : List Param} {l : List Json} → length t ≤ length s → length t ≤ length u
-    → n ≡ propertyFrom j .name → d ≡ propertyFrom j .type → ps ≡ propertyFrom j .params → l ≡ propertyFrom j .values
-    → Rules (find T (propertyFrom j .name)) (propertyFrom j .name) (propertyFrom j .type) k
-    → headText n (k .shown) d ps ++ pick (hasRoom t s and hasRoom t u) (valuesText (sortSaid (k .sort)) l) [] ≡ propertyLine T (propertyFrom j)
-line-pieces T j {k} t s u h i a b c d g =
-    rw (room t s h, room t u i, a, b, c, d) (head-then (propertyFrom j .name) (k .shown) (propertyFrom j .type) (propertyFrom j .params) (valuesText (sortSaid (k .sort)) (propertyFrom j .values)) ∙ sym (line-is T (propertyFrom j) g))
+pub line-there : (T : Table) {t : List ℕ} {i : ℕ} {p : Parts} {k : Ruling} → isProperty (valueAt t i) ≡ true → PartsAt t i p → RuledAt T t p k
+    → headText (octetsIn t (p .name)) (k .shown) (octetsIn t (p .kind)) (paramsFrom (membersAt t (p .params))) ++ valuesText (sortSaid (k .sort)) (listAt t (p .values)) ≡ propertyLine T (propertyFrom (valueAt t i))
+line-there T {t} {i} {p} {k} h x g =
+    let q = propertyFrom (valueAt t i) in
+    rw (x .name .part, x .kind .part, x .params, x .values) (head-then (q .name) (k .shown) (q .type) (q .params) (valuesText (sortSaid (k .sort)) (q .values)) ∙ sym (line-is T q (ruled-there T h x g)))
 
 -- lines of properties along the tape
 module _ (T : Table) (t : List ℕ) (i : ℕ) where

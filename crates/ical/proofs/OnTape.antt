@@ -1,6 +1,6 @@
 -- The stages of the conversion over a tape are those of the definition over the value that was parsed.
-use Prim.Native.Nat.{ℕ, _-_, _≤_, _<_}
-use mathlib.Core.Path.{_≡_}
+use Prim.Native.Nat.{ℕ, _+_, _*_, _-_, _≤_, _<_}
+use mathlib.Core.Path.{_≡_, refl}
 use mathlib.Core.Bool.{Bool, true, false}
 use mathlib.Core.List.{List}
 use native.Mathlib.Omega.{arith}
@@ -10,14 +10,13 @@ use lib.ListN.{length, take, drop}
 use Rattle.octets.specs.Basics.{octets, _and_, same}
 use Rattle.octets.specs.Limits.{mostText, mostLevels, mostOpen}
 use Rattle.octets.specs.Utf8.{utf8}
-use Rattle.octets.specs.Answers.{Answer, refused, accepted, then, unless, outcome}
+use Rattle.octets.specs.Answers.{Answer, refused, accepted, then, unless, zeroed, answer, outcome}
 use Rattle.octets.specs.declared.Refusal.{Refusal}
 use Rattle.octets.specs.declared.Converted.{Converted}
 use Rattle.octets.specs.declared.Converted.the-variants.{Written, Refused}
 use Rattle.octets.proofs.Positions.{upto}
 use Rattle.octets.proofs.Limits.{most-text, most-levels, most-open}
 use Rattle.octets.proofs.Cases.{cases, both}
-use Rattle.octets.proofs.Answers.{unless-accepted}
 use Rattle.types.specs.Table.{Table}
 use Rattle.types.specs.Rows.{tableOf}
 use Rattle.types.specs.Laid.{tableIn, roomForRows, readRows}
@@ -63,27 +62,28 @@ module _ (T : Table) (t : List ℕ) where
       unfolding judged unless componentOn
       shallow h = rw (s, c, le-leb (levels (componentFrom mostOpen (valueAt t 0))) mostLevels (omega (arith, most-levels)), most-open)
 
-  calendar-component : isCalendar (valueAt t 0) ≡ true → isComponent 32 (valueAt t 0) ≡ true
-  unfolding isCalendar
-  calendar-component h = rw most-open at (both (isComponent mostOpen (valueAt t 0)) (same (octetsOf (element 0 (valueAt t 0))) (octets "vcalendar")) h .0)
-
-  pub component-there : isCalendar (valueAt t 0) ≡ true → isComponent 32 (valueAt t 0) ≡ true
-  component-there h = calendar-component h
-
-  pub judged-component : judged T t ≡ ok → isComponent 32 (valueAt t 0) ≡ true
-  unfolding judged
-  judged-component e =
-      let a = unless-accepted 12 (soundTape t and isCalendar (valueAt t 0)) (λ _. unless 6 (leb (levels (componentOn t)) mostLevels) (λ _. checkedAll T (propertiesOf (componentOn t)))) tt e .0 in
-      calendar-component (both (soundTape t) (isCalendar (valueAt t 0)) a .1)
-
   -- the text
   pub text-refused : {m : ℕ} → judged T t ≡ refused m → tapeText T t ≡ refused m
   unfolding tapeText then
   text-refused e = rw e
 
-  pub text-accepted : judged T t ≡ ok → tapeText T t ≡ accepted (textOf (linesOf T (componentFrom 32 (valueAt t 0))))
-  unfolding tapeText then componentOn
-  text-accepted e = rw (e, most-open)
+  pub text-accepted : judged T t ≡ ok → tapeText T t ≡ accepted (textOf (linesOf T (componentOn t)))
+  unfolding tapeText then
+  text-accepted e = rw e
+
+-- a refusal leaves what the buffer's length says
+pub refused-alike : (n : ℕ) (a b : List ℕ) → length a ≡ length b → answer (refused n) a ≡ answer (refused n) b
+unfolding answer zeroed
+refused-alike n a b e = rw e
+
+-- the component on a tape
+pub component-on : (t : List ℕ) → componentOn t ≡ componentFrom 32 (valueAt t 0)
+unfolding componentOn
+component-on t = rw most-open
+
+pub component-there : (t : List ℕ) → isCalendar (valueAt t 0) ≡ true → isComponent 32 (valueAt t 0) ≡ true
+unfolding isCalendar
+component-there t h = rw most-open at (both (isComponent mostOpen (valueAt t 0)) (same (octetsOf (element 0 (valueAt t 0))) (octets "vcalendar")) h .0)
 
 -- what the shape of a tape tells
 module _ (t : List ℕ) (r : Shape) (c : Shapes t r) where
@@ -118,13 +118,9 @@ parsed-bad T s e = rw e
 pub laid-within : {o : Out Json} {t₀ t : List ℕ} {n m : ℕ} → IsTape o t₀ t n → length t₀ ≤ m → length (take (n - 0) (drop 0 t)) ≤ m
 laid-within {t₀ = t₀} {t = t} {n = n} w h = rw (laid-back (w .it) t n (drop n t₀) (w .count) (w .tape)) (omega (arith, w .count, w .room))
 
-pub most-tape : mostTape mostText ≡ 131074
+pub tape-is : (n : ℕ) → mostTape n ≡ 2 * n + 2
 unfolding mostTape
-most-tape = rw most-text
-
-pub room-for : (n : ℕ) → n ≤ 65536 → mostTape n ≤ mostTape mostText
-unfolding mostTape
-room-for n h = omega (arith, most-text)
+tape-is n = refl
 
 -- the added rows, by what was read of them
 module _ (hex o b : List ℕ) {r : Converted} (h : roomForRows ≤ length o) (e : outcome r b ≡ readRows hex o) where
@@ -140,9 +136,9 @@ module _ (rows text : List ℕ) where
   unfolding toIcal unless
   too-long h = rw (lt-leb (length text) mostText (omega (arith, most-text)))
 
-  module _ (h : length text ≤ 65536) where
+  module _ (h : length text ≤ mostText) where
     short : leb (length text) mostText ≡ true
-    short = le-leb (length text) mostText (omega (arith, most-text))
+    short = le-leb (length text) mostText h
 
     pub malformed : tableOf rows ≡ refused 2 → toIcal rows text ≡ refused 2
     unfolding toIcal unless then

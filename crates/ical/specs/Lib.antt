@@ -1,3 +1,4 @@
-pub mod Tests
+pub mod Valued
 pub mod Writes
+pub mod Converts
 pub mod Stages

@@ -1,20 +1,24 @@
 -- What the writers of lines promise.
 use Prim.Native.Nat.{ℕ}
-use mathlib.Core.Bool.{Bool, true, false}
+use mathlib.Core.Path.{_≡_}
+use mathlib.Core.Bool.{Bool, true, false, not}
 use mathlib.Core.List.{List, [], _∷_, _++_}
-use Rattle.octets.specs.Basics.{octets}
+use Rattle.octets.specs.Basics.{octets, _and_, _or_}
 use Rattle.octets.specs.Classes.{upper}
-use Rattle.octets.specs.Pen.{pen, Wrote}
-use Rattle.tape.specs.Promise.{Next}
+use Rattle.octets.specs.Optional.{isSome}
+use Rattle.json.specs.Tree.{Json}
+use Rattle.tape.specs.Decode.{listAt}
+use Rattle.tape.specs.Promise.{Left}
 use Rattle.content.specs.Line.{Param}
 use Rattle.content.specs.Write.{paramText, paramsText}
-use Rattle.content.specs.Fold.{textOf}
-use Rattle.ical.specs.declared.Step.{Step}
-
--- the lines were written, and the answer says where the value at i ends
-pub record Puts (t : List ℕ) (i : ℕ) (out : List ℕ) (to : ℕ) (lines : List (List ℕ)) (out′ : List ℕ) (r : Step) : Type 0 where
-  pub wrote : Wrote (pen out to) (textOf lines) (pen out′ (r .to))
-  pub behind : Next t i (r .next)
+use Rattle.content.specs.Folding.{FoldPen, folding, Folded}
+use Rattle.values.specs.Coded.{sortSaid}
+use Rattle.values.specs.Read.{valuesOf}
+use Rattle.values.specs.Write.{valuesAre, valuesText}
+use Rattle.ical.specs.declared.Valued.{Valued}
+use Rattle.ical.specs.declared.Valued.the-variants.{Wrote, Invalid}
+use Rattle.converter.specs.Return.{firstOctets}
+use Rattle.properties.specs.declared.Ruling.{Ruling}
 
 -- VALUE, where it is shown
 unfoldable pub valueText : Bool → List ℕ → List ℕ
@@ -24,3 +28,12 @@ valueText false t = []
 -- a line up to its colon
 unfoldable pub headText : List ℕ → Bool → List ℕ → List Param → List ℕ
 headText n b t ps = upper n ++ (valueText b t ++ (paramsText ps ++ octets ":"))
+
+-- the values are what a ruling asks for under this name
+unfoldable pub standing : Ruling → List ℕ → List Json → Bool
+standing k n vs = valuesAre (k .many) (sortSaid (k .sort)) vs and (not (k .taken) or isSome (valuesOf n (k .code) (k .many) (firstOctets vs)))
+
+-- the values of the group at i stand, are written behind f and end before e; or they do not stand
+abbrev pub Stands : Ruling → List ℕ → List ℕ → ℕ → FoldPen → List ℕ → Valued → Type 0
+Stands k n t i f out (Wrote e q) = (standing k n (listAt t i) ≡ true) × Folded f (valuesText (sortSaid (k .sort)) (listAt t i)) (folding out q) × Left t i e
+Stands k n t i f out Invalid = standing k n (listAt t i) ≡ false

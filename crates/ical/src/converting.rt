@@ -1,7 +1,6 @@
 // The conversion to iCalendar: the tests in the order of their numbers, then the lines.
-use super::Tested;
-use super::components::check_component;
-use super::components::write_component;
+use super::Conversion;
+use super::components::convert_component;
 use json::Parsed;
 use json::parse;
 use octets::Converted;
@@ -26,29 +25,39 @@ ghost use Rattle.octets.specs.Limits.{mostText};
 ghost use Rattle.octets.specs.Utf8.{utf8};
 ghost use Rattle.types.specs.Laid.{tableIn, roomForRows};
 ghost use Rattle.json.specs.Parse.{mostTape};
-ghost use Rattle.converter.specs.ToIcal.{toIcal};
-ghost use Rattle.ical.specs.Tests.{Tests};
-ghost use Rattle.ical.specs.Stages.{judged, tapeText, parsedText};
+ghost use Rattle.converter.specs.ToIcal.{linesOf, toIcal};
+ghost use Rattle.ical.specs.Converts.{Converts};
+ghost use Rattle.ical.specs.Stages.{componentOn, judged, tapeText, parsedText};
 
 // A tape that is long enough for every text that is converted.
 const MOST_TAPE: usize = 2 * MOST_TEXT + 2;
+// Memory to work in is zeroed on each call: a short text has less of it.
+const SHORT_TEXT: usize = 8192;
 
-// Numbers 12 and 6, then 7, 8, 9.
-fn test_tape(t: &[u8], rows: &[u8], text: &mut [u8]) -> Tested
-    requires { ⌜ length (now t) ≤ length (now text) ⌝ }
-    ensures { λ r. ⌜ Tests (now (t .entry)) 0 (judged (tableIn (now (rows .entry))) (now (t .entry))) r ⌝ }
+const SHORT_TAPE: usize = 2 * SHORT_TEXT + 2;
+
+// Numbers 12 and 6, then what is on the tape.
+fn convert_sound(
+    t: &[u8],
+    rows: &[u8],
+    out: &mut [u8],
+    text: &mut [u8],
+    rule: &mut [u8],
+) -> Conversion
+    requires { ⌜ (length (now t) ≤ length (now text)) × (length (now t) ≤ length (now rule)) ⌝ }
+    ensures { λ r. ⌜ Converts (now (t .entry)) 0 (judged (tableIn (now (rows .entry))) (now (t .entry))) (now (out .entry)) 0 (linesOf (tableIn (now (rows .entry))) (componentOn (now (t .entry)))) (now (out .exit)) r ⌝ }
 {
     if !is_sound(t) {
-        return Tested::Refused(Refusal::NotJcal);
+        return Conversion::Refused(Refusal::NotJcal);
     }
     let s = shape_of(t);
     let Shape::Calendar(n) = s else {
-        return Tested::Refused(Refusal::NotJcal);
+        return Conversion::Refused(Refusal::NotJcal);
     };
     if MOST_LEVELS < n {
-        return Tested::Refused(Refusal::TooDeep);
+        return Conversion::Refused(Refusal::TooDeep);
     }
-    check_component(t, 0, MOST_OPEN, rows, text)
+    convert_component(t, 0, MOST_OPEN, rows, out, 0, text, rule)
 }
 
 // Converts what is on the tape.
@@ -62,13 +71,10 @@ fn convert_tape(
     requires { ⌜ (length (now t) ≤ length (now text)) × (length (now t) ≤ length (now rule)) ⌝ }
     ensures { λ r. ⌜ outcome r (now (out .exit)) ≡ answer (tapeText (tableIn (now (rows .entry))) (now (t .entry))) (now (out .entry)) ⌝ }
 {
-    let c = test_tape(t, rows, text);
+    let c = convert_sound(t, rows, out, text, rule);
     match c {
-        Tested::Refused(w) => refuse(out, w),
-        Tested::Passed(_) => {
-            let s = write_component(t, 0, MOST_OPEN, rows, out, 0, text, rule);
-            finish(out, s.to)
-        }
+        Conversion::Refused(w) => refuse(out, w),
+        Conversion::Passed(_, n) => finish(out, n),
     }
 }
 
@@ -93,7 +99,7 @@ fn convert_text(
     }
 }
 
-// Numbers 1, 2 and 3, and then the text; all but `out` is memory to work in.
+// Numbers 2 and 3, and then the text; all but `out` is memory to work in.
 fn convert(
     text: &[u8],
     hex: &[u8],
@@ -103,12 +109,10 @@ fn convert(
     scratch: &mut [u8],
     rule: &mut [u8],
 ) -> Converted
-    requires { ⌜ (roomForRows ≤ length (now table)) × (mostTape mostText ≤ length (now tape)) × (length (now tape) ≤ length (now scratch)) × (length (now tape) ≤ length (now rule)) ⌝ }
+    requires { ⌜ (length (now text) ≤ mostText) × (roomForRows ≤ length (now table)) × (mostTape (length (now text)) ≤ length (now tape))
+        × (length (now tape) ≤ length (now scratch)) × (length (now tape) ≤ length (now rule)) ⌝ }
     ensures { λ r. ⌜ outcome r (now (out .exit)) ≡ answer (toIcal (now (hex .entry)) (now (text .entry))) (now (out .entry)) ⌝ }
 {
-    if MOST_TEXT < text.len() {
-        return refuse(out, Refusal::TextTooLong);
-    }
     let r = read_rows(hex, table);
     match r {
         Converted::Refused(_) => refuse(out, Refusal::RowsMalformed),
@@ -121,8 +125,29 @@ fn convert(
     }
 }
 
-// Converts jCal to iCalendar, with the added rows of rows.hex.
-pub fn to_ical(text: &[u8], rows: &[u8], out: &mut [u8]) -> Converted
+// Converts a short text.
+fn convert_short(text: &[u8], rows: &[u8], out: &mut [u8]) -> Converted
+    requires { ⌜ length (now text) ≤ 8192 ⌝ }
+    ensures { λ r. ⌜ outcome r (now (out .exit)) ≡ answer (toIcal (now (rows .entry)) (now (text .entry))) (now (out .entry)) ⌝ }
+{
+    let mut table = [0u8; ROOM_FOR_ROWS];
+    let mut tape = [0u8; SHORT_TAPE];
+    let mut scratch = [0u8; SHORT_TAPE];
+    let mut rule = [0u8; SHORT_TAPE];
+    convert(
+        text,
+        rows,
+        out,
+        &mut table,
+        &mut tape,
+        &mut scratch,
+        &mut rule,
+    )
+}
+
+// Converts a long text.
+fn convert_long(text: &[u8], rows: &[u8], out: &mut [u8]) -> Converted
+    requires { ⌜ length (now text) ≤ mostText ⌝ }
     ensures { λ r. ⌜ outcome r (now (out .exit)) ≡ answer (toIcal (now (rows .entry)) (now (text .entry))) (now (out .entry)) ⌝ }
 {
     let mut table = [0u8; ROOM_FOR_ROWS];
@@ -138,4 +163,17 @@ pub fn to_ical(text: &[u8], rows: &[u8], out: &mut [u8]) -> Converted
         &mut scratch,
         &mut rule,
     )
+}
+
+// Converts jCal to iCalendar, with the added rows of rows.hex.
+pub fn to_ical(text: &[u8], rows: &[u8], out: &mut [u8]) -> Converted
+    ensures { λ r. ⌜ outcome r (now (out .exit)) ≡ answer (toIcal (now (rows .entry)) (now (text .entry))) (now (out .entry)) ⌝ }
+{
+    if MOST_TEXT < text.len() {
+        return refuse(out, Refusal::TextTooLong);
+    }
+    if SHORT_TEXT < text.len() {
+        return convert_long(text, rows, out);
+    }
+    convert_short(text, rows, out)
 }

@@ -1,9 +1,13 @@
--- `ical::checks::is_taken` meets its contract.
+-- `ical::property::is_taken` meets its contract.
 use mathlib.Core.Path.{_∙_}
+use borrow.Author.Tests.{not-true, not-false}
 use Rattle.ical.proofs.Judging.{first-octets, taken-by-sort}
 use borrow.Author.Needs.{needs}
-use Rattle.ical.proofs.checks.is_taken.Statement.{statement}
-use Rattle.ical.proofs.checks.is_taken.Tie as tie
+use Rattle.ical.proofs.property.is_taken.Statement.{statement}
+use Rattle.ical.proofs.property.is_taken.Tie as tie
+
+returns : tie.Need-returns
+returns c = rw (not-true (c .before .before .before .before .args .k .taken) (c .if1 .taken))
 
 sort-of-requires : tie.Need-sort-of-requires
 sort-of-requires c κs = search needs
@@ -23,17 +27,18 @@ part-holds-values-end c = search needs
 holds-values-requires : tie.Need-holds-values-requires
 holds-values-requires c κs = search needs
 
-returns : tie.Need-returns
-returns c = c .holds-values .ensures ∙ taken-by-sort _ _ _ _ (c .before .before .before .sort-of .ensures) (c .before .before .text-at .ensures .part ∙ first-octets _ _)
+returns-2 : tie.Need-returns-2
+returns-2 c = rw (not-false (c .before .before .before .before .before .before .before .before .args .k .taken) (c .before .before .before .before .if1 .left)) (c .holds-values .ensures ∙ taken-by-sort _ _ _ _ (c .before .before .before .sort-of .ensures) (c .before .before .text-at .ensures .part ∙ first-octets _ _))
 
 pub is-taken-spec : {M : Type 1} → statement M
 is-taken-spec =
     tie.close
     (tie.spec
+    returns
     sort-of-requires
     text-at-requires
     sub-holds-values
     part-holds-values-start
     part-holds-values-end
     holds-values-requires
-    returns)
+    returns-2)

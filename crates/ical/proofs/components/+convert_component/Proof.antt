@@ -1,0 +1,233 @@
+-- `ical::components::convert_component` meets its contract; the levels left fall.
+use Prim.Native.Nat.{ℕ, _-_, _<_}
+use mathlib.Core.Path.{_≡_, refl, sym, ap, _∙_}
+use native.Mathlib.Omega.{arith}
+use lib.ListN.{length}
+use Rattle.octets.specs.Pen.{pen}
+use Rattle.octets.proofs.Pen.{Leads, leads-start, leads-on, leads-end, as-text}
+use Rattle.types.specs.Laid.{tableIn}
+use Rattle.tape.specs.Decode.{listAt}
+use Rattle.tape.proofs.after.Reads as after
+use Rattle.tape.proofs.leave.Reads as leave
+use Rattle.tape.proofs.tag.Reads as tag
+use Rattle.tape.proofs.text_at.Reads as text-at
+use Rattle.content.specs.Fold.{textOf}
+use Rattle.content.proofs.Folding.{lines-then}
+use Rattle.converter.specs.Skeleton.{isComponent}
+use Rattle.converter.specs.ToIcal.{checkedAll}
+use Rattle.ical.proofs.Arrays.{Walking, walking-start, walking-here, walking-next, walking-end}
+use Rattle.ical.proofs.Composed.{composed, subProperties, subs-end, subs-on, subs-off, properties-there, component-refused, subs-there, component-end, component-checked}
+use Rattle.ical.proofs.Judging.{passes, refuses}
+use Rattle.ical.proofs.Lined.{subLines, sub-lines-end, sub-lines-on, component-lines}
+use Rattle.ical.proofs.lines.write_mark.Reads as write-mark
+use Rattle.ical.proofs.property.convert_properties.Reads as convert-properties
+use borrow.Author.Needs.{needs}
+use borrow.Fn.Kinds.{In}
+use borrow.Fn.PlainCycle.{Measures, is, falls, and}
+use Rattle.ical.proofs.components.convert_component.Reads as self
+use Rattle.ical.proofs.components.convert_component.Kinds as kinds
+use Rattle.ical.proofs.components.+convert_component.Lts-convert_component as lts
+use Rattle.ical.proofs.components.+convert_component.{statement}
+use Rattle.ical.proofs.components.+convert_component.Tie.{close}
+
+abbrev μ : Measures 5 kinds.ps ℕ
+μ κs a = a .1 .1 .0
+
+abbrev here : ℕ → In 5 kinds.ps
+here t = and 5 kinds.ps (is 5 kinds.ps μ t) self.Pre
+
+abbrev below : ℕ → In 5 kinds.ps
+below t = and 5 kinds.ps (falls 5 kinds.ps _<_ μ t) self.Pre
+
+abbrev claims : ℕ → lts.Claims
+claims t = (after.Asked, after.Learnt, text-at.Asked, text-at.Learnt, write-mark.Asked, write-mark.Learnt, convert-properties.Asked, convert-properties.Learnt, tag.Asked, tag.Learnt, leave.Asked, leave.Learnt, below t, self.Post)
+
+abbrev Inv-loop : lts.InvT-loop
+Inv-loop t at left rows out₀ to text₀ rule₀ a from end b begun c first q₀ i₀ word out text rule q i =
+    (length out ≡ length out₀) × (length text ≡ length text₀) × (length rule ≡ length rule₀) × Walking (isComponent (left - 1)) t i₀ i
+    × (checkedAll (tableIn rows) (subProperties (left - 1) (listAt t i)) ≡ checkedAll (tableIn rows) (subProperties (left - 1) (listAt t i₀)))
+    × Leads (pen out₀ q₀) (textOf (subLines (tableIn rows) (left - 1) (listAt t i₀))) (pen out q) (textOf (subLines (tableIn rows) (left - 1) (listAt t i)))
+
+abbrev μ-loop : lts.MeasureT-loop
+μ-loop t at left rows out₀ to text₀ rule₀ a from end b begun c first q₀ i₀ word out text rule q i = length t - i
+
+after-requires : (t : ℕ) → lts.Need-after-requires (claims t) (here t) self.Post Inv-loop μ-loop
+after-requires t c κs = search needs
+
+text-at-requires : (t : ℕ) → lts.Need-text-at-requires (claims t) (here t) self.Post Inv-loop μ-loop
+text-at-requires t c κs = search needs
+
+slice-aggregate-write-mark : (t : ℕ) → lts.Need-slice-aggregate-write-mark (claims t) (here t) self.Post Inv-loop μ-loop
+slice-aggregate-write-mark t c = search needs
+
+sub-write-mark : (t : ℕ) → lts.Need-sub-write-mark (claims t) (here t) self.Post Inv-loop μ-loop
+sub-write-mark t c = search needs
+
+part-write-mark-start : (t : ℕ) → lts.Need-part-write-mark-start (claims t) (here t) self.Post Inv-loop μ-loop
+part-write-mark-start t c = search needs
+
+part-write-mark-end : (t : ℕ) → lts.Need-part-write-mark-end (claims t) (here t) self.Post Inv-loop μ-loop
+part-write-mark-end t c = search needs
+
+write-mark-requires : (t : ℕ) → lts.Need-write-mark-requires (claims t) (here t) self.Post Inv-loop μ-loop
+write-mark-requires t c κs = search needs
+
+convert-properties-requires : (t : ℕ) → lts.Need-convert-properties-requires (claims t) (here t) self.Post Inv-loop μ-loop
+convert-properties-requires t c κs = (properties-there _ (c .before .before .before .before .before .before .before .before .before .before .before .before .before .before .before .before .pre .1 .0) (c .before .before .before .before .before .before .before .before .before .before .after .ensures) (c .before .before .before .before .before .before .before .before .before .text-at .ensures .behind), c .before .before .before .before .before .before .before .before .before .before .before .before .before .before .before .before .pre .1 .1, c .before .before .before .before .before .before .before .before .before .before .before .before .before .before .before .before .pre .1 .2)
+
+enum-known-p : (t : ℕ) → lts.Need-enum-known-p (claims t) (here t) self.Post Inv-loop μ-loop
+enum-known-p t c = search needs
+
+enum-told : (t : ℕ) → lts.Need-enum-told (claims t) (here t) self.Post Inv-loop μ-loop
+enum-told t c = search needs
+
+same-length : (t : ℕ) → lts.Need-same-length (claims t) (here t) self.Post Inv-loop μ-loop
+same-length t c = search needs
+
+same-length-2 : (t : ℕ) → lts.Need-same-length-2 (claims t) (here t) self.Post Inv-loop μ-loop
+same-length-2 t c = search needs
+
+same-length-3 : (t : ℕ) → lts.Need-same-length-3 (claims t) (here t) self.Post Inv-loop μ-loop
+same-length-3 t c = search needs
+
+returns : (t : ℕ) → lts.Need-returns (claims t) (here t) self.Post Inv-loop μ-loop
+returns t c = rw (c .enum-told .given .1) (component-refused _ (c .before .before .before .before .before .before .before .before .before .before .before .before .before .before .before .before .before .before .before .before .before .before .before .before .before .pre .1 .0) (c .before .before .before .before .before .before .before .before .before .before .before .before .before .before .before .before .before .before .before .after .ensures) (c .before .before .before .before .before .before .before .before .before .before .before .before .before .before .before .before .before .before .text-at .ensures .behind) _ (refuses _ _ _ _ _ _ _ _ (c .before .before .before .before .before .before .before .before .convert-properties .ensures) (c .enum-told .given .1)))
+
+after-requires-2 : (t : ℕ) → lts.Need-after-requires-2 (claims t) (here t) self.Post Inv-loop μ-loop
+after-requires-2 t c κs = search needs
+
+loop-holds : (t : ℕ) → lts.Need-loop-holds (claims t) (here t) self.Post Inv-loop μ-loop
+loop-holds t c =
+    let z = passes _ _ _ _ _ _ _ _ (c .before .before .before .before .before .before .before .before .before .before .convert-properties .ensures) (c .before .before .p .given .1) in
+    (refl, refl, refl, walking-start (isComponent (c .before .before .before .before .before .before .before .before .before .before .before .before .before .before .before .before .before .before .before .before .before .before .before .before .before .before .before .args .left - 1)) (subs-there _ (c .before .before .before .before .before .before .before .before .before .before .before .before .before .before .before .before .before .before .before .before .before .before .before .before .before .before .before .pre .1 .0) (c .before .before .before .before .before .before .before .before .before .before .before .before .before .before .before .before .before .before .before .before .before .after .ensures) (c .before .before .before .before .before .before .before .before .before .before .before .before .before .before .before .before .before .before .before .before .text-at .ensures .behind) (z .behind)) (c .after2 .ensures), refl, leads-start)
+
+tag-requires : (t : ℕ) → lts.Need-tag-requires (claims t) (here t) self.Post Inv-loop μ-loop
+tag-requires t c κs = search needs
+
+after-requires-3 : (t : ℕ) → lts.Need-after-requires-3 (claims t) (here t) self.Post Inv-loop μ-loop
+after-requires-3 t c κs = search needs
+
+leave-requires : (t : ℕ) → lts.Need-leave-requires (claims t) (here t) self.Post Inv-loop μ-loop
+leave-requires t c κs = search needs
+
+slice-aggregate-write-mark-2 : (t : ℕ) → lts.Need-slice-aggregate-write-mark-2 (claims t) (here t) self.Post Inv-loop μ-loop
+slice-aggregate-write-mark-2 t c = search needs
+
+sub-write-mark-2 : (t : ℕ) → lts.Need-sub-write-mark-2 (claims t) (here t) self.Post Inv-loop μ-loop
+sub-write-mark-2 t c = c .before .before .before .before .before .before .before .before .before .before .before .before .before .before .before .before .before .before .before .before .before .before .before .before .before .before .before .text-at .ensures .order
+
+part-write-mark-start-2 : (t : ℕ) → lts.Need-part-write-mark-start-2 (claims t) (here t) self.Post Inv-loop μ-loop
+part-write-mark-start-2 t c = c .before .before .before .before .before .before .before .before .before .before .before .before .before .before .before .before .before .before .before .before .before .before .before .before .before .before .before .text-at .ensures .order
+
+part-write-mark-end-2 : (t : ℕ) → lts.Need-part-write-mark-end-2 (claims t) (here t) self.Post Inv-loop μ-loop
+part-write-mark-end-2 t c = c .before .before .before .before .before .before .before .before .before .before .before .before .before .before .before .before .before .before .before .before .before .before .before .before .before .before .before .text-at .ensures .within
+
+write-mark-requires-2 : (t : ℕ) → lts.Need-write-mark-requires-2 (claims t) (here t) self.Post Inv-loop μ-loop
+write-mark-requires-2 t c κs = search needs
+
+same-length-4 : (t : ℕ) → lts.Need-same-length-4 (claims t) (here t) self.Post Inv-loop μ-loop
+same-length-4 t c = omega (arith, c .before .before .before .before .before .before .before .before .before .before .loop .inv .0)
+
+same-length-5 : (t : ℕ) → lts.Need-same-length-5 (claims t) (here t) self.Post Inv-loop μ-loop
+same-length-5 t c = omega (arith, c .before .before .before .before .before .before .before .before .before .before .loop .inv .1)
+
+same-length-6 : (t : ℕ) → lts.Need-same-length-6 (claims t) (here t) self.Post Inv-loop μ-loop
+same-length-6 t c = omega (arith, c .before .before .before .before .before .before .before .before .before .before .loop .inv .2)
+
+returns-2 : (t : ℕ) → lts.Need-returns-2 (claims t) (here t) self.Post Inv-loop μ-loop
+returns-2 t c =
+    let z = passes _ _ _ _ _ _ _ _ (c .before .before .before .before .before .before .before .before .before .before .before .before .before .before .before .before .before .before .before .before .before .convert-properties .ensures) (c .before .before .before .before .before .before .before .before .before .before .before .before .before .p .given .1) in
+    record {
+      faultless = component-checked _ (c .before .before .before .before .before .before .before .before .before .before .before .before .before .before .before .before .before .before .before .before .before .before .before .before .before .before .before .before .before .before .before .before .before .before .before .before .before .before .pre .1 .0) (c .before .before .before .before .before .before .before .before .before .before .before .before .before .before .before .before .before .before .before .before .before .before .before .before .before .before .before .before .before .before .before .before .after .ensures) (c .before .before .before .before .before .before .before .before .before .before .before .before .before .before .before .before .before .before .before .before .before .before .before .before .before .before .before .before .before .before .before .text-at .ensures .behind) (z .behind) _ (c .before .before .before .before .before .before .before .before .before .before .before .after2 .ensures) (z .faultless) ∙ sym (c .before .before .before .before .before .before .before .before .before .before .loop .inv .4) ∙ subs-end _ _ _ _ (sym (c .before .before .before .before .before .before .before .before .before .tag .ensures) ∙ c .before .before .before .before .before .before .before .before .if1 .taken);
+      behind = component-end _ (c .before .before .before .before .before .before .before .before .before .before .before .before .before .before .before .before .before .before .before .before .before .before .before .before .before .before .before .before .before .before .before .before .before .before .before .before .before .before .pre .1 .0) (c .before .before .before .before .before .before .before .before .before .before .before .before .before .before .before .before .before .before .before .before .before .before .before .before .before .before .before .before .before .before .before .before .after .ensures) (c .before .before .before .before .before .before .before .before .before .before .before .before .before .before .before .before .before .before .before .before .before .before .before .before .before .before .before .before .before .before .before .text-at .ensures .behind) (z .behind)
+          (walking-end (c .before .before .before .before .before .before .before .before .before .before .loop .inv .3) (subs-there _ (c .before .before .before .before .before .before .before .before .before .before .before .before .before .before .before .before .before .before .before .before .before .before .before .before .before .before .before .before .before .before .before .before .before .before .before .before .before .before .pre .1 .0) (c .before .before .before .before .before .before .before .before .before .before .before .before .before .before .before .before .before .before .before .before .before .before .before .before .before .before .before .before .before .before .before .before .after .ensures) (c .before .before .before .before .before .before .before .before .before .before .before .before .before .before .before .before .before .before .before .before .before .before .before .before .before .before .before .before .before .before .before .text-at .ensures .behind) (z .behind)) (c .before .before .before .before .before .before .before .before .before .before .before .after2 .ensures) (sym (c .before .before .before .before .before .before .before .before .before .tag .ensures) ∙ c .before .before .before .before .before .before .before .before .if1 .taken) (c .before .before .before .before .before .before .before .after3 .ensures)) (c .before .before .before .before .before .before .leave .ensures);
+      wrote = as-text (lines-then _ _ (c .before .before .before .before .before .before .before .before .before .before .before .before .before .before .before .before .before .before .before .before .before .before .before .before .before .before .before .write-mark .ensures) (lines-then _ _ (z .wrote) (lines-then _ _ (leads-end (c .before .before .before .before .before .before .before .before .before .before .loop .inv .5) (sub-lines-end _ _ _ _ (sym (c .before .before .before .before .before .before .before .before .before .tag .ensures) ∙ c .before .before .before .before .before .before .before .before .if1 .taken))) (c .before .before .write-mark2 .ensures))))
+          (ap textOf (component-lines _ _ (c .before .before .before .before .before .before .before .before .before .before .before .before .before .before .before .before .before .before .before .before .before .before .before .before .before .before .before .before .before .before .before .before .before .before .before .before .before .before .pre .1 .0) (c .before .before .before .before .before .before .before .before .before .before .before .before .before .before .before .before .before .before .before .before .before .before .before .before .before .before .before .before .before .before .before .before .after .ensures) (c .before .before .before .before .before .before .before .before .before .before .before .before .before .before .before .before .before .before .before .before .before .before .before .before .before .before .before .before .before .before .before .text-at .ensures) (z .behind) (c .before .before .before .before .before .before .before .before .before .before .before .after2 .ensures)));
+    }
+
+sub-convert-component : (t : ℕ) → lts.Need-sub-convert-component (claims t) (here t) self.Post Inv-loop μ-loop
+sub-convert-component t c = omega (arith, composed _ _ (c .before .before .before .before .before .before .before .before .before .before .before .before .before .before .before .before .before .before .before .before .before .before .before .before .before .before .before .before .before .before .pre .1 .0) .levels)
+
+convert-component-requires : (t : ℕ) → lts.Need-convert-component-requires (claims t) (here t) self.Post Inv-loop μ-loop
+convert-component-requires t c κs = (omega (arith, composed _ _ (c .before .before .before .before .before .before .before .before .before .before .before .before .before .before .before .before .before .before .before .before .before .before .before .before .before .before .before .before .before .before .before .before .before .pre .1 .0) .levels, c .before .before .before .before .before .before .before .before .before .before .before .before .before .before .before .before .before .before .before .before .before .before .before .before .before .before .before .before .before .before .before .before .before .pre .0), (walking-here (c .before .before .before .before .before .loop .inv .3) (λ e. c .before .before .before .if1 .left (c .before .before .before .before .tag .ensures ∙ e)), omega (arith, c .before .before .before .before .before .loop .inv .1, c .before .before .before .before .before .before .before .before .before .before .before .before .before .before .before .before .before .before .before .before .before .before .before .before .before .before .before .before .before .before .before .before .before .pre .1 .1), omega (arith, c .before .before .before .before .before .loop .inv .2, c .before .before .before .before .before .before .before .before .before .before .before .before .before .before .before .before .before .before .before .before .before .before .before .before .before .before .before .before .before .before .before .before .before .pre .1 .2)))
+
+enum-known-s : (t : ℕ) → lts.Need-enum-known-s (claims t) (here t) self.Post Inv-loop μ-loop
+enum-known-s t c = search needs
+
+loop-less : (t : ℕ) → lts.Need-loop-less (claims t) (here t) self.Post Inv-loop μ-loop
+loop-less t c =
+    let y = passes _ _ _ _ _ _ _ _ (c .before .before .before .before .before .before .before .before .before .convert-component .ensures) (c .before .s .given .1) .behind in
+    omega (arith, y .more (λ e. c .before .before .before .before .before .before .before .before .before .before .before .before .before .if1 .left (c .before .before .before .before .before .before .before .before .before .before .before .before .before .before .tag .ensures ∙ e)), y .high)
+
+loop-again : (t : ℕ) → lts.Need-loop-again (claims t) (here t) self.Post Inv-loop μ-loop
+loop-again t c =
+    let y = passes _ _ _ _ _ _ _ _ (c .before .before .before .before .before .before .before .before .before .convert-component .ensures) (c .before .s .given .1) in (
+      omega (arith, c .before .before .before .before .before .before .before .before .before .before .before .before .before .before .before .loop .inv .0),
+      omega (arith, c .before .before .before .before .before .before .before .before .before .before .before .before .before .before .before .loop .inv .1),
+      omega (arith, c .before .before .before .before .before .before .before .before .before .before .before .before .before .before .before .loop .inv .2),
+      walking-next (c .before .before .before .before .before .before .before .before .before .before .before .before .before .before .before .loop .inv .3) (λ e. c .before .before .before .before .before .before .before .before .before .before .before .before .before .if1 .left (c .before .before .before .before .before .before .before .before .before .before .before .before .before .before .tag .ensures ∙ e)) (y .behind),
+      sym (subs-on _ _ _ _ (λ e. c .before .before .before .before .before .before .before .before .before .before .before .before .before .if1 .left (c .before .before .before .before .before .before .before .before .before .before .before .before .before .before .tag .ensures ∙ e)) (y .behind) (y .faultless)) ∙ c .before .before .before .before .before .before .before .before .before .before .before .before .before .before .before .loop .inv .4,
+      leads-on (c .before .before .before .before .before .before .before .before .before .before .before .before .before .before .before .loop .inv .5) (y .wrote) (sub-lines-on _ _ _ _ (λ e. c .before .before .before .before .before .before .before .before .before .before .before .before .before .if1 .left (c .before .before .before .before .before .before .before .before .before .before .before .before .before .before .tag .ensures ∙ e)) (y .behind)),
+    )
+
+enum-known-s-2 : (t : ℕ) → lts.Need-enum-known-s-2 (claims t) (here t) self.Post Inv-loop μ-loop
+enum-known-s-2 t c = search needs
+
+same-length-7 : (t : ℕ) → lts.Need-same-length-7 (claims t) (here t) self.Post Inv-loop μ-loop
+same-length-7 t c = c .before .before .before .before .before .before .before .before .before .convert-component .kept .1 .1 .1 .1 .0 ∙ c .before .before .before .before .before .before .before .before .before .before .before .before .before .before .before .loop .inv .0 ∙ c .before .before .before .before .before .before .before .before .before .before .before .before .before .before .before .before .before .before .before .before .before .before .before .before .before .before .convert-properties .kept .1 .1 .1 .0 ∙ c .before .before .before .before .before .before .before .before .before .before .before .before .before .before .before .before .before .before .before .before .before .before .before .before .before .before .before .before .before .before .before .before .write-mark .kept .0
+
+same-length-8 : (t : ℕ) → lts.Need-same-length-8 (claims t) (here t) self.Post Inv-loop μ-loop
+same-length-8 t c = omega (arith, c .before .before .before .before .before .before .before .before .before .before .before .before .before .before .before .loop .inv .1)
+
+same-length-9 : (t : ℕ) → lts.Need-same-length-9 (claims t) (here t) self.Post Inv-loop μ-loop
+same-length-9 t c = omega (arith, c .before .before .before .before .before .before .before .before .before .before .before .before .before .before .before .loop .inv .2)
+
+returns-3 : (t : ℕ) → lts.Need-returns-3 (claims t) (here t) self.Post Inv-loop μ-loop
+returns-3 t c =
+    let z = passes _ _ _ _ _ _ _ _ (c .before .before .before .before .before .before .before .before .before .before .before .before .before .before .before .before .before .before .before .before .before .before .before .before .before .before .convert-properties .ensures) (c .before .before .before .before .before .before .before .before .before .before .before .before .before .before .before .before .before .before .p .given .1) in
+    component-checked _ (c .before .before .before .before .before .before .before .before .before .before .before .before .before .before .before .before .before .before .before .before .before .before .before .before .before .before .before .before .before .before .before .before .before .before .before .before .before .before .before .before .before .before .before .pre .1 .0) (c .before .before .before .before .before .before .before .before .before .before .before .before .before .before .before .before .before .before .before .before .before .before .before .before .before .before .before .before .before .before .before .before .before .before .before .before .before .after .ensures) (c .before .before .before .before .before .before .before .before .before .before .before .before .before .before .before .before .before .before .before .before .before .before .before .before .before .before .before .before .before .before .before .before .before .before .before .before .text-at .ensures .behind) (z .behind) _ (c .before .before .before .before .before .before .before .before .before .before .before .before .before .before .before .before .after2 .ensures) (z .faultless) ∙ sym (c .before .before .before .before .before .before .before .before .before .before .before .before .before .before .before .loop .inv .4) ∙ subs-off _ _ _ _ (λ e. c .before .before .before .before .before .before .before .before .before .before .before .before .before .if1 .left (c .before .before .before .before .before .before .before .before .before .before .before .before .before .before .tag .ensures ∙ e)) (refuses _ _ _ _ _ _ _ _ (c .before .before .before .before .before .before .before .before .before .convert-component .ensures) (c .before .s2 .given .1))
+
+pub +convert-component-spec : {M : Type 1} → statement M
++convert-component-spec = close μ λ t. lts.spec (claims t)
+    (here t)
+    self.Post
+    Inv-loop
+    μ-loop
+    (after-requires t)
+    (text-at-requires t)
+    (slice-aggregate-write-mark t)
+    (sub-write-mark t)
+    (part-write-mark-start t)
+    (part-write-mark-end t)
+    (write-mark-requires t)
+    (convert-properties-requires t)
+    (enum-known-p t)
+    (enum-told t)
+    (same-length t)
+    (same-length-2 t)
+    (same-length-3 t)
+    (returns t)
+    (after-requires-2 t)
+    (loop-holds t)
+    (tag-requires t)
+    (after-requires-3 t)
+    (leave-requires t)
+    (slice-aggregate-write-mark-2 t)
+    (sub-write-mark-2 t)
+    (part-write-mark-start-2 t)
+    (part-write-mark-end-2 t)
+    (write-mark-requires-2 t)
+    (same-length-4 t)
+    (same-length-5 t)
+    (same-length-6 t)
+    (returns-2 t)
+    (sub-convert-component t)
+    (convert-component-requires t)
+    (enum-known-s t)
+    (loop-less t)
+    (loop-again t)
+    (enum-known-s-2 t)
+    (same-length-7 t)
+    (same-length-8 t)
+    (same-length-9 t)
+    (returns-3 t)

@@ -1,0 +1,118 @@
+-- `ical::property::convert_properties` meets its contract.
+use Prim.Native.Nat.{_-_}
+use mathlib.Core.Path.{_≡_, refl, sym, _∙_}
+use mathlib.Core.List.{List, map}
+use native.Mathlib.Omega.{arith}
+use lib.ListN.{length}
+use Rattle.octets.specs.Pen.{pen}
+use Rattle.octets.proofs.Pen.{Leads, leads-start, leads-on, leads-end, as-text}
+use Rattle.types.specs.Laid.{tableIn}
+use Rattle.tape.specs.Decode.{listAt}
+use Rattle.content.specs.Fold.{textOf}
+use Rattle.converter.specs.Skeleton.{isProperty, propertyFrom}
+use Rattle.converter.specs.ToIcal.{checkedAll, propertyLine}
+use Rattle.ical.proofs.Arrays.{Walking, walking-start, walking-here, walking-next, walking-end}
+use Rattle.ical.proofs.Judging.{array-checked, properties-end, properties-on, properties-off, passes, refuses}
+use Rattle.ical.proofs.Lined.{lines-inside, lines-end, lines-on}
+use borrow.Author.Needs.{needs}
+use Rattle.ical.proofs.property.convert_properties.Statement.{statement}
+use Rattle.ical.proofs.property.convert_properties.Tie as tie
+
+abbrev Inv-loop : tie.InvT-loop
+Inv-loop t at rows out₀ to text₀ rule₀ i₀ q₀ out text rule i q =
+    (length out ≡ length out₀) × (length text ≡ length text₀) × (length rule ≡ length rule₀) × Walking isProperty t i₀ i
+    × (checkedAll (tableIn rows) (map propertyFrom (listAt t i)) ≡ checkedAll (tableIn rows) (map propertyFrom (listAt t i₀)))
+    × Leads (pen out₀ q₀) (textOf (map (propertyLine (tableIn rows)) (map propertyFrom (listAt t i₀)))) (pen out q) (textOf (map (propertyLine (tableIn rows)) (map propertyFrom (listAt t i))))
+
+abbrev μ-loop : tie.MeasureT-loop
+μ-loop t at rows out₀ to text₀ rule₀ i₀ q₀ out text rule i q = length t - i
+
+after-requires : tie.Need-after-requires Inv-loop μ-loop
+after-requires c κs = search needs
+
+loop-holds : tie.Need-loop-holds Inv-loop μ-loop
+loop-holds c = (refl, refl, refl, walking-start isProperty (c .before .before .before .before .before .before .pre .0) (c .after .ensures), refl, leads-start)
+
+tag-requires : tie.Need-tag-requires Inv-loop μ-loop
+tag-requires c κs = search needs
+
+after-requires-2 : tie.Need-after-requires-2 Inv-loop μ-loop
+after-requires-2 c κs = search needs
+
+same-length : tie.Need-same-length Inv-loop μ-loop
+same-length c = omega (arith, c .before .before .before .loop .inv .0)
+
+same-length-2 : tie.Need-same-length-2 Inv-loop μ-loop
+same-length-2 c = omega (arith, c .before .before .before .loop .inv .1)
+
+same-length-3 : tie.Need-same-length-3 Inv-loop μ-loop
+same-length-3 c = omega (arith, c .before .before .before .loop .inv .2)
+
+returns : tie.Need-returns Inv-loop μ-loop
+returns c =
+    record {
+      faultless = array-checked _ isProperty _ _ (c .before .before .before .before .before .before .before .before .before .before .pre .0) (c .before .before .before .before .after .ensures) ∙ sym (c .before .before .before .loop .inv .4) ∙ properties-end _ _ _ (sym (c .before .before .tag .ensures) ∙ c .before .if1 .taken);
+      behind = walking-end (c .before .before .before .loop .inv .3) (c .before .before .before .before .before .before .before .before .before .before .pre .0) (c .before .before .before .before .after .ensures) (sym (c .before .before .tag .ensures) ∙ c .before .if1 .taken) (c .after2 .ensures);
+      wrote = as-text (leads-end (c .before .before .before .loop .inv .5) (lines-end _ _ _ (sym (c .before .before .tag .ensures) ∙ c .before .if1 .taken))) (lines-inside _ isProperty _ _ (c .before .before .before .before .before .before .before .before .before .before .pre .0) (c .before .before .before .before .after .ensures));
+    }
+
+convert-property-requires : tie.Need-convert-property-requires Inv-loop μ-loop
+convert-property-requires c κs = (walking-here (c .before .before .before .before .before .loop .inv .3) (λ e. c .before .before .before .if1 .left (c .before .before .before .before .tag .ensures ∙ e)), omega (arith, c .before .before .before .before .before .loop .inv .1, c .before .before .before .before .before .before .before .before .before .before .before .before .pre .1), omega (arith, c .before .before .before .before .before .loop .inv .2, c .before .before .before .before .before .before .before .before .before .before .before .before .pre .2))
+
+enum-known-p : tie.Need-enum-known-p Inv-loop μ-loop
+enum-known-p c = search needs
+
+loop-less : tie.Need-loop-less Inv-loop μ-loop
+loop-less c =
+    let y = passes _ _ _ _ _ _ _ _ (c .before .before .before .before .before .before .before .before .before .convert-property .ensures) (c .before .p .given .1) .behind in
+    omega (arith, y .more (λ e. c .before .before .before .before .before .before .before .before .before .before .before .before .before .if1 .left (c .before .before .before .before .before .before .before .before .before .before .before .before .before .before .tag .ensures ∙ e)), y .high)
+
+loop-again : tie.Need-loop-again Inv-loop μ-loop
+loop-again c =
+    let y = passes _ _ _ _ _ _ _ _ (c .before .before .before .before .before .before .before .before .before .convert-property .ensures) (c .before .p .given .1) in (
+      omega (arith, c .before .before .before .before .before .before .before .before .before .before .before .before .before .before .before .loop .inv .0),
+      omega (arith, c .before .before .before .before .before .before .before .before .before .before .before .before .before .before .before .loop .inv .1),
+      omega (arith, c .before .before .before .before .before .before .before .before .before .before .before .before .before .before .before .loop .inv .2),
+      walking-next (c .before .before .before .before .before .before .before .before .before .before .before .before .before .before .before .loop .inv .3) (λ e. c .before .before .before .before .before .before .before .before .before .before .before .before .before .if1 .left (c .before .before .before .before .before .before .before .before .before .before .before .before .before .before .tag .ensures ∙ e)) (y .behind),
+      sym (properties-on _ _ _ (λ e. c .before .before .before .before .before .before .before .before .before .before .before .before .before .if1 .left (c .before .before .before .before .before .before .before .before .before .before .before .before .before .before .tag .ensures ∙ e)) (y .behind) (y .faultless)) ∙ c .before .before .before .before .before .before .before .before .before .before .before .before .before .before .before .loop .inv .4,
+      leads-on (c .before .before .before .before .before .before .before .before .before .before .before .before .before .before .before .loop .inv .5) (y .wrote) (lines-on _ _ _ (λ e. c .before .before .before .before .before .before .before .before .before .before .before .before .before .if1 .left (c .before .before .before .before .before .before .before .before .before .before .before .before .before .before .tag .ensures ∙ e)) (y .behind)),
+    )
+
+enum-known-p-2 : tie.Need-enum-known-p-2 Inv-loop μ-loop
+enum-known-p-2 c = search needs
+
+same-length-4 : tie.Need-same-length-4 Inv-loop μ-loop
+same-length-4 c = omega (arith, c .before .before .before .before .before .before .before .before .before .before .before .before .before .before .before .loop .inv .0)
+
+same-length-5 : tie.Need-same-length-5 Inv-loop μ-loop
+same-length-5 c = omega (arith, c .before .before .before .before .before .before .before .before .before .before .before .before .before .before .before .loop .inv .1)
+
+same-length-6 : tie.Need-same-length-6 Inv-loop μ-loop
+same-length-6 c = omega (arith, c .before .before .before .before .before .before .before .before .before .before .before .before .before .before .before .loop .inv .2)
+
+returns-2 : tie.Need-returns-2 Inv-loop μ-loop
+returns-2 c = array-checked _ isProperty _ _ (c .before .before .before .before .before .before .before .before .before .before .before .before .before .before .before .before .before .before .before .before .before .before .pre .0) (c .before .before .before .before .before .before .before .before .before .before .before .before .before .before .before .before .after .ensures) ∙ sym (c .before .before .before .before .before .before .before .before .before .before .before .before .before .before .before .loop .inv .4) ∙ properties-off _ _ _ (λ e. c .before .before .before .before .before .before .before .before .before .before .before .before .before .if1 .left (c .before .before .before .before .before .before .before .before .before .before .before .before .before .before .tag .ensures ∙ e)) (refuses _ _ _ _ _ _ _ _ (c .before .before .before .before .before .before .before .before .before .convert-property .ensures) (c .before .p2 .given .1))
+
+pub convert-properties-spec : {M : Type 1} → statement M
+convert-properties-spec =
+    tie.close
+    (tie.spec
+    Inv-loop
+    μ-loop
+    after-requires
+    loop-holds
+    tag-requires
+    after-requires-2
+    same-length
+    same-length-2
+    same-length-3
+    returns
+    convert-property-requires
+    enum-known-p
+    loop-less
+    loop-again
+    enum-known-p-2
+    same-length-4
+    same-length-5
+    same-length-6
+    returns-2)

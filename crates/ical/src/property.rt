@@ -1,0 +1,150 @@
+// Properties tested and written in one walk: numbers 7, 8 and 9.
+use super::Conversion;
+use super::Valued;
+use super::lines::write_head;
+use super::tested::write_tested;
+use content::Folder;
+use content::end_line;
+use jcalvalues::holds_values;
+use octets::Refusal;
+use properties::Ruling;
+use properties::encoding_fits;
+use properties::is_encoded;
+use properties::may_return;
+use properties::parts_of;
+use properties::ruling_of;
+use tape::END;
+use tape::after;
+use tape::tag;
+use tape::text_at;
+use values::sort_of;
+ghost use mathlib.Core.Path.{_≡_};
+ghost use mathlib.Core.Bool.{true, not};
+ghost use mathlib.Core.List.{[], _∷_, map};
+ghost use Prim.Native.Nat.{_≤_};
+ghost use lib.ListN.{length};
+ghost use Rattle.octets.specs.Basics.{_or_};
+ghost use Rattle.octets.specs.Classes.{lower};
+ghost use Rattle.octets.specs.Optional.{isSome};
+ghost use Rattle.types.specs.Laid.{tableIn};
+ghost use Rattle.json.specs.Tree.{elements};
+ghost use Rattle.tape.specs.Decode.{valueAt, listAt};
+ghost use Rattle.content.specs.Folding.{folding};
+ghost use Rattle.values.specs.Read.{valuesOf};
+ghost use Rattle.converter.specs.Skeleton.{isListOf, isProperty, propertyFrom};
+ghost use Rattle.converter.specs.Return.{firstOctets};
+ghost use Rattle.converter.specs.ToIcal.{checkedAll, propertyLine};
+ghost use Rattle.ical.specs.Writes.{Stands};
+ghost use Rattle.ical.specs.Converts.{checkedIn, Converts};
+
+// Whether the first value at `at` is what its name takes without VALUE, where it must be.
+fn is_taken(t: &[u8], name: &[u8], at: usize, k: Ruling) -> bool
+    ensures { λ r. ⌜ r ≡ (not (k .taken) or isSome (valuesOf (lower (now (name .entry))) (k .code) (k .many) (firstOctets (listAt (now (t .entry)) at)))) ⌝ }
+{
+    if !k.taken {
+        return true;
+    }
+    let sort = sort_of(name, k.code);
+    let x = text_at(t, at);
+    let from = x.from;
+    let to = x.to;
+    holds_values(sort, k.many, &t[from..to])
+}
+
+// Number 9: writes the values from `at` on, if they are what the ruling asks for.
+fn write_stood(
+    out: &mut [u8],
+    p: Folder,
+    t: &[u8],
+    name: &[u8],
+    at: usize,
+    k: Ruling,
+    text: &mut [u8],
+    rule: &mut [u8],
+) -> Valued
+    requires { ⌜ (length (now t) ≤ length (now text)) × (length (now t) ≤ length (now rule)) ⌝ }
+    ensures { λ r. ⌜ Stands k (lower (now (name .entry))) (now (t .entry)) at (folding (now (out .entry)) p) (now (out .exit)) r ⌝ }
+{
+    if !is_taken(t, name, at, k) {
+        return Valued::Invalid;
+    }
+    let sort = k.sort;
+    write_tested(out, p, t, at, sort, k.many, text, rule)
+}
+
+// The content line of the property at `at`.
+fn convert_property(
+    t: &[u8],
+    at: usize,
+    rows: &[u8],
+    out: &mut [u8],
+    to: usize,
+    text: &mut [u8],
+    rule: &mut [u8],
+) -> Conversion
+    requires { ⌜ (isProperty (valueAt (now t) at) ≡ true) × (length (now t) ≤ length (now text)) × (length (now t) ≤ length (now rule)) ⌝ }
+    ensures { λ r. ⌜ Converts (now (t .entry)) at (checkedIn (tableIn (now (rows .entry))) (propertyFrom (valueAt (now (t .entry)) at)))
+        (now (out .entry)) to (propertyLine (tableIn (now (rows .entry))) (propertyFrom (valueAt (now (t .entry)) at)) ∷ []) (now (out .exit)) r ⌝ }
+{
+    let p = parts_of(t, at);
+    let params = p.params;
+    if !may_return(t, params) {
+        return Conversion::Refused(Refusal::BadParameter);
+    }
+    let name = p.name;
+    let kind = p.kind;
+    let a = name.from;
+    let b = name.to;
+    let c = kind.from;
+    let d = kind.to;
+    let v = p.values;
+    let k = ruling_of(rows, &t[a..b], &t[c..d]);
+    let encoded = is_encoded(t, params);
+    if !encoding_fits(k.code, encoded) {
+        return Conversion::Refused(Refusal::BadEncoding);
+    }
+    let start = Folder { at: to, column: 0 };
+    let h = write_head(out, start, &t[a..b], k.shown, &t[c..d], t, params);
+    let w = write_stood(out, h, t, &t[a..b], v, k, text, rule);
+    match w {
+        Valued::Invalid => Conversion::Refused(Refusal::BadValue),
+        Valued::Wrote(e, q) => {
+            let end = end_line(out, q);
+            Conversion::Passed(e, end)
+        }
+    }
+}
+
+// The content lines of the properties of the array at `at`, up to the first in fault.
+pub(crate) fn convert_properties(
+    t: &[u8],
+    at: usize,
+    rows: &[u8],
+    out: &mut [u8],
+    to: usize,
+    text: &mut [u8],
+    rule: &mut [u8],
+) -> Conversion
+    requires { ⌜ (isListOf isProperty (valueAt (now t) at) ≡ true) × (length (now t) ≤ length (now text)) × (length (now t) ≤ length (now rule)) ⌝ }
+    ensures { λ r. ⌜ Converts (now (t .entry)) at (checkedAll (tableIn (now (rows .entry))) (map propertyFrom (elements (valueAt (now (t .entry)) at))))
+        (now (out .entry)) to (map (propertyLine (tableIn (now (rows .entry)))) (map propertyFrom (elements (valueAt (now (t .entry)) at)))) (now (out .exit)) r ⌝ }
+{
+    let mut i = after(t, at);
+    let mut q = to;
+    loop {
+        if tag(t, i) == END {
+            let e = after(t, i);
+            return Conversion::Passed(e, q);
+        }
+        let p = convert_property(t, i, rows, out, q, text, rule);
+        match p {
+            Conversion::Passed(e, n) => {
+                i = e;
+                q = n;
+            }
+            Conversion::Refused(w) => {
+                return Conversion::Refused(w);
+            }
+        }
+    }
+}
