@@ -7,6 +7,7 @@ extern "C" {
     fn putrenski_to_jcal(text: *const u8, n: usize, rows: *const u8, m: usize, out: *mut u8, room: usize) -> usize;
     fn putrenski_to_ical(text: *const u8, n: usize, rows: *const u8, m: usize, out: *mut u8, room: usize) -> usize;
     fn putrenski_stops(text: *const u8, n: usize, out: *mut u8, room: usize) -> usize;
+    fn putrenski_list(start: *const u8, n: usize, rule: *const u8, m: usize, most: usize, out: *mut u8, room: usize) -> usize;
 }
 
 const ROOM: usize = 65_536;
@@ -120,19 +121,51 @@ fn convert(name: &str, ours: Ours, theirs: Theirs, text: &[u8]) {
     row(name, text.len(), times);
 }
 
-fn stops(name: &str, text: &[u8]) {
-    let mut out = vec![0u8; 4096];
-    let n = unsafe { putrenski_stops(text.as_ptr(), text.len(), out.as_mut_ptr(), out.len()) };
-    assert!(out[..n] == reference::stops_program(text)[..], "{name}: the answers differ");
-    let (ours, theirs) = medians(
+/// The times of a list of so many stops, and of one of them.
+fn stop_row(name: &str, count: usize, (ours, theirs): (f64, f64)) {
+    let each = |ns: f64| ns / count as f64;
+    println!("| {name} | {:.2} | {:.2} | {:.0} | {:.0} | {:.2} |", ours / 1000.0, theirs / 1000.0, each(ours), each(theirs), theirs / ours);
+}
+
+const START: &[u8] = b"20240228T180000";
+const RULE: &[u8] = b"FREQ=HOURLY;INTERVAL=12";
+
+/// Lists so many stops by both, sees that the moments agree, and prints their times.
+fn list(name: &str, count: usize) {
+    let mut out = vec![0u8; 64 * (count + 1)];
+    let mut ours = || unsafe { putrenski_list(START.as_ptr(), START.len(), RULE.as_ptr(), RULE.len(), count, out.as_mut_ptr(), out.len()) };
+    let theirs = || reference::stop_list(black_box(START), RULE, count).expect("the rule is served");
+    let n = ours();
+    let times = medians(
         || {
-            black_box(unsafe { putrenski_stops(text.as_ptr(), text.len(), out.as_mut_ptr(), out.len()) });
+            black_box(ours());
         },
         || {
-            black_box(reference::stops_program(black_box(text)));
+            black_box(theirs());
         },
     );
-    println!("| {name} | {:.2} µs | {:.2} µs | {:.2} |", ours / 1000.0, theirs / 1000.0, theirs / ours);
+    let page = std::str::from_utf8(&out[..n]).unwrap();
+    assert!(page.lines().skip(1).map(|line| line.split_once(' ').unwrap().1).eq(theirs()), "{name}: the moments differ");
+    assert!(page.starts_with(&format!("stops {count}\n")), "{name}: the counts differ");
+    stop_row(name, count, times);
+}
+
+/// Prints a page of 64 stops by both, sees that they agree, and prints their times.
+fn page(name: &str) {
+    let text = [START, RULE, b"64\n"].join(&b'\n');
+    let mut out = vec![0u8; 4096];
+    let mut ours = || unsafe { putrenski_stops(text.as_ptr(), text.len(), out.as_mut_ptr(), out.len()) };
+    let n = ours();
+    let times = medians(
+        || {
+            black_box(ours());
+        },
+        || {
+            black_box(reference::stops_program(black_box(&text)));
+        },
+    );
+    assert!(out[..n] == reference::stops_program(&text)[..], "{name}: the answers differ");
+    stop_row(name, 64, times);
 }
 
 /// The jCal of the longest calendar of a kind whose jCal has at most so many octets.
@@ -165,6 +198,8 @@ fn main() {
             convert(name, putrenski_to_ical, reference::tocal, &jcal(make, size));
         }
     }
-    println!("\n| stops, printed | time | other | ratio |\n|---|---|---|---|");
-    stops("64 stops", b"20240228T180000\nFREQ=HOURLY;INTERVAL=12\n64\n");
+    println!("\n| stops | µs | other µs | ns a stop | other ns | ratio |\n|---|---|---|---|---|---|");
+    page("a page of 64");
+    list("a list of 64", 64);
+    list("a list of 10,000", 10_000);
 }

@@ -19,4 +19,8 @@ static inline int putrenski_refusal(size_t result) { return result > SIZE_MAX - 
  * out_length + 1 where it does not fit: 2,715 octets always do. */
 size_t putrenski_stops(const uint8_t *text, size_t text_length, uint8_t *out, size_t out_length);
 
+/* Write the stops of a start and a rule, at most `most`: a line `stops` with their count and a line for each, its number and its moment;
+ * or a line `refused` with the number of a refusal. The result is as that of putrenski_stops: 27 + 42 * most octets always hold it. */
+size_t putrenski_list(const uint8_t *start, size_t start_length, const uint8_t *rule, size_t rule_length, size_t most, uint8_t *out, size_t out_length);
+
 #endif

@@ -6,6 +6,7 @@ extern "C" {
     fn putrenski_to_jcal(text: *const u8, n: usize, rows: *const u8, m: usize, out: *mut u8, room: usize) -> usize;
     fn putrenski_to_ical(text: *const u8, n: usize, rows: *const u8, m: usize, out: *mut u8, room: usize) -> usize;
     fn putrenski_stops(text: *const u8, n: usize, out: *mut u8, room: usize) -> usize;
+    fn putrenski_list(start: *const u8, n: usize, rule: *const u8, m: usize, most: usize, out: *mut u8, room: usize) -> usize;
 }
 
 /// The number of a refusal, from 1 to 15.
@@ -52,4 +53,32 @@ pub fn stops(text: &[u8]) -> Vec<u8> {
     let n = unsafe { putrenski_stops(text.as_ptr(), text.len(), page.as_mut_ptr(), page.len()) };
     page.truncate(n);
     page
+}
+
+/// The longest line of a stop: a number of 20 digits, a space, a moment of 20 octets and a line end; the line in front is shorter.
+const MOST_LINE: usize = 42;
+
+/// The page of a list, in a buffer that grows until it fits.
+fn page(start: &[u8], rule: &[u8], most: usize) -> Vec<u8> {
+    let whole = most.saturating_add(1).saturating_mul(MOST_LINE);
+    let mut out = vec![0u8; whole.min(4096)];
+    loop {
+        let n = unsafe { putrenski_list(start.as_ptr(), start.len(), rule.as_ptr(), rule.len(), most, out.as_mut_ptr(), out.len()) };
+        if n <= out.len() {
+            out.truncate(n);
+            return out;
+        }
+        out.resize(out.len().saturating_mul(8).min(whole), 0);
+    }
+}
+
+/// The stops of a start and a rule, at most `most`, as `2024-02-28T18:00:00`.
+pub fn list(start: &[u8], rule: &[u8], most: usize) -> Result<Vec<String>, Refusal> {
+    let page = String::from_utf8(page(start, rule, most)).expect("a page is ASCII");
+    let mut words = page.lines().map(|line| line.split_once(' ').expect("a line has two words"));
+    let (answer, number) = words.next().expect("a page has a line");
+    if answer == "refused" {
+        return Err(Refusal(number.parse().expect("a refusal has a number")));
+    }
+    Ok(words.map(|(_, moment)| moment.to_string()).collect())
 }

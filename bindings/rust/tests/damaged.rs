@@ -1,5 +1,5 @@
 //! Damaged inputs: each gets an answer, a refusal zeroes the buffer, and the octets behind a text are unchanged.
-use putrenski::{stops, to_ical, to_jcal, Refusal};
+use putrenski::{list, stops, to_ical, to_jcal, Refusal};
 
 const CASES: usize = 100_000;
 const BLANK: u8 = 0xAA;
@@ -55,10 +55,26 @@ fn settles(answer: Result<usize, Refusal>, out: &[u8]) {
     }
 }
 
+/// What `list` answers for the lines of a text, beside the page that `stops` prints for them.
+fn lists(text: &[u8], page: &[u8]) {
+    let lines: Vec<_> = text.split(|&b| b == b'\n').map(|l| l.strip_suffix(b"\r").unwrap_or(l)).collect();
+    let [start, rule, most, ..] = lines[..] else { return };
+    let most = std::str::from_utf8(most).ok().and_then(|m| m.parse().ok()).unwrap_or(10).min(300);
+    let answer = list(start, rule, most);
+    let shown = match &answer {
+        Ok(stops) => {
+            assert!(stops.len() <= most);
+            stops.iter().enumerate().fold(format!("stops {}\n", stops.len()), |page, (i, stop)| page + &format!("{} {stop}\n", i + 1))
+        }
+        Err(refusal) => format!("{refusal}\n"),
+    };
+    assert!(page == b"bad input\n" || page == shown.as_bytes(), "{answer:?}");
+}
+
 #[test]
 fn every_text_gets_an_answer() {
     let mut numbers = Numbers(88_172_645_463_325_252);
-    let (lines, jcals, lists) = (inputs("tojcal_cases", ".ics"), inputs("tocal_cases", ".json"), inputs("stops_cases", ".txt"));
+    let (lines, jcals, pages) = (inputs("tojcal_cases", ".ics"), inputs("tocal_cases", ".json"), inputs("stops_cases", ".txt"));
     let mut out = vec![BLANK; 65_536];
     let (mut written, mut refused) = (0, 0);
     for k in 0..CASES {
@@ -68,7 +84,9 @@ fn every_text_gets_an_answer() {
             0 => to_jcal(&damaged(&lines[numbers.below(lines.len())], &mut numbers), b"", &mut out[..room]),
             1 => to_ical(&damaged(&jcals[numbers.below(jcals.len())], &mut numbers), b"", &mut out[..room]),
             _ => {
-                let page = stops(&damaged(&lists[numbers.below(lists.len())], &mut numbers));
+                let text = damaged(&pages[numbers.below(pages.len())], &mut numbers);
+                let page = stops(&text);
+                lists(&text, &page);
                 assert!(page.ends_with(b"\n"));
                 assert!([&b"stops "[..], b"refused 1", b"bad input\n"].iter().any(|w| page.starts_with(w)));
                 continue;

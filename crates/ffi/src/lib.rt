@@ -5,7 +5,8 @@ ghost use Prim.Native.Nat.{_≤_};
 ghost use lib.ListN.{length};
 ghost use Rattle.octets.specs.Answers.{answer, outcome};
 ghost use Rattle.octets.specs.Pen.{pen, Wrote};
-ghost use Rattle.stopspage.specs.Printing.{printed};
+ghost use Rattle.stoplist.specs.Stops.{listOf};
+ghost use Rattle.stopspage.specs.Printing.{answerShown, printed};
 ghost use Rattle.converter.specs.ToJcal.{toJcal};
 ghost use Rattle.converter.specs.ToIcal.{toIcal};
 ghost use Rattle.ffi.specs.Words.{Worded, Returns};
@@ -42,4 +43,12 @@ pub extern "C" fn putrenski_stops(text: &[u8], out: &mut [u8]) -> usize
     ensures { λ r. ⌜ Wrote (pen (now (out .entry)) 0) (printed (now (text .entry))) (pen (now (out .exit)) r) ⌝ }
 {
     stopspage::print_page(out, text)
+}
+
+// Writes the stops of a start and a rule, not more than `most`, with their count in front; answers as `putrenski_stops` does.
+#[no_mangle]
+pub extern "C" fn putrenski_list(start: &[u8], rule: &[u8], most: usize, out: &mut [u8]) -> usize
+    ensures { λ r. ⌜ Wrote (pen (now (out .entry)) 0) (answerShown (listOf (now (start .entry)) (now (rule .entry)) most)) (pen (now (out .exit)) r) ⌝ }
+{
+    stopspage::print_list(out, start, rule, most)
 }

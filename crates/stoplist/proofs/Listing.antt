@@ -4,6 +4,7 @@ use mathlib.Core.Path.{_≡_, refl, sym, ap, _∙_}
 use mathlib.Core.Bool.{Bool, true, false, not, false≢true}
 use mathlib.Core.List.{List, [], _++_, map}
 use mathlib.Core.Option.{Option, none, some}
+use native.Mathlib.Omega.{arith}
 use native.Mathlib.Nat.{sub-zero}
 use lib.Dec.{eqb}
 use lib.ListN.{length, drop}
@@ -11,9 +12,8 @@ use Rattle.octets.specs.Basics.{pick}
 use Rattle.octets.specs.Optional.{guard}
 use Rattle.octets.specs.Limits.{lastYear}
 use Rattle.octets.specs.Classes.{between}
-use Rattle.octets.specs.Answers.{number, refused, accepted, then, orElse, unless}
+use Rattle.octets.specs.Answers.{Answer, accepted, then, orElse, unless}
 use Rattle.octets.specs.declared.Refusal.{Refusal}
-use Rattle.octets.specs.declared.Refusal.the-variants.{BadStart, BadRule, NotServed}
 use Rattle.octets.proofs.Cases.{cases}
 use Rattle.octets.proofs.Optional.{guard-is}
 use Rattle.calendar.specs.Gregorian.{leapDay, months, monthDays, isDay}
@@ -24,10 +24,12 @@ use Rattle.calendar.specs.declared.moments.Moment.{Moment}
 use Rattle.calendar.specs.declared.rules.Rule.{Rule}
 use Rattle.calendar.proofs.Real.{read-real}
 use Rattle.stoplist.specs.declared.Stop.{Stop}
+use Rattle.stoplist.specs.declared.Listed.{Listed}
 use Rattle.stoplist.specs.declared.Listed.the-variants.{Stops, Refused}
+use Rattle.stoplist.specs.declared.plans.Plan.{Plan}
 use Rattle.stoplist.specs.Stops.{startOf, hoursOf, served, momentsFrom, stop, listOf, answer, outcome}
 use Rattle.stoplist.specs.Runs.{runAt, stopsOf, realEnd, Sound, Begins, Laid}
-use Rattle.stoplist.specs.Plans.{idle, refusedFor, planned, planOf, concluded}
+use Rattle.stoplist.specs.Plans.{idle, refusedFor, planned, planOf, concluded, told}
 use Rattle.stoplist.proofs.Running.{at-sound, stops-at, ended-stops}
 use Rattle.stoplist.proofs.Ends.{rule-real}
 
@@ -68,35 +70,43 @@ module _ (start rule : List ℕ) where
   unfolding planOf
   plan-begins room = planned-begins room (guard onTime (readMoment start)) (readRule rule) refl refl
 
-  -- a refusal lays nothing
-  refused-lists : (why : Refusal) (ys us : List Stop) (n : ℕ) → Laid (stopsOf (refusedFor why (length ys) .run)) ys us n
-      → outcome (concluded (refusedFor why (length ys) .listed) n) us ≡ answer (refused (number why)) ys
-  unfolding refusedFor concluded outcome answer
-  refused-lists why ys us n l = let e : us ≡ ys = (rw (idle-stops (length ys)) at (l .list)) in rw e
+  -- what a plan tells is the definition's answer, and a refusal has no stop
+  pub record Tells (p : Plan) (room : ℕ) : Type 0 where
+    pub answer : told (p .listed) (stopsOf (p .run)) ≡ listOf start rule room
+    pub none : (why : Refusal) → p .listed ≡ Refused why → stopsOf (p .run) ≡ []
 
-  served-lists : (m : Moment) (r : Rule) (ys us : List Stop) (n : ℕ) → isMoment m ≡ true → realEnd (r .end)
-      → Laid (stopsOf (runAt 0 (length ys) m (hoursOf (r .frequency) (r .interval)) (r .end))) ys us n
-      → outcome (Stops n) us ≡ answer (accepted (map stop (momentsFrom (length ys) (hoursOf (r .frequency) (r .interval)) (r .end) (some m)))) ys
-  unfolding outcome answer
-  served-lists m r ys us n a b l =
-      let h = hoursOf (r .frequency) (r .interval) in
-      let e = rw (sub-zero (length ys)) at (stops-at 0 (length ys) m h (r .end) a b) in
-      rw (← e) (cc (l .count, l .list))
+  served-stops : (m : Moment) (r : Rule) (room : ℕ) → isMoment m ≡ true → realEnd (r .end)
+      → stopsOf (runAt 0 room m (hoursOf (r .frequency) (r .interval)) (r .end)) ≡ map stop (momentsFrom room (hoursOf (r .frequency) (r .interval)) (r .end) (some m))
+  served-stops m r room a b = rw (sub-zero room) at (stops-at 0 room m (hoursOf (r .frequency) (r .interval)) (r .end) a b)
 
-  planned-lists : (ys us : List Stop) (n : ℕ) (o : Option Moment) (q : Option Rule) → guard onTime (readMoment start) ≡ o → readRule rule ≡ q
-      → Laid (stopsOf (planned o q (length ys) .run)) ys us n → outcome (concluded (planned o q (length ys) .listed) n) us ≡ answer (listOf start rule (length ys)) ys
-  unfolding planned listOf startOf then orElse unless
-  planned-lists ys us n none q e f l = rw e (refused-lists BadStart ys us n l)
-  planned-lists ys us n (some m) none e f l = rw (e, f) (refused-lists BadRule ys us n l)
-  planned-lists ys us n (some m) (some r) e f l =
+  planned-tells : (room : ℕ) (o : Option Moment) (q : Option Rule) → guard onTime (readMoment start) ≡ o → readRule rule ≡ q → Tells (planned o q room) room
+  unfolding planned refusedFor told listOf startOf then orElse unless
+  planned-tells room none q e f = record { answer = rw e; none = λ why g. idle-stops room }
+  planned-tells room (some m) none e f = record { answer = rw (e, f); none = λ why g. idle-stops room }
+  planned-tells room (some m) (some r) e f =
       cases (served r (m .kind))
       (λ s.
-      rw (e, f, s)
-      (unfold concluded in
-      served-lists m r ys us n (read-real start m (guard-is onTime (readMoment start) m e .0)) (rule-real rule r f) (rw s at l)))
-      (λ s. rw (e, f, s) (refused-lists NotServed ys us n (rw s at l)))
+      rw s (record {
+        answer = rw (e, f, s) (ap accepted (served-stops m r room (read-real start m (guard-is onTime (readMoment start) m e .0)) (rule-real rule r f)));
+        none = λ why g. absurd (never g);
+      }))
+      (λ s. rw s (record { answer = rw (e, f, s); none = λ why g. idle-stops room }))
+    where
+      never : {why : Refusal} → Stops 0 ≡ Refused why → ⊥
+      never g = let z : _≡_ {A = ℕ} 0 1 = cc in omega arith
 
-  pub plan-lists : (ys us : List Stop) (n : ℕ) → Laid (stopsOf (planOf start rule (length ys) .run)) ys us n
-      → outcome (concluded (planOf start rule (length ys) .listed) n) us ≡ answer (listOf start rule (length ys)) ys
+  pub plan-tells : (room : ℕ) → Tells (planOf start rule room) room
   unfolding planOf
-  plan-lists ys us n l = planned-lists ys us n (guard onTime (readMoment start)) (readRule rule) refl refl l
+  plan-tells room = planned-tells room (guard onTime (readMoment start)) (readRule rule) refl refl
+
+-- laid into a list, that is what the list holds then
+laid-told : (d : Listed) (ss ys us : List Stop) (n : ℕ) → ((why : Refusal) → d ≡ Refused why → ss ≡ []) → Laid ss ys us n → outcome (concluded d n) us ≡ answer (told d ss) ys
+unfolding told concluded outcome answer
+laid-told (Stops k) ss ys us n h l = cc (l .count, l .list)
+laid-told (Refused why) ss ys us n h l = let e : us ≡ ys = (rw (h why refl) at (l .list)) in rw e
+
+pub plan-lists : (start rule : List ℕ) (ys us : List Stop) (n : ℕ) → Laid (stopsOf (planOf start rule (length ys) .run)) ys us n
+    → outcome (concluded (planOf start rule (length ys) .listed) n) us ≡ answer (listOf start rule (length ys)) ys
+plan-lists start rule ys us n l =
+    let t = plan-tells start rule (length ys) in
+    laid-told _ _ ys us n (t .none) l ∙ ap (λ (a : Answer (List Stop)). answer a ys) (t .answer)

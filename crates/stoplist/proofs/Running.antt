@@ -6,7 +6,7 @@ use mathlib.Core.List.{List, [], _∷_, map}
 use mathlib.Core.Option.{Option, none, some}
 use native.Mathlib.Omega.{arith}
 use native.Mathlib.Numerals.{add-one}
-use borrow.Author.Tests.{ltb-true, ltb-false}
+use borrow.Author.Tests.{lt-ltb, ltb-true, ltb-false}
 use lib.Dec.{ltb}
 use Rattle.octets.specs.Basics.{pick, _and_}
 use Rattle.octets.proofs.Cases.{cases, both, not-both, and-true}
@@ -19,7 +19,7 @@ use Rattle.calendar.proofs.Real.{moved-real}
 use Rattle.stoplist.specs.declared.Stop.{Stop}
 use Rattle.stoplist.specs.declared.runs.Run.{Run}
 use Rattle.stoplist.specs.Stops.{allows, oneLess, momentsFrom, stop}
-use Rattle.stoplist.specs.Runs.{seconds, within, runAt, nextFrom, nextRun, stopsOf, realEnd, Sound}
+use Rattle.stoplist.specs.Runs.{seconds, within, runAt, nextFrom, nextRun, advanced, stopsOf, realEnd, Sound}
 
 real-seconds : (m : Moment) → isMoment m ≡ true → seconds m ≡ secondNumber m
 unfolding seconds
@@ -119,6 +119,10 @@ module _ (r : Run) (s : Sound r) (b : r .more ≡ true) where
     where
       first : stopsOf r ≡ map stop (momentsFrom (r .room - r .at) (r .hours) (r .end) (some here))
       first = unfold stopsOf in rw b
+
+  pub advances : advanced r ≡ nextRun r
+  unfolding advanced
+  advances = rw (lt-ltb (r .at) (r .room) (s .fits b))
 
 pub ended-stops : (r : Run) → r .more ≡ false → stopsOf r ≡ []
 unfolding stopsOf

@@ -6,6 +6,7 @@ use mathlib.Core.Option.{Option, none, some}
 use lib.Dec.{eqb}
 use Rattle.octets.specs.Basics.{pick}
 use Rattle.octets.specs.Optional.{guard}
+use Rattle.octets.specs.Answers.{number, Answer, refused, accepted}
 use Rattle.octets.specs.declared.Refusal.{Refusal}
 use Rattle.octets.specs.declared.Refusal.the-variants.{BadStart, BadRule, NotServed}
 use Rattle.calendar.specs.Gregorian.{dateOn}
@@ -16,6 +17,7 @@ use Rattle.calendar.specs.declared.moments.Kind.the-variants.{Day, Local, Utc}
 use Rattle.calendar.specs.declared.moments.Moment.{Moment}
 use Rattle.calendar.specs.declared.rules.End.the-variants.{Open}
 use Rattle.calendar.specs.declared.rules.Rule.{Rule}
+use Rattle.stoplist.specs.declared.Stop.{Stop}
 use Rattle.stoplist.specs.declared.Listed.{Listed}
 use Rattle.stoplist.specs.declared.Listed.the-variants.{Stops, Refused}
 use Rattle.stoplist.specs.declared.runs.Run.{Run}
@@ -56,3 +58,8 @@ planOf start rule room = planned (guard (λ (m : Moment). not (eqb (m .second) 6
 unfoldable pub concluded : Listed → ℕ → Listed
 concluded (Stops k) n = Stops n
 concluded (Refused r) n = Refused r
+
+-- the definition's answer, told by a plan's and the stops of its run
+unfoldable pub told : Listed → List Stop → Answer (List Stop)
+told (Stops k) ss = accepted ss
+told (Refused r) ss = refused (number r)

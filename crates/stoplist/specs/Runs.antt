@@ -36,6 +36,10 @@ nextFrom r (some m) = runAt (r .at + 1) (r .room) m (r .hours) (oneLess (r .end)
 unfoldable pub nextRun : Run → Run
 nextRun r = nextFrom r (movedOn (r .stop .moment) (r .hours))
 
+-- the run as it is where there is no room for more
+unfoldable pub advanced : Run → Run
+advanced r = pick (ltb (r .at) (r .room)) (nextRun r) r
+
 -- the stops from this place on
 unfoldable pub stopsOf : Run → List Stop
 stopsOf r = pick (r .more) (map stop (momentsFrom (r .room - r .at) (r .hours) (r .end) (some (r .stop .moment)))) []

@@ -1,6 +1,6 @@
-// The stop list: the moments of a recurrence rule, in a lent list of records.
-mod plans;
-mod runs;
+// The stop list: the moments of a recurrence rule, in a lent list of records, or one after the other.
+pub mod plans;
+pub mod runs;
 
 ghost use mathlib.Core.Path.{_≡_};
 ghost use Prim.Native.Nat.{_<_};

@@ -2,7 +2,7 @@
 ghost use mathlib.Core.Path.{_≡_};
 ghost use Prim.Native.Nat.{_<_};
 ghost use Rattle.stoplist.specs.Stops.{oneLess};
-ghost use Rattle.stoplist.specs.Runs.{seconds, within, runAt, nextRun};
+ghost use Rattle.stoplist.specs.Runs.{seconds, within, runAt, nextRun, advanced};
 use crate::Stop;
 use calendar::dates::DayNumber;
 use calendar::moments::Moment;
@@ -105,4 +105,14 @@ pub(crate) fn next(run: Run) -> Run
             end: end,
         },
     }
+}
+
+// The run at the next moment, or the run as it is where there is no room for more.
+pub fn advance(run: Run) -> Run
+    ensures { λ r. ⌜ r ≡ advanced run ⌝ }
+{
+    if run.at < run.room {
+        return next(run);
+    }
+    run
 }

@@ -1,13 +1,14 @@
 // What `stops` prints: its three lines of input, and the stops that they ask for.
 ghost use mathlib.Core.Path.{_≡_};
-ghost use mathlib.Core.List.{[], _∷_};
-ghost use Prim.Native.Nat.{_≤_, min};
-ghost use lib.ListN.{take};
+ghost use mathlib.Core.List.{_++_};
+ghost use Prim.Native.Nat.{_+_, _%_};
+ghost use lib.ListN.{length};
 ghost use Rattle.octets.specs.Pen.{pen, Wrote};
-ghost use Rattle.stoplist.specs.Stops.{listOf, answer, outcome};
-ghost use Rattle.stopspage.specs.Printing.{threeShown, timeShown, stopShown, stopsShown, badInput, headShown, mostOf, shownFor, chop, printed};
-ghost use Rattle.stopspage.specs.Pages.{mostSaid, pageShown, thirdShown};
-use calendar::dates::Date;
+ghost use Rattle.calendar.specs.declared.moments.Kind.the-variants.{Utc};
+ghost use Rattle.stoplist.specs.Stops.{listOf};
+ghost use Rattle.stoplist.specs.Runs.{stopsOf, Sound};
+ghost use Rattle.stopspage.specs.Printing.{dateShown, timeShown, stopShown, stopsShown, badInput, headShown, answerShown, mostOf, shownFor, chop, printed};
+ghost use Rattle.stopspage.specs.Pages.{shownLength, mostSaid, thirdShown};
 use calendar::moments::Kind;
 use calendar::moments::Moment;
 use calendar::parts::find;
@@ -17,11 +18,12 @@ use octets::leading_zeros;
 use octets::put;
 use octets::put_all;
 use octets::put_decimal;
-use octets::put_figures;
 use octets::value_of;
 use stoplist::Listed;
 use stoplist::Stop;
-use stoplist::list_stops;
+use stoplist::plans::make_plan;
+use stoplist::runs::Run;
+use stoplist::runs::advance;
 
 // The number of most stops, or that there is none.
 pub enum Most {
@@ -29,39 +31,52 @@ pub enum Most {
     NoNumber,
 }
 
-// An answer, and the list that it speaks of.
-pub struct Page {
-    pub listed: Listed,
-    pub stops: [Stop; 64],
+// The last decimal digit of a number.
+fn digit(n: u32) -> u8
+    ensures { λ r. ⌜ r ≡ 48 + n % 10 ⌝ }
+{
+    b'0' + (n % 10) as u8
 }
 
-// Writes three numbers with an octet between them, the first in so many digits.
-fn put_three(out: &mut [u8], at: usize, width: u8, sep: u8, a: u32, b: u32, c: u32) -> usize
-    ensures { λ r. ⌜ Wrote (pen (now (out .entry)) at) (threeShown width sep a b c) (pen (now (out .exit)) r) ⌝ }
+// A moment as it is shown in UTC.
+fn moment_text(m: Moment) -> [u8; 20]
+    ensures { λ r. ⌜ r ≡ dateShown (m .date) ++ timeShown Utc m ⌝ }
 {
-    let first = put_figures(out, at, width, a as u64);
-    let second = put(out, first, sep);
-    let third = put_figures(out, second, 2, b as u64);
-    let fourth = put(out, third, sep);
-    put_figures(out, fourth, 2, c as u64)
+    let d = m.date;
+    let decade = d.year / 10;
+    let century = decade / 10;
+    [
+        digit(century / 10),
+        digit(century),
+        digit(decade),
+        digit(d.year),
+        b'-',
+        digit(d.month / 10),
+        digit(d.month),
+        b'-',
+        digit(d.day / 10),
+        digit(d.day),
+        b'T',
+        digit(m.hour / 10),
+        digit(m.hour),
+        b':',
+        digit(m.minute / 10),
+        digit(m.minute),
+        b':',
+        digit(m.second / 10),
+        digit(m.second),
+        b'Z',
+    ]
 }
 
-// Writes what follows the date: nothing, or the time, with Z for UTC.
-fn put_time(out: &mut [u8], at: usize, m: Moment) -> usize
-    ensures { λ r. ⌜ Wrote (pen (now (out .entry)) at) (timeShown (m .kind) m) (pen (now (out .exit)) r) ⌝ }
+// How many of these octets are shown for a kind.
+fn shown_length(k: Kind) -> usize
+    ensures { λ r. ⌜ r ≡ shownLength k ⌝ }
 {
-    let kind = m.kind;
-    match kind {
-        Kind::Day => at,
-        Kind::Local => {
-            let a = put(out, at, b'T');
-            put_three(out, a, 2, b':', m.hour, m.minute, m.second)
-        }
-        Kind::Utc => {
-            let a = put(out, at, b'T');
-            let b = put_three(out, a, 2, b':', m.hour, m.minute, m.second);
-            put(out, b, b'Z')
-        }
+    match k {
+        Kind::Day => 10,
+        Kind::Local => 19,
+        Kind::Utc => 20,
     }
 }
 
@@ -70,25 +85,37 @@ fn put_stop(out: &mut [u8], at: usize, i: usize, s: Stop) -> usize
     ensures { λ r. ⌜ Wrote (pen (now (out .entry)) at) (stopShown i s) (pen (now (out .exit)) r) ⌝ }
 {
     let m = s.moment;
-    let date = m.date;
+    let kind = m.kind;
+    let text = moment_text(m);
+    let n = shown_length(kind);
     let a = put_decimal(out, at, i as u64);
     let b = put(out, a, b' ');
-    let c = put_three(out, b, 4, b'-', date.year, date.month, date.day);
-    let d = put_time(out, c, m);
-    put(out, d, b'\n')
+    let c = put_all(out, b, &text[0..n]);
+    put(out, c, b'\n')
 }
 
-// Writes the first stops of a list.
-fn put_stops(out: &mut [u8], at: usize, stops: [Stop; 64], n: usize) -> usize
-    requires { ⌜ n ≤ 64 ⌝ }
-    ensures { λ r. ⌜ Wrote (pen (now (out .entry)) at) (stopsShown 1 (take n stops)) (pen (now (out .exit)) r) ⌝ }
+// The place behind the last stop of a run.
+fn end_of(first: Run) -> usize
+    requires { ⌜ Sound first ⌝ }
+    ensures { λ r. ⌜ r ≡ first .at + length (stopsOf first) ⌝ }
+{
+    let mut run = first;
+    while run.more {
+        run = advance(run);
+    }
+    run.at
+}
+
+// Writes the stops of a run.
+fn put_stops(out: &mut [u8], at: usize, first: Run) -> usize
+    requires { ⌜ Sound first ⌝ }
+    ensures { λ r. ⌜ Wrote (pen (now (out .entry)) at) (stopsShown (first .at + 1) (stopsOf first)) (pen (now (out .exit)) r) ⌝ }
 {
     let mut to = at;
-    let mut i = 0;
-    while i < n {
-        let s = stops[i];
-        to = put_stop(out, to, i + 1, s);
-        i += 1;
+    let mut run = first;
+    while run.more {
+        to = put_stop(out, to, run.at + 1, run.stop);
+        run = advance(run);
     }
     to
 }
@@ -109,40 +136,19 @@ fn put_head(out: &mut [u8], word: &[u8], n: usize) -> usize
     put(out, b, b'\n')
 }
 
-// The smaller of two numbers.
-fn fewer(a: usize, b: usize) -> usize
-    ensures { λ r. ⌜ r ≡ min a b ⌝ }
+// Prints the stops of a start and a rule, not more than so many.
+pub fn print_list(out: &mut [u8], start: &[u8], rule: &[u8], most: usize) -> usize
+    ensures { λ r. ⌜ Wrote (pen (now (out .entry)) 0) (answerShown (listOf (now (start .entry)) (now (rule .entry)) most)) (pen (now (out .exit)) r) ⌝ }
 {
-    if a < b {
-        return a;
-    }
-    b
-}
-
-// Writes an answer with its list.
-fn put_answer(out: &mut [u8], listed: Listed, most: usize, stops: [Stop; 64]) -> usize
-    requires { ⌜ most ≤ 64 ⌝ }
-    ensures { λ r. ⌜ Wrote (pen (now (out .entry)) 0) (pageShown listed most stops) (pen (now (out .exit)) r) ⌝ }
-{
+    let plan = make_plan(start, rule, most);
+    let listed = plan.listed;
+    let run = plan.run;
     match listed {
-        Listed::Stops(n) => {
-            let count = fewer(n, most);
-            let at = put_head(out, b"stops ", count);
-            put_stops(out, at, stops, count)
+        Listed::Stops(_) => {
+            let at = put_head(out, b"stops ", end_of(run));
+            put_stops(out, at, run)
         }
         Listed::Refused(why) => put_head(out, b"refused ", why.number() as usize),
-    }
-}
-
-// The answer for a start and a rule, with the list that it fills.
-fn list_page(stops: [Stop; 64], start: &[u8], rule: &[u8]) -> Page
-    ensures { λ r. ⌜ outcome (r .listed) (r .stops) ≡ answer (listOf (now (start .entry)) (now (rule .entry)) 64) stops ⌝ }
-{
-    let mut list = stops;
-    let listed = list_stops(start, rule, &mut list);
-    Page {
-        listed: listed,
-        stops: list,
     }
 }
 
@@ -185,18 +191,7 @@ fn print_for(out: &mut [u8], start: &[u8], rule: &[u8], most: &[u8]) -> usize
     let Most::Is(n) = most_of(most) else {
         return put_bad(out);
     };
-    let moment = Moment {
-        date: Date::FIRST,
-        hour: 0,
-        minute: 0,
-        second: 0,
-        kind: Kind::Day,
-    };
-    let blank = Stop { moment: moment };
-    let page = list_page([blank; 64], start, rule);
-    let listed = page.listed;
-    let stops = page.stops;
-    put_answer(out, listed, n, stops)
+    print_list(out, start, rule, n)
 }
 
 // Prints the answer for two lines and what stands behind them.

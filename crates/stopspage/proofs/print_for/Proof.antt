@@ -1,9 +1,9 @@
 -- `stopspage::print_for` meets its contract: the last line's number decides.
 use mathlib.Core.Path.{sym, ap, _∙_}
-use borrow.Author.Needs.{needs}
 use Rattle.octets.proofs.Pen.{as-text}
-use Rattle.stopspage.proofs.Answering.{no-most, most-bound, page-shown}
+use Rattle.stopspage.proofs.Answering.{no-most, list-shown}
 use Rattle.stopspage.specs.Pages.{mostSaid}
+use borrow.Author.Needs.{needs}
 use Rattle.stopspage.proofs.print_for.Statement.{statement}
 use Rattle.stopspage.proofs.print_for.Tie as tie
 
@@ -23,29 +23,16 @@ same-length : tie.Need-same-length
 same-length c = search needs
 
 returns : tie.Need-returns
-returns c =
-    let enum-told = c .before .before .before .before .enum-told in
-    let most-of = c .before .before .before .before .before .before .most-of in
-    as-text (c .before .before .put-bad .ensures) (no-most _ _ _ (ap mostSaid (sym (enum-told .given .1)) ∙ most-of .ensures))
+returns c = as-text (c .before .before .put-bad .ensures) (no-most _ _ _ (ap mostSaid (sym (c .before .before .before .before .enum-told .given .1)) ∙ c .before .before .before .before .before .before .most-of .ensures))
 
-list-page-requires : tie.Need-list-page-requires
-list-page-requires c κs = search needs
-
-put-answer-requires : tie.Need-put-answer-requires
-put-answer-requires c κs =
-    let n = c .before .before .before .before .n in
-    let most-of = c .before .before .before .before .before .before .most-of in
-    most-bound _ _ (ap mostSaid (sym (n .given .1)) ∙ most-of .ensures)
+print-list-requires : tie.Need-print-list-requires
+print-list-requires c κs = search needs
 
 same-length-2 : tie.Need-same-length-2
 same-length-2 c = search needs
 
 returns-2 : tie.Need-returns-2
-returns-2 c =
-    let n = c .before .before .before .before .before .before .before .n in
-    let most-of = c .before .before .before .before .before .before .before .before .before .most-of in
-    let list-page = c .before .before .before .before .before .list-page in
-    as-text (c .before .before .put-answer .ensures) (page-shown _ _ _ _ (ap mostSaid (sym (n .given .1)) ∙ most-of .ensures) _ _ _ (list-page .ensures))
+returns-2 c = as-text (c .before .before .print-list .ensures) (list-shown _ _ _ _ (ap mostSaid (sym (c .before .before .before .before .before .n .given .1)) ∙ c .before .before .before .before .before .before .before .most-of .ensures))
 
 pub print-for-spec : {M : Type 1} → statement M
 print-for-spec =
@@ -57,7 +44,6 @@ print-for-spec =
     put-bad-requires
     same-length
     returns
-    list-page-requires
-    put-answer-requires
+    print-list-requires
     same-length-2
     returns-2)

@@ -1,57 +1,50 @@
 -- `stopspage::put_stops` meets its contract: what is written is followed by the stops ahead.
-use Prim.Native.Nat.{_+_, _-_, _≤_}
+use Prim.Native.Nat.{_+_}
 use mathlib.Core.Path.{_≡_, refl}
 use native.Mathlib.Omega.{arith}
-use borrow.Author.Needs.{needs}
-use lib.ListN.{length, take, drop}
+use lib.ListN.{length}
 use Rattle.octets.proofs.Pen.{Leads, leads-start, leads-on, leads-end}
 use Rattle.octets.specs.Pen.{pen}
-use Rattle.stopspage.proofs.Showing.{stops-on, stops-end}
+use Rattle.stoplist.specs.Runs.{stopsOf, Sound}
+use Rattle.stopspage.proofs.Showing.{on-sound, on-length, on-shown, end-shown}
 use Rattle.stopspage.specs.Printing.{stopsShown}
+use borrow.Author.Needs.{needs}
 use Rattle.stopspage.proofs.put_stops.Statement.{statement}
 use Rattle.stopspage.proofs.put_stops.Tie as tie
 
 abbrev Inv-loop : tie.InvT-loop
-Inv-loop out₀ at n stops to₀ i₀ out to i = (i ≤ n) × (length out ≡ length out₀) × Leads (pen out₀ at) (stopsShown 1 (take n stops)) (pen out to) (stopsShown (i + 1) (drop i (take n stops)))
+Inv-loop out₀ at to₀ run₀ out to run = Sound run × (length out ≡ length out₀) × Leads (pen out₀ at) (stopsShown (run₀ .at + 1) (stopsOf run₀)) (pen out to) (stopsShown (run .at + 1) (stopsOf run))
 
 abbrev μ-loop : tie.MeasureT-loop
-μ-loop out₀ at n stops to₀ i₀ out to i = n - i
+μ-loop out₀ at to₀ run₀ out to run = length (stopsOf run)
 
 loop-holds : tie.Need-loop-holds Inv-loop μ-loop
-loop-holds c = (omega arith, refl, leads-start)
-
-mul-s : tie.Need-mul-s Inv-loop μ-loop
-mul-s c = search needs
-
-array-copy-out-s : tie.Need-array-copy-out-s Inv-loop μ-loop
-array-copy-out-s c = search needs
+loop-holds c = (c .before .pre, refl, leads-start)
 
 add-put-stop : tie.Need-add-put-stop Inv-loop μ-loop
-add-put-stop c = search needs
+add-put-stop c = let f = c .before .before .before .loop .inv .0 .fits (c .before .before .loop-test .taken) in omega arith
 
 put-stop-requires : tie.Need-put-stop-requires Inv-loop μ-loop
 put-stop-requires c κs = search needs
 
-add-i : tie.Need-add-i Inv-loop μ-loop
-add-i c = search needs
+advance-requires : tie.Need-advance-requires Inv-loop μ-loop
+advance-requires c κs = search needs
 
 loop-less : tie.Need-loop-less Inv-loop μ-loop
-loop-less c = search needs
+loop-less c = let l = on-length _ _ (c .before .before .before .before .before .before .before .loop .inv .0) (c .before .before .before .before .before .before .loop-test .taken) (c .advance .ensures) in omega (arith, l)
 
 loop-again : tie.Need-loop-again Inv-loop μ-loop
-loop-again c =
-    let loop = c .before .before .before .before .before .before .loop in
-    let args = c .before .before .before .before .before .before .before .before .args in
-    let loop-test = c .before .before .before .before .before .loop-test in
-    (omega arith, omega arith, leads-on (loop .inv .2) (c .before .before .put-stop .ensures) (stops-on _ (args .t3) (args .n) (loop .i) (loop-test .taken) (omega arith)))
+loop-again c = (
+  on-sound _ _ (c .before .before .before .before .before .before .before .loop .inv .0) (c .before .before .before .before .before .before .loop-test .taken) (c .advance .ensures),
+  omega arith,
+  leads-on (c .before .before .before .before .before .before .before .loop .inv .2) (c .before .before .before .put-stop .ensures) (on-shown _ _ (c .before .before .before .before .before .before .before .loop .inv .0) (c .before .before .before .before .before .before .loop-test .taken) (c .advance .ensures)),
+)
 
 same-length : tie.Need-same-length Inv-loop μ-loop
 same-length c = search needs
 
 returns : tie.Need-returns Inv-loop μ-loop
-returns c =
-    let args = c .before .before .before .args in
-    leads-end (c .before .loop .inv .2) (stops-end (args .t3) (args .n) (c .before .loop .i) (c .before .loop .i + 1) (c .loop-test .left))
+returns c = leads-end (c .before .loop .inv .2) (end-shown _ _ (c .loop-test .left))
 
 pub put-stops-spec : {M : Type 1} → statement M
 put-stops-spec =
@@ -60,11 +53,9 @@ put-stops-spec =
     Inv-loop
     μ-loop
     loop-holds
-    mul-s
-    array-copy-out-s
     add-put-stop
     put-stop-requires
-    add-i
+    advance-requires
     loop-less
     loop-again
     same-length
