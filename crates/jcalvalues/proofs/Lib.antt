@@ -7,3 +7,4 @@ pub mod RecurShown
 pub mod ValuesShown
 pub mod Writing
 pub mod Trying
+pub mod FormStrings

@@ -1,26 +1,26 @@
 -- A test and a text, put together to what is promised of a property's values.
-use Prim.Native.Nat.{ℕ}
 use Prim.Native.Char.{code}
-use mathlib.Core.Path.{_≡_, refl, sym, _∙_}
+use Prim.Native.Nat.{ℕ}
 use mathlib.Core.Bool.{Bool, true, false}
 use mathlib.Core.List.{List, [], _∷_}
 use mathlib.Core.Option.{Option, none, some}
+use mathlib.Core.Path.{_≡_, refl, sym, _∙_}
 use Rattle.octets.specs.Basics.{_or_, single}
 use Rattle.octets.specs.Optional.{isSome, guard}
-use Rattle.octets.specs.Pen.{Pen, pen, Wrote}
+use Rattle.octets.specs.Pen.{Pen, Wrote}
 use Rattle.octets.proofs.Cases.{never}
 use Rattle.octets.proofs.Optional.{some-is, guard-is}
 use Rattle.octets.proofs.Pen.{as-text, then}
 use Rattle.json.specs.Tree.{Json}
-use Rattle.values.specs.Sorts.{Sort}
 use Rattle.values.specs.Read.{readValues}
 use Rattle.values.specs.Shown.{valuesShown}
 use Rattle.values.specs.Single.{isText}
+use Rattle.values.specs.Sorts.{Sort}
 use Rattle.values.specs.Steps.{counted}
 use Rattle.values.specs.Texts.{texts}
 use Rattle.valuetexts.specs.Trying.{countFits, Tried}
-use Rattle.valuetexts.specs.declared.Attempt.{Attempt}
 use Rattle.valuetexts.specs.declared.Attempt.the-variants.{Wrote as Done, Invalid}
+use Rattle.valuetexts.specs.declared.Attempt.{Attempt}
 use Rattle.jcalvalues.specs.Attempts.{Attempted}
 use Rattle.jcalvalues.proofs.Holding.{fit, held-many, held-single}
 use Rattle.jcalvalues.proofs.ValuesShown.{values-shown}

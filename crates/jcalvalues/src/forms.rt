@@ -13,6 +13,7 @@ use calendar::texts::extended;
 use calendar::texts::is_basic;
 use json::put_string;
 use octets::put;
+use octets::put_all;
 use values::simple::past;
 use valuetexts::Attempt;
 use valuetexts::put_upper_string;
@@ -36,15 +37,19 @@ pub(crate) fn put_form(out: &mut [u8], at: usize, form: Form, s: &[u8]) -> usize
     put_short(out, at, extended(form, s))
 }
 
-// Tests a text of a fixed form, and writes it in the extended form.
+// Tests a text of a fixed form, and writes it in the extended form, which has no octet to escape.
 pub(crate) fn put_tested_form(out: &mut [u8], at: usize, form: Form, s: &[u8]) -> Attempt
     ensures { λ r. ⌜ Tried (isSome (formOf form (upper (now (s .entry))))) (stringShown (formOf form (upper (now (s .entry))))) (pen (now (out .entry)) at) (now (out .exit)) r ⌝ }
 {
     let t = extended(form, s);
-    if t.len == 0 {
+    let o = t.octets;
+    let n = t.len;
+    if n == 0 {
         return Attempt::Invalid;
     }
-    Attempt::Wrote(put_short(out, at, t))
+    let first = put(out, at, b'"');
+    let close = put_all(out, first, &o[0..n]);
+    Attempt::Wrote(put(out, close, b'"'))
 }
 
 // Writes the end of a period.

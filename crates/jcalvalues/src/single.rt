@@ -32,6 +32,7 @@ use values::simple::put_geo;
 use valuetexts::Attempt;
 use valuetexts::count_fields;
 use valuetexts::put_fields;
+use valuetexts::put_tested_plain;
 use valuetexts::put_upper_string;
 
 // Two or three texts between bare semicolons.
@@ -99,11 +100,12 @@ pub(crate) fn put_one(out: &mut [u8], at: usize, sort: Sort, s: &[u8]) -> usize
     }
 }
 
-// Tests the value and writes it; a date or a time is read once for both.
+// Tests the value and writes it: a plain one, a date or a time in one reading.
 pub(crate) fn put_tested_one(out: &mut [u8], at: usize, sort: Sort, s: &[u8]) -> Attempt
     ensures { λ r. ⌜ Tried (isSome (readOne (sortSaid sort) (now (s .entry)))) (oneShown (sortSaid sort) (now (s .entry))) (pen (now (out .entry)) at) (now (out .exit)) r ⌝ }
 {
     match sort {
+        Sort::Plain => put_tested_plain(out, at, s),
         Sort::Date => put_tested_form(out, at, Form::Date, s),
         Sort::DateTime => put_tested_form(out, at, Form::DateTime, s),
         Sort::Time => put_tested_form(out, at, Form::Time, s),

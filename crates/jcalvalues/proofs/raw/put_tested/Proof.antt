@@ -1,10 +1,10 @@
 -- `jcalvalues::raw::put_tested` meets its contract.
 use mathlib.Core.Path.{sym, ap, _∙_}
+use borrow.Author.Needs.{needs}
 use Rattle.values.specs.Coded.{sortSaid}
 use Rattle.jcalvalues.proofs.Holding.{fit, held-alone, read-alone, read-listed}
 use Rattle.jcalvalues.proofs.Trying.{attempted, texts-fit}
 use Rattle.jcalvalues.proofs.Writing.{texts-values, listed-values, alone-values}
-use borrow.Author.Needs.{needs}
 use Rattle.jcalvalues.proofs.raw.put_tested.Statement.{statement}
 use Rattle.jcalvalues.proofs.raw.put_tested.Tie as tie
 

@@ -1,25 +1,25 @@
 -- `jcalvalues::raw::put_tested_list` meets its contract: the values that are passed stand and are written.
 use Prim.Native.Char.{code}
 use Prim.Native.Nat.{_-_, _≤_, _<_}
-use Rattle.calendar.proofs.Pieces.{scanned-le, scanned-in}
-use Rattle.jcalvalues.proofs.Holding.{fit, value-wrong, value-last, value-alone, value-on}
-use Rattle.jcalvalues.proofs.Lists.{list-more, list-last}
-use Rattle.jcalvalues.proofs.raw.put_tested_list.Statement.{statement}
-use Rattle.jcalvalues.proofs.raw.put_tested_list.Tie as tie
-use Rattle.jcalvalues.specs.Parts.{commaList}
-use Rattle.octets.proofs.Pen.{then, Leads, leads-start, leads-on, leads-last}
+use mathlib.Core.Bool.{true, false}
+use mathlib.Core.Path.{_≡_, refl, sym, _∙_}
+use native.Mathlib.Omega.{arith}
+use lib.ListN.{length, take, drop, length-take, length-drop}
+use borrow.Author.Needs.{needs}
+use borrow.Author.Tests.{not-true, not-false}
 use Rattle.octets.specs.Optional.{isSome}
 use Rattle.octets.specs.Pen.{pen, Wrote}
+use Rattle.octets.proofs.Pen.{then, Leads, leads-start, leads-on, leads-last}
+use Rattle.calendar.proofs.Pieces.{scanned-le, scanned-in}
 use Rattle.values.specs.Coded.{sortSaid}
 use Rattle.values.specs.Read.{listed}
 use Rattle.values.specs.Shown.{oneShown}
 use Rattle.values.specs.Single.{readOne}
-use borrow.Author.Needs.{needs}
-use borrow.Author.Tests.{not-true, not-false}
-use lib.ListN.{length, take, drop, length-take, length-drop}
-use mathlib.Core.Bool.{true, false}
-use mathlib.Core.Path.{_≡_, refl, sym, _∙_}
-use native.Mathlib.Omega.{arith}
+use Rattle.jcalvalues.specs.Parts.{commaList}
+use Rattle.jcalvalues.proofs.Holding.{fit, value-wrong, value-last, value-alone, value-on}
+use Rattle.jcalvalues.proofs.Lists.{list-more, list-last}
+use Rattle.jcalvalues.proofs.raw.put_tested_list.Statement.{statement}
+use Rattle.jcalvalues.proofs.raw.put_tested_list.Tie as tie
 
 abbrev Inv-loop : tie.InvT-loop
 Inv-loop out₀ at sort many raw p₀ i₀ out p i = (i ≤ length raw) × (length out ≡ length out₀) × (fit many (listed (readOne (sortSaid sort)) raw) ≡ fit many (listed (readOne (sortSaid sort)) (drop i raw))) × Leads (pen out₀ at) (commaList (oneShown (sortSaid sort)) raw) (pen out p) (commaList (oneShown (sortSaid sort)) (drop i raw))
