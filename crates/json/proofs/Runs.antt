@@ -1,22 +1,31 @@
 -- Runs of octets of a class: what a loop that looks for a run's end keeps, and what a run tells.
-use Prim.Native.Nat.{ℕ, suc, _+_, _-_, _≤_, _<_}
+use Prim.Native.Nat.{ℕ, zero, suc, _+_, _-_, _≤_, _<_}
 use mathlib.Core.Path.{_≡_, refl, sym, ap, _∙_}
 use mathlib.Core.Bool.{Bool, true, false}
 use mathlib.Core.List.{List, [], _∷_, _++_}
 use native.Mathlib.Omega.{arith}
 use lib.ListN.{length, take, drop, getD}
+use lib.Seq.{drop-drop}
 use Rattle.octets.specs.Basics.{_and_, all}
 use lib.Dec.{eqb, ltb}
 use borrow.Author.Tests.{ltb-true, ltb-false, eq-eqb, ne-eqb}
 use Rattle.octets.proofs.Cases.{cases, never, both, and-true, all-append}
 use Rattle.octets.proofs.Positions.{here, ended, part-rest, part-more, past-end}
-use Rattle.json.specs.Promise.{Run}
+use Rattle.json.specs.Promise.{Passed, Run}
 
--- from `at` to i all octets are of the class
-pub record Passed (class : ℕ → Bool) (text : List ℕ) (at i : ℕ) : Type 0 where
-  pub above : at ≤ i
-  pub below : i ≤ length text
-  pub inside : all class (take (i - at) (drop at text)) ≡ true
+-- a part is two, one behind the other
+take-both : (a b : ℕ) (s : List ℕ) → take (a + b) s ≡ take a s ++ take b (drop a s)
+take-both zero b s = let e : 0 + b ≡ b = omega arith in rw e
+take-both (suc a) zero [] = let e : suc a + 0 ≡ suc (a + 0) = omega arith in rw e
+take-both (suc a) (suc b) [] = let e : suc a + suc b ≡ suc (a + suc b) = omega arith in rw e
+take-both (suc a) b (x ∷ s) = let e : suc a + b ≡ suc (a + b) = omega arith in rw e (ap (λ (r : List ℕ). x ∷ r) (take-both a b s))
+
+two-parts : (s : List ℕ) (at i e : ℕ) → at ≤ i → i ≤ e → take (e - at) (drop at s) ≡ take (i - at) (drop at s) ++ take (e - i) (drop i s)
+two-parts s at i e h l =
+    let q : e - at ≡ i - at + (e - i) = omega arith in
+    let k : at + (i - at) ≡ i = omega arith in
+    let d : drop (i - at) (drop at s) ≡ drop i s = drop-drop (i - at) at s ∙ ap (λ (n : ℕ). drop n s) k in
+    rw q (take-both (i - at) (e - i) (drop at s) ∙ rw d)
 
 module _ {class : ℕ → Bool} {text : List ℕ} {at : ℕ} where
   pub passed-none : at ≤ length text → Passed class text at at
@@ -31,6 +40,14 @@ module _ {class : ℕ → Bool} {text : List ℕ} {at : ℕ} where
     above = omega arith;
     below = omega arith;
     inside = ap (all class) (part-more text at i (p .above) h) ∙ all-append class (take (i - at) (drop at text)) (getD text i 0 ∷ []) ∙ and-true (p .inside) (rw e);
+  }
+
+  -- a part all of whose octets are of the class
+  pub passed-part : {i : ℕ} (e : ℕ) → Passed class text at i → i ≤ e → e ≤ length text → all class (take (e - i) (drop i text)) ≡ true → Passed class text at e
+  passed-part {i} e p l m h = record {
+    above = omega (arith, p .above);
+    below = m;
+    inside = ap (all class) (two-parts text at i e (p .above) l) ∙ all-append class (take (i - at) (drop at text)) (take (e - i) (drop i text)) ∙ and-true (p .inside) h;
   }
 
   pub run-over : {i : ℕ} → Passed class text at i → class (getD text i 0) ≡ false → Run class text at i

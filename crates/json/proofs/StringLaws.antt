@@ -4,11 +4,11 @@ use mathlib.Core.Path.{_≡_, refl, sym, ap, _∙_}
 use mathlib.Core.Bool.{Bool, true, false, not}
 use mathlib.Core.List.{List, [], _∷_, _++_}
 use native.Mathlib.Omega.{arith}
-use lib.Dec.{eqb, ltb}
+use lib.Dec.{eqb, leb, ltb}
 use lib.ListN.{length, take, drop, getD, length-drop}
 use lib.Seq.{drop-drop}
-use borrow.Author.Tests.{ne-eqb, eq-eqb, ltb-true, ltb-false, lt-ltb, le-ltb, eqb-true, eqb-false, not-true}
-use Rattle.octets.specs.Basics.{pick, _or_, all}
+use borrow.Author.Tests.{ne-eqb, eq-eqb, ltb-true, ltb-false, lt-ltb, le-ltb, le-leb, lt-leb, eqb-true, eqb-false, not-true}
+use Rattle.octets.specs.Basics.{pick, _and_, _or_, all}
 use Rattle.octets.specs.Classes.{between, isDigit, hexDigit}
 use Rattle.octets.specs.Pen.{Pen, Wrote}
 use Rattle.octets.proofs.Cases.{cases, never, both, neither, or-false, pick-same}
@@ -322,3 +322,16 @@ module _ (text : List ℕ) (i : ℕ) where
     pub escape-one : ((x ≡ 0) → ⊥) → escape (drop i text) ≡ ok (x ∷ []) (drop (i + 1) text)
     unfolding escape
     escape-one z = rw (here text i (escape-inside z), ne-eqb _ 117 n, ← e, ne-eqb x 0 z)
+
+-- an octet above the backslash stands for itself
+pub high-unescaped : (b : ℕ) → 92 < b → true ≡ unescaped b
+unfolding unescaped
+high-unescaped b h = rw (le-ltb b 32 (omega arith), ne-eqb b 34 (λ z. omega arith), ne-eqb b 92 (λ z. omega arith))
+
+-- the three tests of an octet, one behind the other
+pub by-tests : (f : Bool) (b : ℕ) → (((f and leb 32 b) and not (eqb b 34)) and not (eqb b 92)) ≡ (f and unescaped b)
+unfolding unescaped
+by-tests false b = refl
+by-tests true b = cases (ltb b 32)
+    (λ e. rw (e, lt-leb 32 b (ltb-true b 32 e)))
+    (λ e. cases (eqb b 34) (λ q. rw (e, le-leb 32 b (ltb-false b 32 e), q)) (λ q. rw (e, le-leb 32 b (ltb-false b 32 e), q)))

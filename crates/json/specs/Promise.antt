@@ -14,6 +14,12 @@ use Rattle.json.specs.declared.Step.the-variants.{Read, TooDeep, NotJson
 use Rattle.json.specs.declared.Found.{Found}
 use Rattle.json.specs.declared.Found.the-variants.{At, Nothing}
 
+-- from `at` to i stand octets of a class
+pub record Passed (class : ℕ → Bool) (text : List ℕ) (at i : ℕ) : Type 0 where
+  pub above : at ≤ i
+  pub below : i ≤ length text
+  pub inside : all class (take (i - at) (drop at text)) ≡ true
+
 -- from `at` to r stand octets of a class, and at r none
 pub record Run (class : ℕ → Bool) (text : List ℕ) (at r : ℕ) : Type 0 where
   pub above : at ≤ r

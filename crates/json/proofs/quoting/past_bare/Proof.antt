@@ -3,8 +3,8 @@ use Prim.Native.Nat.{_-_}
 use mathlib.Core.Path.{sym, _∙_}
 use borrow.Author.Tests.{not-true, not-false}
 use lib.ListN.{length}
-use Rattle.json.specs.Promise.{bareOctet}
-use Rattle.json.proofs.Runs.{Passed, passed-none, passed-more, run-over, run-end}
+use Rattle.json.specs.Promise.{Passed, bareOctet}
+use Rattle.json.proofs.Runs.{passed-none, passed-more, run-over, run-end}
 use borrow.Author.Needs.{needs}
 use Rattle.json.proofs.quoting.past_bare.Statement.{statement}
 use Rattle.json.proofs.quoting.past_bare.Tie as tie

@@ -3,8 +3,8 @@ use Prim.Native.Nat.{_-_}
 use mathlib.Core.Path.{sym, _∙_}
 use borrow.Author.Tests.{not-true, not-false}
 use lib.ListN.{length}
-use Rattle.json.specs.Promise.{unescaped}
-use Rattle.json.proofs.Runs.{Passed, passed-none, passed-more, run-over, run-end}
+use Rattle.json.specs.Promise.{Passed, unescaped}
+use Rattle.json.proofs.Runs.{passed-more, run-over, run-end}
 use borrow.Author.Needs.{needs}
 use Rattle.json.proofs.strings.past_unescaped.Statement.{statement}
 use Rattle.json.proofs.strings.past_unescaped.Tie as tie
@@ -27,7 +27,8 @@ past-unescaped-spec =
     (tie.spec
     Inv-loop
     μ-loop
-    (λ c. passed-none (c .before .pre))
+    (λ c κs. search needs)
+    (λ c. c .past-blocks .ensures)
     (λ c. search needs)
     (λ c κs. search needs)
     returns
