@@ -1,6 +1,6 @@
 -- What is printed of a plan is what is printed of the definition's list.
 use Prim.Native.Nat.{ℕ, _+_, _≤_}
-use mathlib.Core.Path.{_≡_, sym, ap, _∙_}
+use mathlib.Core.Path.{_≡_, refl, sym, ap, _∙_}
 use mathlib.Core.List.{List, _++_}
 use mathlib.Core.Option.{Option, none, some}
 use native.Mathlib.Omega.{arith}
@@ -24,20 +24,20 @@ use Rattle.stopspage.specs.Printing.{headShown, stopsShown, answerShown,
 
 -- the plan of a start and a rule
 module _ (start rule : List ℕ) (room : ℕ) (p : Plan) (e : p ≡ planOf start rule room) where
-  pub begins : Begins (p .run) room
-  begins = rw e (plan-begins start rule room)
+  pub begins : Begins (p .run) (p .run .room)
+  begins =
+      let b : Begins (p .run) room = rw e (plan-begins start rule room) in
+      record { sound = b .sound; front = b .front; whole = refl }
 
   tells : told (p .listed) (stopsOf (p .run)) ≡ listOf start rule room
   tells = rw e (plan-tells start rule room .answer)
 
-  pub shows-stops : (k n : ℕ) → p .listed ≡ Stops k → n ≡ p .run .at + length (stopsOf (p .run))
+  pub shows-stops : (k n : ℕ) → p .listed ≡ Stops k → n ≡ length (stopsOf (p .run))
       → headShown (octets "stops ") n ++ stopsShown (p .run .at + 1) (stopsOf (p .run)) ≡ answerShown (listOf start rule room)
   unfolding told answerShown
-  shows-stops k n d l =
-      let f = begins .front in
-      let c : n ≡ length (stopsOf (p .run)) = omega arith in
+  shows-stops k n d c =
       ap (λ (x : ℕ). headShown (octets "stops ") x ++ stopsShown (p .run .at + 1) (stopsOf (p .run))) c
-      ∙ ap (λ (x : ℕ). headShown (octets "stops ") (length (stopsOf (p .run))) ++ stopsShown (x + 1) (stopsOf (p .run))) f
+      ∙ ap (λ (x : ℕ). headShown (octets "stops ") (length (stopsOf (p .run))) ++ stopsShown (x + 1) (stopsOf (p .run))) (begins .front)
       ∙ ap answerShown (rw d at tells)
 
   pub shows-refusal : (why : Refusal) → p .listed ≡ Refused why → headShown (octets "refused ") (number why) ≡ answerShown (listOf start rule room)

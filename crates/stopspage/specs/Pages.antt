@@ -1,9 +1,17 @@
 -- The pieces of what is printed, as the code has them: a moment's front, the last line's number, and the lines.
-use Prim.Native.Nat.{ℕ}
+use Prim.Native.Nat.{ℕ, _-_, _*_, min}
 use Prim.Native.Char.{code}
+use mathlib.Core.Bool.{Bool}
 use mathlib.Core.List.{List, [], _∷_}
 use mathlib.Core.Option.{Option, none, some}
+use lib.Dec.{leb}
+use Rattle.octets.specs.Basics.{_and_}
 use Rattle.octets.specs.Pieces.{split}
+use Rattle.octets.specs.Optional.{isSome}
+use Rattle.calendar.specs.Answers.{movedOn}
+use Rattle.calendar.specs.declared.moments.Moment.{Moment}
+use Rattle.calendar.specs.declared.rules.End.{End}
+use Rattle.calendar.specs.declared.rules.End.the-variants.{Count, Until, Open}
 use Rattle.calendar.specs.declared.moments.Kind.{Kind}
 use Rattle.calendar.specs.declared.moments.Kind.the-variants.{Day, Local, Utc}
 use Rattle.stopspage.specs.declared.Most.{Most}
@@ -15,6 +23,16 @@ unfoldable pub shownLength : Kind → ℕ
 shownLength Day = 10
 shownLength Local = 19
 shownLength Utc = 20
+
+-- how many stops a COUNT and the room leave; 0 where UNTIL ends them
+unfoldable pub allowedBy : End → ℕ → ℕ
+allowedBy (Count n) room = min n room
+allowedBy (Until u) room = 0
+allowedBy Open room = room
+
+-- the last of n moments, h hours apart, is not past the last day; asked of numbers whose product is a word
+unfoldable pub reached : Moment → ℕ → ℕ → Bool
+reached m h n = leb 1 n and leb n 100000000 and leb h 100000000 and isSome (movedOn m ((n - 1) * h))
 
 -- what a read number says
 abbrev pub mostSaid : Most → Option ℕ

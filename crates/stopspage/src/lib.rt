@@ -6,12 +6,14 @@ ghost use lib.ListN.{length};
 ghost use Rattle.octets.specs.Pen.{pen, Wrote};
 ghost use Rattle.calendar.specs.declared.moments.Kind.the-variants.{Utc};
 ghost use Rattle.stoplist.specs.Stops.{listOf};
-ghost use Rattle.stoplist.specs.Runs.{stopsOf, Sound};
+ghost use Rattle.stoplist.specs.Runs.{stopsOf, Sound, Begins};
 ghost use Rattle.stopspage.specs.Printing.{dateShown, timeShown, stopShown, stopsShown, badInput, headShown, answerShown, mostOf, shownFor, chop, printed};
-ghost use Rattle.stopspage.specs.Pages.{shownLength, mostSaid, thirdShown};
+ghost use Rattle.stopspage.specs.Pages.{shownLength, allowedBy, reached, mostSaid, thirdShown};
 use calendar::moments::Kind;
 use calendar::moments::Moment;
+use calendar::moments::Moved;
 use calendar::parts::find;
+use calendar::rules::End;
 use octets::MOST_TEXT;
 use octets::all_digits;
 use octets::leading_zeros;
@@ -94,8 +96,44 @@ fn put_stop(out: &mut [u8], at: usize, i: usize, s: Stop) -> usize
     put(out, c, b'\n')
 }
 
-// The place behind the last stop of a run.
-fn end_of(first: Run) -> usize
+// How many stops a rule's COUNT and the room leave, or 0 where UNTIL ends it.
+fn allowed(end: End, room: usize) -> usize
+    ensures { λ r. ⌜ r ≡ allowedBy end room ⌝ }
+{
+    match end {
+        End::Count(n) => {
+            if (n as usize) < room {
+                return n as usize;
+            }
+            room
+        }
+        End::Until(_) => 0,
+        End::Open => room,
+    }
+}
+
+// The last of n moments so many hours apart is reached before the last day is past.
+fn is_reached(m: Moment, hours: u64, n: usize) -> bool
+    ensures { λ r. ⌜ r ≡ reached m hours n ⌝ }
+{
+    if n == 0 {
+        return false;
+    }
+    if 100000000 < n {
+        return false;
+    }
+    if 100000000 < hours {
+        return false;
+    }
+    let last = (n - 1) as u64;
+    match m.moved(last * hours) {
+        Moved::At(_) => true,
+        Moved::Past => false,
+    }
+}
+
+// The place behind the last stop of a run, by a walk.
+fn walked(first: Run) -> usize
     requires { ⌜ Sound first ⌝ }
     ensures { λ r. ⌜ r ≡ first .at + length (stopsOf first) ⌝ }
 {
@@ -104,6 +142,24 @@ fn end_of(first: Run) -> usize
         run = advance(run);
     }
     run.at
+}
+
+// How many stops a run has, from its first on.
+fn count_of(run: Run) -> usize
+    requires { ⌜ Begins run (run .room) ⌝ }
+    ensures { λ r. ⌜ r ≡ length (stopsOf run) ⌝ }
+{
+    if !run.more {
+        return 0;
+    }
+    let stop = run.stop;
+    let m = stop.moment;
+    let end = run.end;
+    let n = allowed(end, run.room);
+    if is_reached(m, run.hours, n) {
+        return n;
+    }
+    walked(run)
 }
 
 // Writes the stops of a run.
@@ -145,7 +201,7 @@ pub fn print_list(out: &mut [u8], start: &[u8], rule: &[u8], most: usize) -> usi
     let run = plan.run;
     match listed {
         Listed::Stops(_) => {
-            let at = put_head(out, b"stops ", end_of(run));
+            let at = put_head(out, b"stops ", count_of(run));
             put_stops(out, at, run)
         }
         Listed::Refused(why) => put_head(out, b"refused ", why.number() as usize),

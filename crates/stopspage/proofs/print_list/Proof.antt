@@ -15,8 +15,8 @@ enum-told c = search needs
 slice-aggregate-put-head : tie.Need-slice-aggregate-put-head
 slice-aggregate-put-head c = search needs
 
-end-of-requires : tie.Need-end-of-requires
-end-of-requires c κs = begins _ _ _ _ (c .before .before .before .before .before .make-plan .ensures) .sound
+count-of-requires : tie.Need-count-of-requires
+count-of-requires c κs = begins _ _ _ _ (c .before .before .before .before .before .make-plan .ensures)
 
 put-head-requires : tie.Need-put-head-requires
 put-head-requires c κs = search needs
@@ -43,7 +43,7 @@ same-length : tie.Need-same-length
 same-length c = search needs
 
 returns : tie.Need-returns
-returns c = as-text (then (c .before .before .before .before .before .before .put-head .ensures) (c .before .before .put-stops .ensures)) (shows-stops _ _ _ _ (c .before .before .before .before .before .before .before .before .before .before .before .before .before .make-plan .ensures) _ _ (c .before .before .before .before .before .before .before .before .before .before .enum-told .given .1) (c .before .before .before .before .before .before .before .end-of .ensures))
+returns c = as-text (then (c .before .before .before .before .before .before .put-head .ensures) (c .before .before .put-stops .ensures)) (shows-stops _ _ _ _ (c .before .before .before .before .before .before .before .before .before .before .before .before .before .make-plan .ensures) _ _ (c .before .before .before .before .before .before .before .before .before .before .enum-told .given .1) (c .before .before .before .before .before .before .before .count-of .ensures))
 
 same-length-2 : tie.Need-same-length-2
 same-length-2 c = search needs
@@ -58,7 +58,7 @@ print-list-spec =
     make-plan-requires
     enum-told
     slice-aggregate-put-head
-    end-of-requires
+    count-of-requires
     put-head-requires
     put-stops-requires
     enum-known-listed

@@ -1,4 +1,4 @@
--- `stopspage::end_of` meets its contract: the place and the stops ahead stay the same.
+-- `stopspage::walked` meets its contract: the place and the stops ahead stay the same.
 use Prim.Native.Nat.{_+_}
 use mathlib.Core.Path.{_≡_, refl, _∙_}
 use native.Mathlib.Omega.{arith}
@@ -6,8 +6,8 @@ use lib.ListN.{length}
 use Rattle.stoplist.specs.Runs.{stopsOf, Sound}
 use Rattle.stopspage.proofs.Showing.{on-sound, on-length, on-end, end-at}
 use borrow.Author.Needs.{needs}
-use Rattle.stopspage.proofs.end_of.Statement.{statement}
-use Rattle.stopspage.proofs.end_of.Tie as tie
+use Rattle.stopspage.proofs.walked.Statement.{statement}
+use Rattle.stopspage.proofs.walked.Tie as tie
 
 abbrev Inv-loop : tie.InvT-loop
 Inv-loop run₀ run = Sound run × (run .at + length (stopsOf run) ≡ run₀ .at + length (stopsOf run₀))
@@ -30,6 +30,6 @@ loop-again c = (on-sound _ _ (c .before .before .loop .inv .0) (c .before .loop-
 returns : tie.Need-returns Inv-loop μ-loop
 returns c = end-at _ (c .loop-test .left) ∙ c .before .loop .inv .1
 
-pub end-of-spec : {M : Type 1} → statement M
-end-of-spec =
+pub walked-spec : {M : Type 1} → statement M
+walked-spec =
     tie.close (tie.spec Inv-loop μ-loop loop-holds advance-requires loop-less loop-again returns)
