@@ -14,6 +14,7 @@ pub enum Conversion {
     Refused(Refusal),
 }
 
+// Values written: the place behind the end of their group and where the pen stands; or they are not what the sort takes.
 pub enum Valued {
     Wrote(usize, content::Folder),
     Invalid,
