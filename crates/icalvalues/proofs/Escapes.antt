@@ -1,26 +1,16 @@
 -- Texts with their escapes, run by run.
 use Prim.Native.Nat.{ℕ, _+_, _-_, _≤_, _<_}
-use Prim.Native.Char.{code}
 use mathlib.Core.Path.{_≡_, sym, _∙_}
 use mathlib.Core.List.{List, [], _∷_, _++_, append-assoc}
 use native.Mathlib.Omega.{arith}
-use borrow.Author.Tests.{ne-eqb}
 use lib.ListN.{length, getD, take, drop}
-use Rattle.octets.proofs.Positions.{here, ended, part-more}
+use Rattle.octets.proofs.Positions.{ended, part-more}
 use Rattle.values.specs.Texts.{escapedOctet, textText}
-
--- an octet that needs no escape
-pub stays : (c : ℕ) → ((c ≡ code "\\") → ⊥) → ((c ≡ code ";") → ⊥) → ((c ≡ code ",") → ⊥) → ((c ≡ code "\n") → ⊥) → escapedOctet c ≡ c ∷ []
-unfolding escapedOctet
-stays c a b d e = rw (ne-eqb c (code "\\") a, ne-eqb c (code ";") b, ne-eqb c (code ",") d, ne-eqb c (code "\n") e)
+use Rattle.icalvalues.proofs.Bared.{text-here}
 
 -- from i to r nothing needs one
 pub record Bare (s : List ℕ) (i r : ℕ) : Type 0 where
   pub is : textText (drop i s) ≡ take (r - i) (drop i s) ++ textText (drop r s)
-
-pub text-here : (s : List ℕ) (i : ℕ) → i < length s → textText (drop i s) ≡ escapedOctet (getD s i 0) ++ textText (drop (i + 1) s)
-unfolding textText
-text-here s i h = rw (here s i h)
 
 pub text-ended : (s : List ℕ) (i : ℕ) → length s ≤ i → textText (drop i s) ≡ []
 unfolding textText

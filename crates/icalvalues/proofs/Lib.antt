@@ -1,5 +1,8 @@
 pub mod Places
 pub mod Listed
 pub mod Arrays
+pub mod Bared
 pub mod Escapes
 pub mod Sorted
+pub mod Strings
+pub mod Grouped

@@ -220,7 +220,7 @@ fn status_at(t: &[u8], at: usize) -> bool
 }
 
 // One value. There is room in `text` for the text of a recurrence rule.
-fn value_at(t: &[u8], at: usize, sort: Sort, text: &mut [u8]) -> bool
+pub(crate) fn value_at(t: &[u8], at: usize, sort: Sort, text: &mut [u8]) -> bool
     requires { ⌜ length (now t) ≤ length (now text) ⌝ }
     ensures { λ r. ⌜ r ≡ valueIs (sortSaid sort) (valueAt (now (t .entry)) at) ⌝ }
 {

@@ -68,7 +68,7 @@ fn write_text(out: &mut [u8], p: Folder, t: &[u8], at: usize) -> Folder
 }
 
 // Writes a text in the basic form.
-fn fold_basic(out: &mut [u8], p: Folder, form: Form, s: &[u8]) -> Folder
+pub(crate) fn fold_basic(out: &mut [u8], p: Folder, form: Form, s: &[u8]) -> Folder
     ensures { λ r. ⌜ Folded (folding (now (out .entry)) p) (formText form (upper (now (s .entry)))) (folding (now (out .exit)) r) ⌝ }
 {
     let b = basic(form, s);
@@ -96,7 +96,7 @@ fn fold_trimmed(out: &mut [u8], p: Folder, s: &[u8]) -> Folder
 }
 
 // Writes an integer's value.
-fn fold_integer(out: &mut [u8], p: Folder, s: &[u8]) -> Folder
+pub(crate) fn fold_integer(out: &mut [u8], p: Folder, s: &[u8]) -> Folder
     ensures { λ r. ⌜ Folded (folding (now (out .entry)) p) (integerText (now (s .entry))) (folding (now (out .exit)) r) ⌝ }
 {
     let sign = sign_length(s);
@@ -229,7 +229,7 @@ fn write_period(out: &mut [u8], p: Folder, t: &[u8], at: usize) -> Folder
 }
 
 // Writes one value. There is room in `text` and `rule` for a recurrence rule.
-fn write_value(
+pub(crate) fn write_value(
     out: &mut [u8],
     p: Folder,
     t: &[u8],

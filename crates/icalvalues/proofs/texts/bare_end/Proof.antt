@@ -4,7 +4,8 @@ use mathlib.Core.Logic.{inl, inr}
 use native.Mathlib.Omega.{arith}
 use borrow.Author.Needs.{needs}
 use lib.ListN.{length}
-use Rattle.icalvalues.proofs.Escapes.{Bare, bare-none, bare-more, stays}
+use Rattle.icalvalues.proofs.Bared.{stays}
+use Rattle.icalvalues.proofs.Escapes.{Bare, bare-none, bare-more}
 use Rattle.icalvalues.proofs.texts.bare_end.Tie as tie
 use Rattle.icalvalues.proofs.texts.bare_end.Statement.{statement}
 

@@ -1,7 +1,7 @@
 -- `icalvalues::texts::fold_escaped` meets its contract.
 use borrow.Author.Needs.{needs}
 use Rattle.values.specs.Texts.{escapedOctet}
-use Rattle.icalvalues.proofs.Escapes.{stays}
+use Rattle.icalvalues.proofs.Bared.{stays}
 use Rattle.icalvalues.proofs.texts.fold_escaped.Tie as tie
 use Rattle.icalvalues.proofs.texts.fold_escaped.Statement.{statement}
 

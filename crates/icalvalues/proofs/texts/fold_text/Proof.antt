@@ -7,7 +7,8 @@ use lib.ListN.{length, drop}
 use Rattle.content.specs.Folding.{folding}
 use Rattle.content.proofs.Folding.{Leads, leads-start, leads-on, leads-end}
 use Rattle.values.specs.Texts.{textText}
-use Rattle.icalvalues.proofs.Escapes.{text-here, text-ended}
+use Rattle.icalvalues.proofs.Bared.{text-here}
+use Rattle.icalvalues.proofs.Escapes.{text-ended}
 use Rattle.icalvalues.proofs.texts.fold_text.Tie as tie
 use Rattle.icalvalues.proofs.texts.fold_text.Statement.{statement}
 
