@@ -3,7 +3,6 @@ mod components;
 mod converting;
 mod lines;
 mod property;
-mod tested;
 
 pub use converting::to_ical;
 use octets::Refusal;
@@ -12,10 +11,4 @@ use octets::Refusal;
 pub enum Conversion {
     Passed(usize, usize),
     Refused(Refusal),
-}
-
-// Values written: the place behind the end of their group and where the pen stands; or they are not what the sort takes.
-pub enum Valued {
-    Wrote(usize, content::Folder),
-    Invalid,
 }

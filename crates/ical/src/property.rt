@@ -1,10 +1,10 @@
 // Properties tested and written in one walk: numbers 7, 8 and 9.
 use super::Conversion;
-use super::Valued;
 use super::lines::write_head;
-use super::tested::write_tested;
 use content::Folder;
 use content::end_line;
+use icalvalues::Valued;
+use icalvalues::write_tested;
 use jcalvalues::holds_values;
 use octets::Refusal;
 use properties::Ruling;
