@@ -1,5 +1,5 @@
 -- Properties tested for 7, 8 and 9 by what their ruling says.
-use Prim.Native.Nat.{ℕ, _-_, _≤_, _<_}
+use Prim.Native.Nat.{ℕ, _-_, _≤_}
 use mathlib.Core.Path.{_≡_, refl, sym, ap, _∙_}
 use mathlib.Core.Bool.{Bool, true, false, not}
 use mathlib.Core.List.{List, [], _∷_, _++_, map}
@@ -32,9 +32,12 @@ use Rattle.values.specs.Sorts.{sortOf}
 use Rattle.values.specs.Coded.{sortSaid}
 use Rattle.values.specs.declared.sorts.Sort.{Sort as SortCode}
 use Rattle.icalrecur.specs.Room.{hasRoom}
-use Rattle.icalrecur.proofs.Room.{room, no-room}
+use Rattle.icalrecur.proofs.Room.{room}
 use Rattle.values.specs.Read.{readValues, valuesOf}
 use Rattle.values.specs.Write.{valuesAre}
+use Rattle.icalvalues.specs.Valued.{ValuedAs}
+use Rattle.icalvalues.specs.declared.Valued.{Valued}
+use Rattle.icalvalues.specs.declared.Valued.the-variants.{Wrote, Invalid}
 use Rattle.converter.specs.Tree.{Property}
 use Rattle.converter.specs.Property.{codeOf, manyOf, encodingFits, readAs}
 use Rattle.converter.specs.Skeleton.{areParameters, isPropertyName, isListOf, isProperty, paramsFrom, propertyFrom}
@@ -44,9 +47,6 @@ use Rattle.properties.specs.Standing.{Within, PartsAt}
 use Rattle.properties.specs.declared.Parts.{Parts}
 use Rattle.properties.specs.Ruled.{Rules}
 use Rattle.properties.specs.declared.Ruling.{Ruling}
-use Rattle.ical.specs.Valued.{ValuedAs}
-use Rattle.ical.specs.declared.Valued.{Valued}
-use Rattle.ical.specs.declared.Valued.the-variants.{Wrote, Invalid}
 use Rattle.ical.specs.Writes.{standing, Stands}
 use Rattle.ical.specs.Converts.{checkedIn, Puts, Converts}
 use Rattle.ical.specs.declared.Conversion.{Conversion}
@@ -128,18 +128,6 @@ module _ (k : Ruling) (n : List ℕ) where
 
     pub invalid-told : r ≡ Invalid → standing k n (listAt t i) ≡ false
     invalid-told z = rw z at v
-
--- the values where they are tested and then written
-module _ (t s u : List ℕ) (b : Bool) where
-  pub no-rule : length u < length t → ((hasRoom t s and hasRoom t u) and b) ≡ false
-  no-rule h = rw (no-room t u h, and-false-right (hasRoom t s))
-
-  pub values-are : {r x : Bool} → length t ≤ length u → r ≡ (hasRoom t s and b) → r ≡ x → ((hasRoom t s and hasRoom t u) and b) ≡ x
-  values-are h e f = rw (room t u h, and-true-right (hasRoom t s)) (sym e ∙ f)
-
-  pub values-there : (v xs : List ℕ) → length v ≡ length s → ((hasRoom t s and hasRoom t u) and b) ≡ true → pick (hasRoom t v and hasRoom t u) xs [] ≡ xs
-  unfolding hasRoom
-  values-there v xs e h = rw (e, both (hasRoom t s and hasRoom t u) b h .0)
 
 -- nothing stands against it
 abbrev pub ok : Answer (Unit {0})

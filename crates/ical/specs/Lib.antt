@@ -1,4 +1,3 @@
-pub mod Valued
 pub mod Writes
 pub mod Converts
 pub mod Stages

@@ -15,8 +15,8 @@ use Rattle.content.specs.Folding.{FoldPen, folding, Folded}
 use Rattle.values.specs.Coded.{sortSaid}
 use Rattle.values.specs.Read.{valuesOf}
 use Rattle.values.specs.Write.{valuesAre, valuesText}
-use Rattle.ical.specs.declared.Valued.{Valued}
-use Rattle.ical.specs.declared.Valued.the-variants.{Wrote, Invalid}
+use Rattle.icalvalues.specs.declared.Valued.{Valued}
+use Rattle.icalvalues.specs.declared.Valued.the-variants.{Wrote, Invalid}
 use Rattle.converter.specs.Return.{firstOctets}
 use Rattle.properties.specs.declared.Ruling.{Ruling}
 

@@ -53,14 +53,10 @@ pub(crate) fn convert_component(
             return Conversion::Passed(f, ended);
         }
         let s = convert_component(t, i, left - 1, rows, out, q, text, rule);
-        match s {
-            Conversion::Passed(e, n) => {
-                i = e;
-                q = n;
-            }
-            Conversion::Refused(w) => {
-                return Conversion::Refused(w);
-            }
-        }
+        let Conversion::Passed(e, n) = s else {
+            return s;
+        };
+        i = e;
+        q = n;
     }
 }

@@ -3,7 +3,6 @@ mod components;
 mod converting;
 mod lines;
 mod property;
-mod tested;
 
 pub use converting::to_ical;
 use octets::Refusal;
@@ -12,9 +11,4 @@ use octets::Refusal;
 pub enum Conversion {
     Passed(usize, usize),
     Refused(Refusal),
-}
-
-pub enum Valued {
-    Wrote(usize, content::Folder),
-    Invalid,
 }

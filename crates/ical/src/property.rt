@@ -1,10 +1,10 @@
 // Properties tested and written in one walk: numbers 7, 8 and 9.
 use super::Conversion;
-use super::Valued;
 use super::lines::write_head;
-use super::tested::write_tested;
 use content::Folder;
 use content::end_line;
+use icalvalues::Valued;
+use icalvalues::write_tested;
 use jcalvalues::holds_values;
 use octets::Refusal;
 use properties::Ruling;
@@ -97,7 +97,6 @@ fn convert_property(
     let b = name.to;
     let c = kind.from;
     let d = kind.to;
-    let v = p.values;
     let k = ruling_of(rows, &t[a..b], &t[c..d]);
     let encoded = is_encoded(t, params);
     if !encoding_fits(k.code, encoded) {
@@ -105,7 +104,7 @@ fn convert_property(
     }
     let start = Folder { at: to, column: 0 };
     let h = write_head(out, start, &t[a..b], k.shown, &t[c..d], t, params);
-    let w = write_stood(out, h, t, &t[a..b], v, k, text, rule);
+    let w = write_stood(out, h, t, &t[a..b], p.values, k, text, rule);
     match w {
         Valued::Invalid => Conversion::Refused(Refusal::BadValue),
         Valued::Wrote(e, q) => {

@@ -154,6 +154,23 @@ convert-component-requires t c κs = (omega (arith, composed _ _ (c .before .bef
 enum-known-s : (t : ℕ) → lts.Need-enum-known-s (claims t) (here t) self.Post Inv-loop μ-loop
 enum-known-s t c = search needs
 
+enum-told-2 : (t : ℕ) → lts.Need-enum-told-2 (claims t) (here t) self.Post Inv-loop μ-loop
+enum-told-2 t c = search needs
+
+same-length-7 : (t : ℕ) → lts.Need-same-length-7 (claims t) (here t) self.Post Inv-loop μ-loop
+same-length-7 t c = c .before .before .before .before .before .before .before .before .convert-component .kept .1 .1 .1 .1 .0 ∙ c .before .before .before .before .before .before .before .before .before .before .before .before .before .before .loop .inv .0 ∙ c .before .before .before .before .before .before .before .before .before .before .before .before .before .before .before .before .before .before .before .before .before .before .before .before .before .convert-properties .kept .1 .1 .1 .0 ∙ c .before .before .before .before .before .before .before .before .before .before .before .before .before .before .before .before .before .before .before .before .before .before .before .before .before .before .before .before .before .before .before .write-mark .kept .0
+
+same-length-8 : (t : ℕ) → lts.Need-same-length-8 (claims t) (here t) self.Post Inv-loop μ-loop
+same-length-8 t c = omega (arith, c .before .before .before .before .before .before .before .before .before .before .before .before .before .before .loop .inv .1)
+
+same-length-9 : (t : ℕ) → lts.Need-same-length-9 (claims t) (here t) self.Post Inv-loop μ-loop
+same-length-9 t c = omega (arith, c .before .before .before .before .before .before .before .before .before .before .before .before .before .before .loop .inv .2)
+
+returns-3 : (t : ℕ) → lts.Need-returns-3 (claims t) (here t) self.Post Inv-loop μ-loop
+returns-3 t c =
+    let z = passes _ _ _ _ _ _ _ _ (c .before .before .before .before .before .before .before .before .before .before .before .before .before .before .before .before .before .before .before .before .before .before .before .before .before .convert-properties .ensures) (c .before .before .before .before .before .before .before .before .before .before .before .before .before .before .before .before .before .p .given .1) in
+    rw (c .enum-told2 .given .1) (component-checked _ (c .before .before .before .before .before .before .before .before .before .before .before .before .before .before .before .before .before .before .before .before .before .before .before .before .before .before .before .before .before .before .before .before .before .before .before .before .before .before .before .before .before .before .pre .1 .0) (c .before .before .before .before .before .before .before .before .before .before .before .before .before .before .before .before .before .before .before .before .before .before .before .before .before .before .before .before .before .before .before .before .before .before .before .before .after .ensures) (c .before .before .before .before .before .before .before .before .before .before .before .before .before .before .before .before .before .before .before .before .before .before .before .before .before .before .before .before .before .before .before .before .before .before .before .text-at .ensures .behind) (z .behind) _ (c .before .before .before .before .before .before .before .before .before .before .before .before .before .before .before .after2 .ensures) (z .faultless) ∙ sym (c .before .before .before .before .before .before .before .before .before .before .before .before .before .before .loop .inv .4) ∙ subs-off _ _ _ _ (λ e. c .before .before .before .before .before .before .before .before .before .before .before .before .if1 .left (c .before .before .before .before .before .before .before .before .before .before .before .before .before .tag .ensures ∙ e)) (refuses _ _ _ _ _ _ _ _ (c .before .before .before .before .before .before .before .before .convert-component .ensures) (c .enum-told2 .given .1)))
+
 loop-less : (t : ℕ) → lts.Need-loop-less (claims t) (here t) self.Post Inv-loop μ-loop
 loop-less t c =
     let y = passes _ _ _ _ _ _ _ _ (c .before .before .before .before .before .before .before .before .before .convert-component .ensures) (c .before .s .given .1) .behind in
@@ -169,23 +186,6 @@ loop-again t c =
       sym (subs-on _ _ _ _ (λ e. c .before .before .before .before .before .before .before .before .before .before .before .before .before .if1 .left (c .before .before .before .before .before .before .before .before .before .before .before .before .before .before .tag .ensures ∙ e)) (y .behind) (y .faultless)) ∙ c .before .before .before .before .before .before .before .before .before .before .before .before .before .before .before .loop .inv .4,
       leads-on (c .before .before .before .before .before .before .before .before .before .before .before .before .before .before .before .loop .inv .5) (y .wrote) (sub-lines-on _ _ _ _ (λ e. c .before .before .before .before .before .before .before .before .before .before .before .before .before .if1 .left (c .before .before .before .before .before .before .before .before .before .before .before .before .before .before .tag .ensures ∙ e)) (y .behind)),
     )
-
-enum-known-s-2 : (t : ℕ) → lts.Need-enum-known-s-2 (claims t) (here t) self.Post Inv-loop μ-loop
-enum-known-s-2 t c = search needs
-
-same-length-7 : (t : ℕ) → lts.Need-same-length-7 (claims t) (here t) self.Post Inv-loop μ-loop
-same-length-7 t c = c .before .before .before .before .before .before .before .before .before .convert-component .kept .1 .1 .1 .1 .0 ∙ c .before .before .before .before .before .before .before .before .before .before .before .before .before .before .before .loop .inv .0 ∙ c .before .before .before .before .before .before .before .before .before .before .before .before .before .before .before .before .before .before .before .before .before .before .before .before .before .before .convert-properties .kept .1 .1 .1 .0 ∙ c .before .before .before .before .before .before .before .before .before .before .before .before .before .before .before .before .before .before .before .before .before .before .before .before .before .before .before .before .before .before .before .before .write-mark .kept .0
-
-same-length-8 : (t : ℕ) → lts.Need-same-length-8 (claims t) (here t) self.Post Inv-loop μ-loop
-same-length-8 t c = omega (arith, c .before .before .before .before .before .before .before .before .before .before .before .before .before .before .before .loop .inv .1)
-
-same-length-9 : (t : ℕ) → lts.Need-same-length-9 (claims t) (here t) self.Post Inv-loop μ-loop
-same-length-9 t c = omega (arith, c .before .before .before .before .before .before .before .before .before .before .before .before .before .before .before .loop .inv .2)
-
-returns-3 : (t : ℕ) → lts.Need-returns-3 (claims t) (here t) self.Post Inv-loop μ-loop
-returns-3 t c =
-    let z = passes _ _ _ _ _ _ _ _ (c .before .before .before .before .before .before .before .before .before .before .before .before .before .before .before .before .before .before .before .before .before .before .before .before .before .before .convert-properties .ensures) (c .before .before .before .before .before .before .before .before .before .before .before .before .before .before .before .before .before .before .p .given .1) in
-    component-checked _ (c .before .before .before .before .before .before .before .before .before .before .before .before .before .before .before .before .before .before .before .before .before .before .before .before .before .before .before .before .before .before .before .before .before .before .before .before .before .before .before .before .before .before .before .pre .1 .0) (c .before .before .before .before .before .before .before .before .before .before .before .before .before .before .before .before .before .before .before .before .before .before .before .before .before .before .before .before .before .before .before .before .before .before .before .before .before .after .ensures) (c .before .before .before .before .before .before .before .before .before .before .before .before .before .before .before .before .before .before .before .before .before .before .before .before .before .before .before .before .before .before .before .before .before .before .before .before .text-at .ensures .behind) (z .behind) _ (c .before .before .before .before .before .before .before .before .before .before .before .before .before .before .before .before .after2 .ensures) (z .faultless) ∙ sym (c .before .before .before .before .before .before .before .before .before .before .before .before .before .before .before .loop .inv .4) ∙ subs-off _ _ _ _ (λ e. c .before .before .before .before .before .before .before .before .before .before .before .before .before .if1 .left (c .before .before .before .before .before .before .before .before .before .before .before .before .before .before .tag .ensures ∙ e)) (refuses _ _ _ _ _ _ _ _ (c .before .before .before .before .before .before .before .before .before .convert-component .ensures) (c .before .s2 .given .1))
 
 pub +convert-component-spec : {M : Type 1} → statement M
 +convert-component-spec = close μ λ t. lts.spec (claims t)
@@ -224,10 +224,10 @@ pub +convert-component-spec : {M : Type 1} → statement M
     (sub-convert-component t)
     (convert-component-requires t)
     (enum-known-s t)
-    (loop-less t)
-    (loop-again t)
-    (enum-known-s-2 t)
+    (enum-told-2 t)
     (same-length-7 t)
     (same-length-8 t)
     (same-length-9 t)
     (returns-3 t)
+    (loop-less t)
+    (loop-again t)
