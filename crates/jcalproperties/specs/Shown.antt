@@ -1,4 +1,4 @@
--- A property as the code writes it: the octets for a line, whether it passes its tests or not.
+-- A property up to its values as the code writes it, and what its writer promises.
 use Prim.Native.Nat.{ℕ}
 use mathlib.Core.Path.{_≡_}
 use mathlib.Core.List.{List, _++_}
@@ -9,13 +9,11 @@ use Rattle.octets.specs.Answers.{Answer, refused, accepted}
 use Rattle.octets.specs.Pen.{Pen, Wrote}
 use Rattle.json.specs.Tree.{obj}
 use Rattle.json.specs.Print.{print, printString}
-use Rattle.types.specs.Table.{Table, find}
+use Rattle.types.specs.Table.{Table}
 use Rattle.content.specs.Line.{Param, Line}
-use Rattle.content.specs.Parameters.{valueType, withoutValue, membersOf}
-use Rattle.values.specs.Sorts.{sortOf}
-use Rattle.values.specs.Shown.{valuesShown}
+use Rattle.content.specs.Parameters.{withoutValue, membersOf}
 use Rattle.converter.specs.Tree.{Property}
-use Rattle.converter.specs.Property.{typeOf, codeOf, readProperty}
+use Rattle.converter.specs.Property.{readProperty}
 use Rattle.converter.specs.Jcal.{propertyJson}
 
 -- the type that VALUE names; none where it is refused
@@ -27,14 +25,6 @@ namedType (accepted type) = type
 unfoldable pub frontText : List ℕ → List Param → List ℕ
 frontText name ps = octets "[" ++ (printString (lower name) ++ (octets "," ++ (print (obj (membersOf (withoutValue ps))) ++ octets ",")))
 
-unfoldable pub propertyShown : Table → Line → List ℕ
-propertyShown t l =
-    frontText (l .name) (l .params)
-    ++ (printString (typeOf (find t (l .name)) (namedType (valueType (l .params))))
-    ++ (valuesShown (sortOf (lower (l .name)) (codeOf (find t (l .name)) (namedType (valueType (l .params))))) (l .value)
-    ++ octets "]"))
-
--- a property that is read is written; and for any line, what `propertyShown` says
+-- a property that is read is written
 pub record WroteProperty (t : Table) (l : Line) (p q : Pen) : Type 0 where
   pub property : (x : Property) → readProperty t l ≡ accepted x → Wrote p (print (propertyJson x)) q
-  pub any : Wrote p (propertyShown t l) q

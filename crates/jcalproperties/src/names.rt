@@ -2,9 +2,11 @@
 ghost use Rattle.octets.specs.Classes.{lower};
 ghost use Rattle.octets.specs.Pen.{pen, Wrote};
 ghost use Rattle.json.specs.Print.{escaped, printString};
+use octets::is_name;
 use octets::lower_octet;
 use octets::put;
 use octets::put_all;
+use octets::put_lower;
 
 // Writes one octet of a string.
 fn put_escaped(out: &mut [u8], at: usize, c: u8) -> usize
@@ -19,8 +21,8 @@ fn put_escaped(out: &mut [u8], at: usize, c: u8) -> usize
     }
 }
 
-// Writes a name in lowercase.
-pub fn put_name(out: &mut [u8], at: usize, name: &[u8]) -> usize
+// Writes a text in lowercase as a string, octet by octet.
+fn put_quoted(out: &mut [u8], at: usize, name: &[u8]) -> usize
     ensures { λ r. ⌜ Wrote (pen (now (out .entry)) at) (printString (lower (now (name .entry)))) (pen (now (out .exit)) r) ⌝ }
 {
     let mut to = put(out, at, b'"');
@@ -30,4 +32,16 @@ pub fn put_name(out: &mut [u8], at: usize, name: &[u8]) -> usize
         i += 1;
     }
     put(out, to, b'"')
+}
+
+// Writes a name in lowercase: none of its octets is escaped.
+pub fn put_name(out: &mut [u8], at: usize, name: &[u8]) -> usize
+    ensures { λ r. ⌜ Wrote (pen (now (out .entry)) at) (printString (lower (now (name .entry)))) (pen (now (out .exit)) r) ⌝ }
+{
+    if is_name(name) {
+        let a = put(out, at, b'"');
+        let b = put_lower(out, a, name);
+        return put(out, b, b'"');
+    }
+    put_quoted(out, at, name)
 }

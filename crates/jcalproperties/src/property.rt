@@ -1,20 +1,22 @@
 // A property of a content line: numbers 7, 8 and 9, and the property as jCal.
 ghost use mathlib.Core.Path.{_≡_};
+ghost use mathlib.Core.List.{[]};
 ghost use mathlib.Core.Option.{none};
 ghost use lib.ListN.{length};
 ghost use Rattle.octets.specs.Classes.{lower};
-ghost use Rattle.octets.specs.Answers.{accepted, then};
+ghost use Rattle.octets.specs.Basics.{pick};
+ghost use Rattle.octets.specs.Answers.{refused, accepted, then};
 ghost use Rattle.octets.specs.Pen.{pen, Wrote};
 ghost use Rattle.json.specs.Print.{printString};
-ghost use Rattle.types.specs.Table.{find};
 ghost use Rattle.types.specs.Laid.{tableIn, rowFound};
 ghost use Rattle.content.specs.Line.{lineOf};
 ghost use Rattle.content.specs.Parts.{paramsIn};
-ghost use Rattle.content.specs.Parameters.{nameTwice, withoutValue};
+ghost use Rattle.content.specs.Parameters.{nameTwice};
 ghost use Rattle.content.specs.Kinds.{kindOf, Bounded};
-ghost use Rattle.converter.specs.Property.{typeOf, codeOf, manyOf, encodingFits, readAs, readProperty};
+ghost use Rattle.values.specs.Read.{valuesOf};
+ghost use Rattle.converter.specs.Property.{typeOf, codeOf, manyOf, encodingFits, readProperty};
 ghost use Rattle.jcalproperties.specs.Passed.{passed, paramsTested};
-ghost use Rattle.jcalproperties.specs.Placed.{Places};
+ghost use Rattle.jcalproperties.specs.Placed.{lineWith, PlacesValues, Places};
 ghost use Rattle.jcalproperties.specs.Shown.{namedType, frontText, WroteProperty};
 use crate::Placed;
 use crate::Tested;
@@ -25,8 +27,7 @@ use content::name_twice;
 use content::parts_of;
 use content::put_params;
 use content::value_type;
-use jcalvalues::holds_values;
-use jcalvalues::put_values;
+use jcalvalues::put_tested;
 use octets::Refusal;
 use octets::put;
 use octets::put_all;
@@ -35,6 +36,7 @@ use types::code_named;
 use types::find;
 use types::put_type_name;
 use values::sort_of;
+use valuetexts::Attempt;
 
 // The code of a name's default type.
 fn default_code(found: Found) -> u8
@@ -79,59 +81,18 @@ fn encoding_fits(code: u8, encoded: bool) -> bool
     }
 }
 
-// Tests 8 and 9, where the type is known.
-fn test_value(name: &[u8], params: &[u8], kind: ValueType, value: &[u8], rows: &[u8]) -> Tested
-    requires { ⌜ Bounded (length (now params)) kind ⌝ }
-    ensures { λ r. ⌜ passed r ≡ then (readAs (find (tableIn (now (rows .entry))) (now (name .entry))) (lower (now (name .entry))) (namedType (kindOf (now (params .entry)) kind)) (withoutValue (paramsIn (now (params .entry)))) (now (value .entry))) (λ _. accepted tt) ⌝ }
-{
-    let found = find(rows, name);
-    let code = code_of(found, params, kind);
-    if !encoding_fits(code, is_encoded(params)) {
-        return Tested::Failed(Refusal::BadEncoding);
-    }
-    if !holds_values(sort_of(name, code), is_many(found), value) {
-        return Tested::Failed(Refusal::BadValue);
-    }
-    Tested::Passed
-}
-
-// Test 7: no parameter name stands twice, and VALUE names a type where it stands.
-fn test_params(params: &[u8], kind: ValueType) -> Tested
-    ensures { λ r. ⌜ passed r ≡ paramsTested (nameTwice (paramsIn (now (params .entry)))) (kindOf (now (params .entry)) kind) ⌝ }
+// Number 7: no parameter name stands twice, and VALUE names a type where it stands.
+fn params_fit(params: &[u8], kind: ValueType) -> bool
+    ensures { λ r. ⌜ pick r (accepted tt) (refused 7) ≡ paramsTested (nameTwice (paramsIn (now (params .entry)))) (kindOf (now (params .entry)) kind) ⌝ }
 {
     if name_twice(params) {
-        return Tested::Failed(Refusal::BadParameter);
+        return false;
     }
     match kind {
-        ValueType::Absent => Tested::Passed,
-        ValueType::Named(_, _) => Tested::Passed,
-        ValueType::Faulty => Tested::Failed(Refusal::BadParameter),
+        ValueType::Absent => true,
+        ValueType::Named(_, _) => true,
+        ValueType::Faulty => false,
     }
-}
-
-// The refusal of the first tests, or else what the second answer.
-fn earlier(first: Tested, second: Tested) -> Tested
-    ensures { λ r. ⌜ passed r ≡ then (passed first) (λ _. passed second) ⌝ }
-{
-    match first {
-        Tested::Passed => second,
-        Tested::Failed(why) => Tested::Failed(why),
-    }
-}
-
-// Tests 7, 8 and 9 of a property, in this order.
-pub fn test_property(line: &[u8], rows: &[u8]) -> Tested
-    ensures { λ r. ⌜ passed r ≡ then (readProperty (tableIn (now (rows .entry))) (lineOf (now (line .entry)))) (λ _. accepted tt) ⌝ }
-{
-    let parts = parts_of(line);
-    let n = parts.name;
-    let colon = parts.colon;
-    let v = parts.value;
-    let params = &line[n..colon];
-    let kind = value_type(params);
-    let named = test_params(params, kind);
-    let valued = test_value(&line[0..n], params, kind, &line[v..], rows);
-    earlier(named, valued)
 }
 
 // Writes a property up to its type.
@@ -171,31 +132,97 @@ fn put_type(found: Found, params: &[u8], kind: ValueType, out: &mut [u8], at: us
     }
 }
 
-// Writes the property of a line.
-pub fn put_property(line: &[u8], rows: &[u8], out: &mut [u8], at: usize) -> usize
-    ensures { λ r. ⌜ WroteProperty (tableIn (now (rows .entry))) (lineOf (now (line .entry))) (pen (now (out .entry)) at) (pen (now (out .exit)) r) ⌝ }
+// Tests the values by 9, writes them, and closes the property.
+fn place_values(
+    found: Found,
+    code: u8,
+    name: &[u8],
+    value: &[u8],
+    out: &mut [u8],
+    at: usize,
+) -> Placed
+    ensures { λ r. ⌜ PlacesValues (valuesOf (lower (now (name .entry))) code (manyOf (rowFound found)) (now (value .entry))) (pen (now (out .entry)) at) (now (out .exit)) r ⌝ }
 {
-    let parts = parts_of(line);
-    let n = parts.name;
-    let colon = parts.colon;
-    let v = parts.value;
-    let name = &line[0..n];
-    let params = &line[n..colon];
+    let sort = sort_of(name, code);
+    let many = is_many(found);
+    match put_tested(out, at, sort, many, value) {
+        Attempt::Wrote(q) => Placed::At(put(out, q, b']')),
+        Attempt::Invalid => Placed::Failed(Refusal::BadValue),
+    }
+}
+
+// Tests a property without parameters by 8 and 9, and writes it.
+fn place_plain(name: &[u8], value: &[u8], rows: &[u8], out: &mut [u8], at: usize) -> Placed
+    ensures { λ r. ⌜ Places (tableIn (now (rows .entry))) (lineWith (now (name .entry)) [] (now (value .entry))) (pen (now (out .entry)) at) (now (out .exit)) r ⌝ }
+{
     let found = find(rows, name);
+    let code = default_code(found);
+    if !encoding_fits(code, false) {
+        return Placed::Failed(Refusal::BadEncoding);
+    }
+    let a = put(out, at, b'[');
+    let b = put_name(out, a, name);
+    let c = put_all(out, b, b",{},");
+    let d = put_default(found, out, c);
+    place_values(found, code, name, value, out, d)
+}
+
+// Tests a property with parameters by 7, 8 and 9, and writes it.
+fn place_given(
+    name: &[u8],
+    params: &[u8],
+    value: &[u8],
+    rows: &[u8],
+    out: &mut [u8],
+    at: usize,
+) -> Placed
+    ensures { λ r. ⌜ Places (tableIn (now (rows .entry))) (lineWith (now (name .entry)) (paramsIn (now (params .entry))) (now (value .entry))) (pen (now (out .entry)) at) (now (out .exit)) r ⌝ }
+{
     let kind = value_type(params);
-    let sort = sort_of(name, code_of(found, params, kind));
+    if !params_fit(params, kind) {
+        return Placed::Failed(Refusal::BadParameter);
+    }
+    let found = find(rows, name);
+    let code = code_of(found, params, kind);
+    if !encoding_fits(code, is_encoded(params)) {
+        return Placed::Failed(Refusal::BadEncoding);
+    }
     let a = put_front(name, params, out, at);
     let b = put_type(found, params, kind, out, a);
-    let c = put_values(out, b, sort, &line[v..]);
-    put(out, c, b']')
+    place_values(found, code, name, value, out, b)
 }
 
 // Tests a property by 7, 8 and 9, and writes it.
 pub fn place_property(line: &[u8], rows: &[u8], out: &mut [u8], at: usize) -> Placed
     ensures { λ r. ⌜ Places (tableIn (now (rows .entry))) (lineOf (now (line .entry))) (pen (now (out .entry)) at) (now (out .exit)) r ⌝ }
 {
-    match test_property(line, rows) {
-        Tested::Passed => Placed::At(put_property(line, rows, out, at)),
-        Tested::Failed(why) => Placed::Failed(why),
+    let parts = parts_of(line);
+    let n = parts.name;
+    let colon = parts.colon;
+    let v = parts.value;
+    if n == colon {
+        return place_plain(&line[0..n], &line[v..], rows, out, at);
+    }
+    place_given(&line[0..n], &line[n..colon], &line[v..], rows, out, at)
+}
+
+// Tests a property by 7, 8 and 9 alone: it is written where there is no room.
+pub fn test_property(line: &[u8], rows: &[u8]) -> Tested
+    ensures { λ r. ⌜ passed r ≡ then (readProperty (tableIn (now (rows .entry))) (lineOf (now (line .entry)))) (λ _. accepted tt) ⌝ }
+{
+    let mut none = [0u8; 1];
+    match place_property(line, rows, &mut none, 0) {
+        Placed::At(_) => Tested::Passed,
+        Placed::Failed(why) => Tested::Failed(why),
+    }
+}
+
+// Writes a property that passes its tests.
+pub fn put_property(line: &[u8], rows: &[u8], out: &mut [u8], at: usize) -> usize
+    ensures { λ r. ⌜ WroteProperty (tableIn (now (rows .entry))) (lineOf (now (line .entry))) (pen (now (out .entry)) at) (pen (now (out .exit)) r) ⌝ }
+{
+    match place_property(line, rows, out, at) {
+        Placed::At(q) => q,
+        Placed::Failed(_) => at,
     }
 }

@@ -1,83 +1,56 @@
 -- `jcalproperties::names::put_name` meets its contract.
-use Prim.Native.Nat.{_-_}
-use mathlib.Core.Path.{_≡_}
-use native.Mathlib.Omega.{arith}
+use mathlib.Core.Path.{sym, _∙_}
 use borrow.Author.Needs.{needs}
-use lib.ListN.{length, drop}
-use Rattle.octets.proofs.Pen.{Leads, leads-on, leads-last, then}
-use Rattle.octets.specs.Classes.{lower}
-use Rattle.octets.specs.Pen.{pen}
-use Rattle.json.specs.Print.{quoted, printString}
-use Rattle.jcalproperties.proofs.Strings.{name-on, name-none}
+use Rattle.octets.proofs.Pen.{then, as-text}
+use Rattle.jcalproperties.proofs.Typing.{name-string}
 use Rattle.jcalproperties.proofs.names.put_name.Statement.{statement}
 use Rattle.jcalproperties.proofs.names.put_name.Tie as tie
 
-abbrev Inv-loop : tie.InvT-loop
-Inv-loop out₀ at name to₀ i₀ out to i = (length out ≡ length out₀) × Leads (pen out₀ to₀) (quoted (lower name)) (pen out to) (quoted (lower (drop i name)))
+is-name-requires : tie.Need-is-name-requires
+is-name-requires c κs = search needs
 
-abbrev μ-loop : tie.MeasureT-loop
-μ-loop out₀ at name to₀ i₀ out to i = length name - i
-
-put-requires : tie.Need-put-requires Inv-loop μ-loop
+put-requires : tie.Need-put-requires
 put-requires c κs = search needs
 
-loop-holds : tie.Need-loop-holds Inv-loop μ-loop
-loop-holds c = search needs
+put-lower-requires : tie.Need-put-lower-requires
+put-lower-requires c κs = search needs
 
-shared-slice-read-lower-octet : tie.Need-shared-slice-read-lower-octet Inv-loop μ-loop
-shared-slice-read-lower-octet c = search needs
-
-lower-octet-requires : tie.Need-lower-octet-requires Inv-loop μ-loop
-lower-octet-requires c κs = search needs
-
-put-escaped-requires : tie.Need-put-escaped-requires Inv-loop μ-loop
-put-escaped-requires c κs = search needs
-
-add-i : tie.Need-add-i Inv-loop μ-loop
-add-i c = search needs
-
-loop-less : tie.Need-loop-less Inv-loop μ-loop
-loop-less c = search needs
-
-loop-again : tie.Need-loop-again Inv-loop μ-loop
-loop-again c =
-    let at-put-escaped = c .before .before in
-    let at-lower-octet = at-put-escaped .before in
-    let at-loop-test = at-lower-octet .before .before .before in
-    let at-loop = at-loop-test .before in
-    let at-start = at-loop .before .before .before .before .before .before .before in
-    (omega arith, leads-on (at-loop .loop .inv .1) (rw (at-lower-octet .lower-octet .ensures) at (at-put-escaped .put-escaped .ensures)) (name-on (at-start .args .name .now) (at-loop .loop .i) (at-loop-test .loop-test .taken)))
-
-put-requires-2 : tie.Need-put-requires-2 Inv-loop μ-loop
+put-requires-2 : tie.Need-put-requires-2
 put-requires-2 c κs = search needs
 
-same-length : tie.Need-same-length Inv-loop μ-loop
+same-length : tie.Need-same-length
 same-length c = search needs
 
-returns : tie.Need-returns Inv-loop μ-loop
-unfolding printString
+returns : tie.Need-returns
 returns c =
     let at-put2 = c .before .before in
-    let at-loop-test = at-put2 .before .before in
-    let at-loop = at-loop-test .before in
-    let at-put = at-loop .before .before .before in
-    let at-start = at-put .before .before .before .before in
-    then (at-put .put .ensures) (leads-last (at-loop .loop .inv .1) (at-put2 .put2 .ensures) (name-none (at-start .args .name .now) (at-loop .loop .i) (at-loop-test .loop-test .left)))
+    let at-put-lower = at-put2 .before .before .before .before in
+    let at-put = at-put-lower .before .before .before .before in
+    let at-if1 = at-put .before .before in
+    let at-is-name = at-if1 .before in
+    as-text (then (then (at-put .put .ensures) (at-put-lower .put-lower .ensures)) (at-put2 .put2 .ensures)) (name-string _ (sym (at-is-name .is-name .ensures) ∙ at-if1 .if1 .taken))
+
+put-quoted-requires : tie.Need-put-quoted-requires
+put-quoted-requires c κs = search needs
+
+same-length-2 : tie.Need-same-length-2
+same-length-2 c = search needs
+
+returns-2 : tie.Need-returns-2
+returns-2 c =
+    let at-put-quoted = c .before .before in
+    at-put-quoted .put-quoted .ensures
 
 pub put-name-spec : {M : Type 1} → statement M
 put-name-spec =
     tie.close
     (tie.spec
-    Inv-loop
-    μ-loop
+    is-name-requires
     put-requires
-    loop-holds
-    shared-slice-read-lower-octet
-    lower-octet-requires
-    put-escaped-requires
-    add-i
-    loop-less
-    loop-again
+    put-lower-requires
     put-requires-2
     same-length
-    returns)
+    returns
+    put-quoted-requires
+    same-length-2
+    returns-2)

@@ -1,45 +1,108 @@
 -- `jcalproperties::property::place_property` meets its contract.
 use borrow.Author.Needs.{needs}
-use Rattle.jcalproperties.proofs.Typing.{passed-stands, failed-refused}
+use Rattle.jcalproperties.proofs.Typing.{parts-line, no-params}
 use Rattle.jcalproperties.proofs.property.place_property.Statement.{statement}
 use Rattle.jcalproperties.proofs.property.place_property.Tie as tie
 
-test-property-requires : tie.Need-test-property-requires
-test-property-requires c κs = search needs
+parts-of-requires : tie.Need-parts-of-requires
+parts-of-requires c κs = search needs
 
-enum-told : tie.Need-enum-told
-enum-told c = search needs
+sub-place-plain : tie.Need-sub-place-plain
+sub-place-plain c = search needs
 
-put-property-requires : tie.Need-put-property-requires
-put-property-requires c κs = search needs
+part-place-plain-start : tie.Need-part-place-plain-start
+part-place-plain-start c = search needs
 
-enum-known-why : tie.Need-enum-known-why
-enum-known-why c = search needs
+part-place-plain-end : tie.Need-part-place-plain-end
+part-place-plain-end c = search needs
+
+sub-place-plain-2 : tie.Need-sub-place-plain-2
+sub-place-plain-2 c = search needs
+
+part-place-plain-start-2 : tie.Need-part-place-plain-start-2
+part-place-plain-start-2 c = search needs
+
+part-place-plain-end-2 : tie.Need-part-place-plain-end-2
+part-place-plain-end-2 c = search needs
+
+place-plain-requires : tie.Need-place-plain-requires
+place-plain-requires c κs = search needs
 
 same-length : tie.Need-same-length
 same-length c = search needs
 
 returns : tie.Need-returns
 returns c =
-    let at-put-property = c .before .before in
-    let at-enum-told = at-put-property .before .before in
-    let at-test-property = at-enum-told .before .before in
-    passed-stands _ _ (at-test-property .test-property .ensures) (at-enum-told .enum-told .given .1) (at-put-property .put-property .ensures)
+    let at-place-plain = c .before .before in
+    let at-if1 = at-place-plain .before .before .before .before in
+    let at-parts-of = at-if1 .before in
+    let at-start = at-parts-of .before .before .before .before in
+    rw (← parts-line (at-start .args .line .now) (at-parts-of .parts-of .result) (at-parts-of .parts-of .ensures), no-params (at-start .args .line .now) _ _ (at-if1 .if1 .taken)) (at-place-plain .place-plain .ensures)
+
+sub-place-given : tie.Need-sub-place-given
+sub-place-given c = search needs
+
+part-place-given-start : tie.Need-part-place-given-start
+part-place-given-start c = search needs
+
+part-place-given-end : tie.Need-part-place-given-end
+part-place-given-end c = search needs
+
+sub-place-given-2 : tie.Need-sub-place-given-2
+sub-place-given-2 c = search needs
+
+part-place-given-start-2 : tie.Need-part-place-given-start-2
+part-place-given-start-2 c = search needs
+
+part-place-given-end-2 : tie.Need-part-place-given-end-2
+part-place-given-end-2 c = search needs
+
+sub-place-given-3 : tie.Need-sub-place-given-3
+sub-place-given-3 c = search needs
+
+part-place-given-start-3 : tie.Need-part-place-given-start-3
+part-place-given-start-3 c = search needs
+
+part-place-given-end-3 : tie.Need-part-place-given-end-3
+part-place-given-end-3 c = search needs
+
+place-given-requires : tie.Need-place-given-requires
+place-given-requires c κs = search needs
+
+same-length-2 : tie.Need-same-length-2
+same-length-2 c = search needs
 
 returns-2 : tie.Need-returns-2
 returns-2 c =
-    let at-why = c .before in
-    let at-test-property = at-why .before .before in
-    failed-refused _ _ (at-test-property .test-property .ensures) (at-why .why .given .1)
+    let at-place-given = c .before .before in
+    let at-if1 = at-place-given .before .before .before .before .before in
+    let at-parts-of = at-if1 .before in
+    let at-start = at-parts-of .before .before .before .before in
+    rw (← parts-line (at-start .args .line .now) (at-parts-of .parts-of .result) (at-parts-of .parts-of .ensures)) (at-place-given .place-given .ensures)
 
 pub place-property-spec : {M : Type 1} → statement M
 place-property-spec =
     tie.close
     (tie.spec
-    test-property-requires
-    enum-told
-    put-property-requires
-    enum-known-why
+    parts-of-requires
+    sub-place-plain
+    part-place-plain-start
+    part-place-plain-end
+    sub-place-plain-2
+    part-place-plain-start-2
+    part-place-plain-end-2
+    place-plain-requires
     same-length
     returns
+    sub-place-given
+    part-place-given-start
+    part-place-given-end
+    sub-place-given-2
+    part-place-given-start-2
+    part-place-given-end-2
+    sub-place-given-3
+    part-place-given-start-3
+    part-place-given-end-3
+    place-given-requires
+    same-length-2
     returns-2)

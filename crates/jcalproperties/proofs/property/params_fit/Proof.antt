@@ -1,17 +1,14 @@
--- `jcalproperties::property::test_params` meets its contract.
+-- `jcalproperties::property::params_fit` meets its contract.
 use mathlib.Core.Path.{sym, _∙_}
-use Rattle.jcalproperties.specs.Passed.{passed}
 use Rattle.jcalproperties.proofs.Typing.{params-twice, params-absent, params-named, params-faulty}
--- `jcalproperties::property::test_params` meets its contract.
 use borrow.Author.Needs.{needs}
-use Rattle.jcalproperties.proofs.property.test_params.Statement.{statement}
-use Rattle.jcalproperties.proofs.property.test_params.Tie as tie
+use Rattle.jcalproperties.proofs.property.params_fit.Statement.{statement}
+use Rattle.jcalproperties.proofs.property.params_fit.Tie as tie
 
 name-twice-requires : tie.Need-name-twice-requires
 name-twice-requires c κs = search needs
 
 returns : tie.Need-returns
-unfolding passed
 returns c = params-twice _ _ (sym (c .before .name-twice .ensures) ∙ c .if1 .taken)
 
 enum-told : tie.Need-enum-told
@@ -24,28 +21,25 @@ enum-told-3 : tie.Need-enum-told-3
 enum-told-3 c = search needs
 
 returns-2 : tie.Need-returns-2
-unfolding passed
 returns-2 c =
     let at-if1 = c .before .before in
     let at-name-twice = at-if1 .before in
     params-absent _ _ _ (sym (at-name-twice .name-twice .ensures) ∙ at-if1 .if1 .left) (c .enum-told .given .1)
 
 returns-3 : tie.Need-returns-3
-unfolding passed
 returns-3 c =
     let at-if1 = c .before .before in
     let at-name-twice = at-if1 .before in
     params-named _ _ _ (sym (at-name-twice .name-twice .ensures) ∙ at-if1 .if1 .left) _ _ (c .enum-told2 .given .1)
 
 returns-4 : tie.Need-returns-4
-unfolding passed
 returns-4 c =
     let at-if1 = c .before .before in
     let at-name-twice = at-if1 .before in
     params-faulty _ _ _ (sym (at-name-twice .name-twice .ensures) ∙ at-if1 .if1 .left) (c .enum-told3 .given .1)
 
-pub test-params-spec : {M : Type 1} → statement M
-test-params-spec =
+pub params-fit-spec : {M : Type 1} → statement M
+params-fit-spec =
     tie.close
     (tie.spec
     name-twice-requires

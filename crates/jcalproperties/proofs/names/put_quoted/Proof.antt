@@ -1,0 +1,83 @@
+-- `jcalproperties::names::put_quoted` meets its contract.
+use Prim.Native.Nat.{_-_}
+use mathlib.Core.Path.{_≡_}
+use native.Mathlib.Omega.{arith}
+use borrow.Author.Needs.{needs}
+use lib.ListN.{length, drop}
+use Rattle.octets.proofs.Pen.{Leads, leads-on, leads-last, then}
+use Rattle.octets.specs.Classes.{lower}
+use Rattle.octets.specs.Pen.{pen}
+use Rattle.json.specs.Print.{quoted, printString}
+use Rattle.jcalproperties.proofs.Strings.{name-on, name-none}
+use Rattle.jcalproperties.proofs.names.put_quoted.Statement.{statement}
+use Rattle.jcalproperties.proofs.names.put_quoted.Tie as tie
+
+abbrev Inv-loop : tie.InvT-loop
+Inv-loop out₀ at name to₀ i₀ out to i = (length out ≡ length out₀) × Leads (pen out₀ to₀) (quoted (lower name)) (pen out to) (quoted (lower (drop i name)))
+
+abbrev μ-loop : tie.MeasureT-loop
+μ-loop out₀ at name to₀ i₀ out to i = length name - i
+
+put-requires : tie.Need-put-requires Inv-loop μ-loop
+put-requires c κs = search needs
+
+loop-holds : tie.Need-loop-holds Inv-loop μ-loop
+loop-holds c = search needs
+
+shared-slice-read-lower-octet : tie.Need-shared-slice-read-lower-octet Inv-loop μ-loop
+shared-slice-read-lower-octet c = search needs
+
+lower-octet-requires : tie.Need-lower-octet-requires Inv-loop μ-loop
+lower-octet-requires c κs = search needs
+
+put-escaped-requires : tie.Need-put-escaped-requires Inv-loop μ-loop
+put-escaped-requires c κs = search needs
+
+add-i : tie.Need-add-i Inv-loop μ-loop
+add-i c = search needs
+
+loop-less : tie.Need-loop-less Inv-loop μ-loop
+loop-less c = search needs
+
+loop-again : tie.Need-loop-again Inv-loop μ-loop
+loop-again c =
+    let at-put-escaped = c .before .before in
+    let at-lower-octet = at-put-escaped .before in
+    let at-loop-test = at-lower-octet .before .before .before in
+    let at-loop = at-loop-test .before in
+    let at-start = at-loop .before .before .before .before .before .before .before in
+    (omega arith, leads-on (at-loop .loop .inv .1) (rw (at-lower-octet .lower-octet .ensures) at (at-put-escaped .put-escaped .ensures)) (name-on (at-start .args .name .now) (at-loop .loop .i) (at-loop-test .loop-test .taken)))
+
+put-requires-2 : tie.Need-put-requires-2 Inv-loop μ-loop
+put-requires-2 c κs = search needs
+
+same-length : tie.Need-same-length Inv-loop μ-loop
+same-length c = search needs
+
+returns : tie.Need-returns Inv-loop μ-loop
+unfolding printString
+returns c =
+    let at-put2 = c .before .before in
+    let at-loop-test = at-put2 .before .before in
+    let at-loop = at-loop-test .before in
+    let at-put = at-loop .before .before .before in
+    let at-start = at-put .before .before .before .before in
+    then (at-put .put .ensures) (leads-last (at-loop .loop .inv .1) (at-put2 .put2 .ensures) (name-none (at-start .args .name .now) (at-loop .loop .i) (at-loop-test .loop-test .left)))
+
+pub put-quoted-spec : {M : Type 1} → statement M
+put-quoted-spec =
+    tie.close
+    (tie.spec
+    Inv-loop
+    μ-loop
+    put-requires
+    loop-holds
+    shared-slice-read-lower-octet
+    lower-octet-requires
+    put-escaped-requires
+    add-i
+    loop-less
+    loop-again
+    put-requires-2
+    same-length
+    returns)
