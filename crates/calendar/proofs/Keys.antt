@@ -1,19 +1,23 @@
 -- The table of keys.
 use Prim.Native.Nat.{ℕ, zero, suc, _+_, _-_, _≤_, _<_}
 use Prim.Native.Char.{code}
-use mathlib.Core.Path.{_≡_, refl, sym, ap}
-use mathlib.Core.List.{List, [], map}
+use mathlib.Core.Path.{_≡_, refl, sym, ap, _∙_}
+use mathlib.Core.Bool.{true, false}
+use mathlib.Core.List.{List, [], _∷_}
+use native.Mathlib.Nat.{zero-add}
 use native.Mathlib.Omega.{arith}
-use borrow.Author.Tests.{lt-ltb, le-ltb}
+use borrow.Author.Tests.{lt-ltb, le-ltb, eq-eqb}
+use lib.Dec.{eqb}
 use lib.ListN.{length, take, drop, List·getD-eq-default}
 use lib.Seq.{take-take}
-use Rattle.octets.specs.Basics.{octets}
-use Rattle.octets.specs.Classes.{between, isLower, upperOctet, upper}
-use Rattle.octets.specs.Pieces.{split, cut, onto}
+use Rattle.octets.specs.Basics.{octets, same}
+use Rattle.octets.specs.Classes.{upper}
+use Rattle.octets.proofs.Cases.{cases, never}
+use Rattle.octets.proofs.Classes.{same-length}
 use Rattle.octets.proofs.Positions.{upto}
 use Rattle.calendar.specs.Recurrence.{frequency, Key, key, keys}
-use Rattle.calendar.specs.Walk.{before, wordsIn, wordPlace, keyPlace, keyAt, partAt, keyed, partIn, firstPart}
-use Rattle.calendar.proofs.Pieces.{before-take}
+use Rattle.calendar.specs.Walk.{before, wordPlace, placeFrom, keyNames, keyPlace, keyAt, partAt, keyed, partIn, firstPart}
+use Rattle.calendar.proofs.Pieces.{before-take, upper-length}
 
 pub key-count : length keys ≡ 14
 unfolding keys
@@ -34,13 +38,29 @@ unfolding keyAt
 other-sort zero a = unfold keys in refl
 other-sort (suc k) a = ap (λ (j : Key). j .sort) (List·getD-eq-default keys (key [] frequency) (rw key-count (away (suc k) 1 13 a (omega arith))))
 
--- the names of the keys, as the code has them
+-- the names of the keys between commas
 abbrev pub keyWords : List ℕ
 keyWords = octets "FREQ,UNTIL,COUNT,INTERVAL,BYSECOND,BYMINUTE,BYHOUR,BYDAY,BYMONTHDAY,BYYEARDAY,BYWEEKNO,BYMONTH,BYSETPOS,WKST"
 
-key-words : wordsIn keyWords ≡ map (λ (k : Key). k .name) keys
-unfolding wordsIn keys split cut onto upper upperOctet isLower between
-key-words = refl
+-- a text is among the words that are as long as it, or nowhere
+other-length : (w n : List ℕ) (k : ℕ) → length n ≡ k → eqb k (length w) ≡ false → same w n ≡ false
+other-length w n k l q = same-length w n (λ e. never (eq-eqb k (length w) (sym l ∙ sym e)) q)
+
+later : (i k : ℕ) → suc i + k ≡ i + suc k
+later i k = omega arith
+
+place-from : (i k : ℕ) (ws : List (List ℕ)) (n : List ℕ) → length n ≡ k → placeFrom i k ws n ≡ i + wordPlace ws n
+unfolding placeFrom wordPlace
+place-from i k [] n l = omega arith
+place-from i k (w ∷ ws) n l = cases (eqb k (length w))
+    (λ q. cases (same w n)
+    (λ e. rw (q, e) (omega arith))
+    (λ e. rw (q, e) (place-from (suc i) k ws n l ∙ later i (wordPlace ws n))))
+    (λ q. rw (q, other-length w n k l q) (place-from (suc i) k ws n l ∙ later i (wordPlace ws n)))
+
+pub place-by : (k : ℕ) (n : List ℕ) → length n ≡ k → placeFrom 0 k keyNames (upper n) ≡ keyPlace (upper n)
+unfolding keyPlace
+place-by k n l = place-from 0 k keyNames (upper n) (upper-length n ∙ l) ∙ zero-add (wordPlace keyNames (upper n))
 
 -- the part that a text begins with: `to` and n are where the scans ended, and k is the name's place
 module _ (s : List ℕ) (to n k : ℕ) (ends : to ≡ length (before (code ";") s)) (named : n ≡ length (before (code "=") (take (to - 0) (drop 0 s)))) where
@@ -50,9 +70,9 @@ module _ (s : List ℕ) (to n k : ℕ) (ends : to ≡ length (before (code ";") 
   name-length : length (before (code "=") (before (code ";") s)) ≡ n
   name-length = rw (whole, ← (upto s to)) (sym named)
 
-  pub first-keyed : n < to → k ≡ wordPlace (wordsIn keyWords) (upper (take (n - 0) (drop 0 s))) → partAt k n (n + 1) to ≡ firstPart s
-  unfolding firstPart partIn keyed keyPlace
-  first-keyed h e = rw (name-length, ← ends, lt-ltb n to h, whole, take-take n to s (omega arith), e, key-words, upto s n)
+  pub first-keyed : n < to → k ≡ keyPlace (upper (take (n - 0) (drop 0 s))) → partAt k n (n + 1) to ≡ firstPart s
+  unfolding firstPart partIn keyed
+  first-keyed h e = rw (name-length, ← ends, lt-ltb n to h, whole, take-take n to s (omega arith), e, upto s n)
 
   pub first-bare : to ≤ n → partAt 14 n n to ≡ firstPart s
   unfolding firstPart partIn keyed

@@ -5,7 +5,7 @@ use Prim.Native.Char.{code}
 use mathlib.Core.List.{List, [], _∷_, _++_, map}
 use lib.Dec.{eqb, ltb}
 use lib.ListN.{length, getD, take, drop}
-use Rattle.octets.specs.Basics.{pick, same}
+use Rattle.octets.specs.Basics.{pick, _and_, same}
 use Rattle.octets.specs.Pieces.{split, joined}
 use Rattle.octets.specs.Classes.{upper}
 use Rattle.octets.specs.Decimal.{integerText}
@@ -28,8 +28,16 @@ unfoldable pub wordPlace : List (List ℕ) → List ℕ → ℕ
 wordPlace [] n = 0
 wordPlace (w ∷ ws) n = pick (same w n) 0 (suc (wordPlace ws n))
 
+-- counted from i, with k the length of the text: words of another length are passed over
+unfoldable pub placeFrom : ℕ → ℕ → List (List ℕ) → List ℕ → ℕ
+placeFrom i k [] n = i
+placeFrom i k (w ∷ ws) n = pick (eqb k (length w) and same w n) i (placeFrom (suc i) k ws n)
+
+abbrev pub keyNames : List (List ℕ)
+keyNames = map (λ (k : Key). k .name) keys
+
 unfoldable pub keyPlace : List ℕ → ℕ
-keyPlace n = wordPlace (map (λ (k : Key). k .name) keys) n
+keyPlace n = wordPlace keyNames n
 
 unfoldable pub keyAt : ℕ → Key
 keyAt i = getD keys i (key [] frequency)

@@ -1,9 +1,10 @@
 // The parts of a recurrence rule by places in its text, and of what sort the values of each are.
 ghost use mathlib.Core.Path.{_≡_};
 ghost use lib.ListN.{length};
-ghost use Rattle.octets.specs.Classes.{upper};
+ghost use Rattle.octets.specs.Basics.{pick};
+ghost use Rattle.octets.specs.Classes.{upper, sameName};
 ghost use Rattle.calendar.specs.Recurrence.{numbers};
-ghost use Rattle.calendar.specs.Walk.{before, wordsIn, wordPlace, keyAt, sortSaid, firstPart};
+ghost use Rattle.calendar.specs.Walk.{before, wordsIn, wordPlace, keyNames, placeFrom, keyPlace, keyAt, sortSaid, firstPart};
 use octets::same_name;
 
 // A part: its key's place among the keys (14: none), the length of its name, where its values begin, and where it ends.
@@ -66,6 +67,50 @@ pub fn word_place(words: &[u8], s: &[u8]) -> usize
     }
 }
 
+// A place where the name is this word, without case, or else another.
+fn chosen(name: &[u8], word: &[u8], place: usize, other: usize) -> usize
+    ensures { λ r. ⌜ r ≡ pick (sameName (now (word .entry)) (now (name .entry))) place other ⌝ }
+{
+    if same_name(word, name) {
+        return place;
+    }
+    other
+}
+
+// The place of a name among the keys (14: none), without case.
+pub fn key_place(name: &[u8]) -> usize
+    ensures { λ r. ⌜ r ≡ keyPlace (upper (now (name .entry))) ⌝ }
+{
+    match name.len() {
+        4 => {
+            let wkst = chosen(name, b"WKST", 13, 14);
+            chosen(name, b"FREQ", 0, wkst)
+        }
+        5 => {
+            let by_day = chosen(name, b"BYDAY", 7, 14);
+            let count = chosen(name, b"COUNT", 2, by_day);
+            chosen(name, b"UNTIL", 1, count)
+        }
+        6 => chosen(name, b"BYHOUR", 6, 14),
+        7 => chosen(name, b"BYMONTH", 11, 14),
+        8 => long_key_place(name),
+        9 => chosen(name, b"BYYEARDAY", 9, 14),
+        10 => chosen(name, b"BYMONTHDAY", 8, 14),
+        _ => 14,
+    }
+}
+
+// The place of a name of eight octets.
+fn long_key_place(name: &[u8]) -> usize
+    ensures { λ r. ⌜ r ≡ placeFrom 0 8 keyNames (upper (now (name .entry))) ⌝ }
+{
+    let by_set = chosen(name, b"BYSETPOS", 12, 14);
+    let by_week = chosen(name, b"BYWEEKNO", 10, by_set);
+    let by_minute = chosen(name, b"BYMINUTE", 5, by_week);
+    let by_second = chosen(name, b"BYSECOND", 4, by_minute);
+    chosen(name, b"INTERVAL", 3, by_second)
+}
+
 // The part that a text begins with.
 pub fn first_part(s: &[u8]) -> PartAt
     ensures { λ r. ⌜ r ≡ firstPart (now (s .entry)) ⌝ }
@@ -73,10 +118,7 @@ pub fn first_part(s: &[u8]) -> PartAt
     let to = find(s, b';');
     let name = find(&s[0..to], b'=');
     if name < to {
-        let key = word_place(
-            b"FREQ,UNTIL,COUNT,INTERVAL,BYSECOND,BYMINUTE,BYHOUR,BYDAY,BYMONTHDAY,BYYEARDAY,BYWEEKNO,BYMONTH,BYSETPOS,WKST",
-            &s[0..name],
-        );
+        let key = key_place(&s[0..name]);
         PartAt {
             key: key,
             name: name,

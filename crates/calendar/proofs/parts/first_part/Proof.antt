@@ -21,26 +21,23 @@ part-find-end c = omega (arith, c .find .ensures, before-le 59 (c .before .befor
 find-requires-2 : tie.Need-find-requires-2
 find-requires-2 c κs = search needs
 
-slice-aggregate-word-place : tie.Need-slice-aggregate-word-place
-slice-aggregate-word-place c = search needs
+sub-key-place : tie.Need-sub-key-place
+sub-key-place c = search needs
 
-sub-word-place : tie.Need-sub-word-place
-sub-word-place c = search needs
+part-key-place-start : tie.Need-part-key-place-start
+part-key-place-start c = search needs
 
-part-word-place-start : tie.Need-part-word-place-start
-part-word-place-start c = search needs
+part-key-place-end : tie.Need-part-key-place-end
+part-key-place-end c = omega (arith, c .before .before .before .find .ensures, before-le 59 (c .before .before .before .before .before .args .s .now))
 
-part-word-place-end : tie.Need-part-word-place-end
-part-word-place-end c = omega (arith, c .before .before .before .before .find .ensures, before-le 59 (c .before .before .before .before .before .before .args .s .now))
+key-place-requires : tie.Need-key-place-requires
+key-place-requires c κs = search needs
 
-word-place-requires : tie.Need-word-place-requires
-word-place-requires c κs = search needs
-
-add-t15 : tie.Need-add-t15
-add-t15 c = omega (arith, c .before .before .before .before .before .before .find .ensures, before-le 59 (c .before .before .before .before .before .before .before .before .args .s .now))
+add-t12 : tie.Need-add-t12
+add-t12 c = omega (arith, c .before .before .before .before .before .find .ensures, before-le 59 (c .before .before .before .before .before .before .before .args .s .now))
 
 returns : tie.Need-returns
-returns c = first-keyed (c .before .before .before .before .before .before .before .before .args .s .now) (c .before .before .before .before .before .before .find .result) (c .before .before .before .before .find2 .result) (c .word-place .result) (c .before .before .before .before .before .before .find .ensures) (c .before .before .before .before .find2 .ensures) (c .before .before .before .if1 .taken) (c .word-place .ensures)
+returns c = first-keyed (c .before .before .before .before .before .before .before .args .s .now) (c .before .before .before .before .before .find .result) (c .before .before .before .find2 .result) (c .key-place .result) (c .before .before .before .before .before .find .ensures) (c .before .before .before .find2 .ensures) (c .before .before .if1 .taken) (c .key-place .ensures)
 
 returns-2 : tie.Need-returns-2
 returns-2 c = first-bare (c .before .before .before .before .before .args .s .now) (c .before .before .before .find .result) (c .before .find2 .result) 14 (c .before .before .before .find .ensures) (c .before .find2 .ensures) (c .if1 .left)
@@ -54,11 +51,10 @@ first-part-spec =
     part-find-start
     part-find-end
     find-requires-2
-    slice-aggregate-word-place
-    sub-word-place
-    part-word-place-start
-    part-word-place-end
-    word-place-requires
-    add-t15
+    sub-key-place
+    part-key-place-start
+    part-key-place-end
+    key-place-requires
+    add-t12
     returns
     returns-2)
