@@ -82,18 +82,14 @@ fn put_properties(buf: &[u8], rows: &[u8], from: usize, out: &mut [u8], at: usiz
                 within -= 1;
                 i = e + 1;
             }
-            Kind::Plain => {
-                if within == 0 {
-                    to = put_item(&buf[i..e], rows, first, out, to);
-                    first = false;
-                    i = e + 1;
-                } else {
-                    i = e + 1;
-                }
-            }
-            Kind::Broken => {
+            Kind::Plain => if within == 0 {
+                to = put_item(&buf[i..e], rows, first, out, to);
+                first = false;
                 i = e + 1;
-            }
+            } else {
+                i = e + 1;
+            },
+            Kind::Broken => i = e + 1,
         }
     }
     let end = put(out, to, b']');
@@ -132,7 +128,7 @@ fn put_component(
     ensures { λ r. ⌜ Walked (now (buf .entry)) (e + 1) (behindEnd 0 (eventsIn (drop (e + 1) (now (buf .entry))))) (pen (now (out .entry)) at) (print (jcalOf (componentAt (readProperty (tableIn (now (rows .entry)))) (nameFrom (now (buf .entry)) name) (eventsIn (drop (e + 1) (now (buf .entry))))))) (now (out .exit)) r ⌝ }
 {
     let p = put_head(buf, rows, name, e, out, at);
-    let next = p.next;
+    let n = p.next;
     let mut to = p.at;
     let mut i = e + 1;
     let mut first = true;
@@ -148,24 +144,14 @@ fn put_component(
             }
             Kind::Closes(_) => {
                 let end = put_all(out, to, b"]]");
-                return Progress {
-                    next: next,
-                    at: end,
-                };
+                return Progress { next: n, at: end };
             }
-            Kind::Plain => {
-                i = f + 1;
-            }
-            Kind::Broken => {
-                i = f + 1;
-            }
+            Kind::Plain => i = f + 1,
+            Kind::Broken => i = f + 1,
         }
     }
     let end = put_all(out, to, b"]]");
-    Progress {
-        next: next,
-        at: end,
-    }
+    Progress { next: n, at: end }
 }
 
 // The place of the outermost component's name in the first line, which ends at e.

@@ -64,26 +64,48 @@ fn convert_text(text: &[u8], rows: &[u8], buf: &mut [u8], out: &mut [u8]) -> Con
     }
 }
 
-// Converts a text with the rows of a file, in buffers that have room for any: tests 1 and 2.
+// Converts a text with the rows of a file, in buffers that have room for both: test 2.
 fn convert(text: &[u8], hex: &[u8], rows: &mut [u8], buf: &mut [u8], out: &mut [u8]) -> Converted
     requires { ⌜ roomForRows ≤ length (now rows) ⌝ }
-    requires { ⌜ mostText < length (now buf) ⌝ }
+    requires { ⌜ length (now text) < length (now buf) ⌝ }
+    requires { ⌜ length (now text) ≤ mostText ⌝ }
     ensures { λ r. ⌜ outcome r (now (out .exit)) ≡ answer (toJcal (now (hex .entry)) (now (text .entry))) (now (out .entry)) ⌝ }
 {
-    if MOST_TEXT < text.len() {
-        return refuse(out, Refusal::TextTooLong);
-    }
     match read_rows(hex, rows) {
         Converted::Written(n) => convert_text(text, &rows[0..n], buf, out),
         Converted::Refused(why) => refuse(out, why),
     }
 }
 
-// Turns an iCalendar text into jCal, by the default types and the rows of a rows.hex.
-pub fn to_jcal(text: &[u8], rows: &[u8], out: &mut [u8]) -> Converted
+// Converts a text of at most 4,096 octets.
+fn convert_short(text: &[u8], rows: &[u8], out: &mut [u8]) -> Converted
+    requires { ⌜ length (now text) ≤ 4096 ⌝ }
+    ensures { λ r. ⌜ outcome r (now (out .exit)) ≡ answer (toJcal (now (rows .entry)) (now (text .entry))) (now (out .entry)) ⌝ }
+{
+    let mut table = [0u8; 2240];
+    let mut buf = [0u8; 4097];
+    convert(text, rows, &mut table, &mut buf, out)
+}
+
+// Converts a text of any length that is allowed.
+fn convert_long(text: &[u8], rows: &[u8], out: &mut [u8]) -> Converted
+    requires { ⌜ length (now text) ≤ mostText ⌝ }
     ensures { λ r. ⌜ outcome r (now (out .exit)) ≡ answer (toJcal (now (rows .entry)) (now (text .entry))) (now (out .entry)) ⌝ }
 {
     let mut table = [0u8; 2240];
     let mut buf = [0u8; 65537];
     convert(text, rows, &mut table, &mut buf, out)
+}
+
+// Turns an iCalendar text into jCal, by the default types and the rows of a rows.hex: test 1, and a buffer to match.
+pub fn to_jcal(text: &[u8], rows: &[u8], out: &mut [u8]) -> Converted
+    ensures { λ r. ⌜ outcome r (now (out .exit)) ≡ answer (toJcal (now (rows .entry)) (now (text .entry))) (now (out .entry)) ⌝ }
+{
+    if MOST_TEXT < text.len() {
+        return refuse(out, Refusal::TextTooLong);
+    }
+    if text.len() <= 4096 {
+        return convert_short(text, rows, out);
+    }
+    convert_long(text, rows, out)
 }

@@ -1,35 +1,59 @@
 -- `jcal::conversion::to_jcal` meets its contract.
+use Prim.Native.Nat.{ℕ}
+use mathlib.Core.List.{List}
+use mathlib.Core.Path.{ap, _∙_}
 use native.Mathlib.Omega.{arith}
-use Rattle.octets.proofs.Limits.{most-text}
-use Rattle.types.proofs.Reading.{room-is}
--- `jcal::conversion::to_jcal` meets its contract.
 use borrow.Author.Needs.{needs}
+use Rattle.octets.specs.Answers.{Answer, answer}
+use Rattle.octets.proofs.Limits.{most-text}
+use Rattle.jcal.proofs.Stages.{text-long}
 use Rattle.jcal.proofs.conversion.to_jcal.Statement.{statement}
 use Rattle.jcal.proofs.conversion.to_jcal.Tie as tie
 
-slice-aggregate-convert : tie.Need-slice-aggregate-convert
-slice-aggregate-convert c = search needs
-
-slice-aggregate-convert-2 : tie.Need-slice-aggregate-convert-2
-slice-aggregate-convert-2 c = search needs
-
-convert-requires : tie.Need-convert-requires
-convert-requires c κs = (omega (arith, room-is), omega (arith, most-text))
+refuse-requires : tie.Need-refuse-requires
+refuse-requires c κs = search needs
 
 same-length : tie.Need-same-length
 same-length c = search needs
 
 returns : tie.Need-returns
 returns c =
-    let at-convert = c .before .before .before .before in
-    at-convert .convert .ensures
+    let at-refuse = c .before .before in
+    let at-if1 = at-refuse .before .before in
+    let at-start = at-if1 .before .before .before .before in
+    at-refuse .refuse .ensures ∙ ap (λ (a : Answer (List ℕ)). answer a (at-start .args .out .now)) (text-long _ _ (omega (arith, most-text, at-if1 .if1 .taken)))
+
+convert-short-requires : tie.Need-convert-short-requires
+convert-short-requires c κs = search needs
+
+same-length-2 : tie.Need-same-length-2
+same-length-2 c = search needs
+
+returns-2 : tie.Need-returns-2
+returns-2 c = c .before .before .convert-short .ensures
+
+convert-long-requires : tie.Need-convert-long-requires
+convert-long-requires c κs =
+    let at-if2 = c .before in
+    let at-if1 = at-if2 .before in
+    omega (arith, most-text, at-if1 .if1 .left)
+
+same-length-3 : tie.Need-same-length-3
+same-length-3 c = search needs
+
+returns-3 : tie.Need-returns-3
+returns-3 c = c .before .before .convert-long .ensures
 
 pub to-jcal-spec : {M : Type 1} → statement M
 to-jcal-spec =
     tie.close
     (tie.spec
-    slice-aggregate-convert
-    slice-aggregate-convert-2
-    convert-requires
+    refuse-requires
     same-length
-    returns)
+    returns
+    convert-short-requires
+    same-length-2
+    returns-2
+    convert-long-requires
+    same-length-3
+    returns-3)
