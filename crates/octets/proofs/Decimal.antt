@@ -13,7 +13,7 @@ use lib.ListN.{length, getD, take, drop, length-append}
 use Rattle.octets.specs.Basics.{pick, _and_, all, filled}
 use Rattle.octets.specs.Classes.{between, isDigit}
 use Rattle.octets.specs.Decimal.{digits, valueFrom, valueOf, figures, isSign, hasSign, minus, unsigned, trim, minusIf, decimal, integerText}
-use Rattle.octets.proofs.Cases.{cases, never, both, and-true, and-false-right, or-false, apart, all-append}
+use Rattle.octets.proofs.Cases.{cases, same?, never, both, and-true, and-false-right, or-false, apart, all-append}
 use Rattle.octets.proofs.Positions.{here, ended, first-of, from}
 use Rattle.octets.proofs.Classes.{between-true, within-between}
 
@@ -262,6 +262,18 @@ module _ (p : ℕ → Bool) where
 pub trim-digits : (s : List ℕ) → digits s ≡ true → digits (trim s) ≡ true
 trim-digits s h = all-digits (trim s) (trim-first s (digits-first s h)) (all-trim isDigit s (digits-all s h))
 
+-- a digit more behind a number that is not 0
+pub trim-more : (s : List ℕ) (d : ℕ) → all isDigit s ≡ true → 0 < valueOf s → trim (s ++ d ∷ []) ≡ trim s ++ d ∷ []
+unfolding trim valueOf valueFrom all
+trim-more [] d h k = absurd (omega arith)
+trim-more (c ∷ []) d h k = rw (ne-eqb c (code "0") (λ e. omega arith))
+trim-more (c ∷ x ∷ s) d h k =
+    let b = both (isDigit c) (all isDigit (x ∷ s)) h .1 in
+    same? c (code "0")
+    (λ e. let z : (0 * 10 + (c - code "0")) * 10 + (x - code "0") ≡ 0 * 10 + (x - code "0") = omega arith in
+    rw (e, both (isDigit x) (all isDigit s) b .0) (trim-more (x ∷ s) d b (rw (← z) k)))
+    (λ n. rw n)
+
 -- an integer's text: its sign, its digits and its value
 module _ (s : List ℕ) (h : DigitFirst (unsigned s)) where
   pub integer-minus : minus (integerText s) ≡ (minus s and not (eqb (valueOf (unsigned s)) 0))
@@ -303,3 +315,34 @@ decimal-digits n = trim-digits (figures 20 n) (all-digits (figures 20 n) (figure
 pub decimal-trimmed : (n : ℕ) → trim (decimal n) ≡ decimal n
 unfolding decimal
 decimal-trimmed n = trim-twice (figures 20 n)
+
+-- a width more than the number has
+trim-wide : (w n : ℕ) → n < 10 ^ suc w → trim (figures (suc (suc w)) n) ≡ trim (figures (suc w) n)
+unfolding trim
+trim-wide w n h =
+    let e : 0 * 10 ^ suc w + n ≡ n = omega arith in
+    let z : n / 10 ^ suc w ≡ 0 = ap (λ (m : ℕ). m / 10 ^ suc w) (sym e) ∙ digits-div 0 h in
+    rw (figures-front (suc w) n, z, figures-first w n)
+
+one-digit : (w n : ℕ) → n < 10 → n < 10 ^ suc w
+one-digit zero n h = h
+one-digit (suc w) n h = omega (arith, pow-suc 10 (suc w), one-digit w n h)
+
+trim-narrow : (w n : ℕ) → n < 10 → trim (figures (suc w) n) ≡ (48 + n) ∷ []
+unfolding figures trim
+trim-narrow zero n h = let m : n % 10 ≡ n = omega arith in rw (m, no-digit, and-false-right (eqb (code "0" + n) (code "0")))
+trim-narrow (suc w) n h = trim-wide w n (one-digit w n h) ∙ trim-narrow w n h
+
+-- n in decimal as it is written: its one digit, or those in front and the last
+pub decimal-one : (n : ℕ) → n < 10 → decimal n ≡ (48 + n) ∷ []
+unfolding decimal
+decimal-one n h = trim-narrow 19 n h
+
+pub decimal-last : (n : ℕ) → 10 ≤ n → n < 10 ^ 20 → decimal n ≡ decimal (n / 10) ++ (48 + n % 10) ∷ []
+unfolding decimal
+decimal-last n h k =
+    let f : n / 10 < 10 ^ 19 = omega arith in
+    let v : 0 < valueOf (figures 19 (n / 10)) = rw (figures-value 19 (n / 10) f) (omega arith) in
+    ap trim (figures-last 20 n (λ e. omega arith))
+    ∙ trim-more (figures 19 (n / 10)) (48 + n % 10) (figures-digits 19 (n / 10)) v
+    ∙ ap (λ (s : List ℕ). s ++ (48 + n % 10) ∷ []) (sym (trim-wide 18 (n / 10) f))

@@ -64,14 +64,15 @@ pub fn leading_zeros(s: &[u8]) -> usize
     i
 }
 
-// Writes n in decimal.
+// Writes n in decimal: the number without its last digit, if there is more than one, and then that digit.
 pub fn put_decimal(out: &mut [u8], at: usize, n: u64) -> usize
     ensures { λ r. ⌜ Wrote (pen (now (out .entry)) at) (decimal n) (pen (now (out .exit)) r) ⌝ }
 {
-    let mut text = [0u8; 20];
-    put_figures(&mut text, 0, 20, n);
-    let zeros = leading_zeros(&text);
-    put_all(out, at, &text[zeros..20])
+    if n < 10 {
+        return put(out, at, b'0' + n as u8);
+    }
+    let to = put_decimal(out, at, n / 10);
+    put(out, to, b'0' + (n % 10) as u8)
 }
 
 // A plus or a minus.
