@@ -96,8 +96,8 @@ const NAMES: [u8; 180] = *b"\x00...........\
     \x03uri........\
     \x0autc-offset.";
 
-// Writes the name of a code; nothing where it has none.
-pub fn put_type_name(out: &mut [u8], at: usize, code: u8) -> usize
+// Writes the name of a code from its slot; nothing where it has none.
+fn put_slot_name(out: &mut [u8], at: usize, code: u8) -> usize
     ensures { λ r. ⌜ Wrote (pen (now (out .entry)) at) (typeName code) (pen (now (out .exit)) r) ⌝ }
 {
     if 14 < code {
@@ -107,4 +107,15 @@ pub fn put_type_name(out: &mut [u8], at: usize, code: u8) -> usize
     let from = 12 * (code as usize) + 1;
     let end = from + (names[from - 1] as usize);
     put_all(out, at, &names[from..end])
+}
+
+// Writes the name of a code; nothing where it has none. The commonest types go without the slots, which are laid out at each call.
+pub fn put_type_name(out: &mut [u8], at: usize, code: u8) -> usize
+    ensures { λ r. ⌜ Wrote (pen (now (out .entry)) at) (typeName code) (pen (now (out .exit)) r) ⌝ }
+{
+    match code {
+        5 => put_all(out, at, b"date-time"),
+        11 => put_all(out, at, b"text"),
+        _ => put_slot_name(out, at, code),
+    }
 }
