@@ -1,7 +1,7 @@
 -- Room is there if the lent memory is as long as the tape.
 use Prim.Native.Nat.{ℕ, _≤_, _<_}
 use mathlib.Core.Path.{_≡_}
-use mathlib.Core.Bool.{true, false}
+use mathlib.Core.Bool.{Bool, true, false}
 use mathlib.Core.List.{List, []}
 use borrow.Author.Tests.{le-leb, lt-leb}
 use lib.ListN.{length}
@@ -27,3 +27,14 @@ module _ (t s r xs : List ℕ) where
 
   pub both-rooms : length t ≤ length s → length t ≤ length r → xs ≡ pick (hasRoom t s and hasRoom t r) xs []
   both-rooms h k = rw (room t s h, room t r k)
+
+-- what is told where two of them are asked for
+module _ (t s r : List ℕ) (b : Bool) where
+  pub first-short : length s < length t → ((hasRoom t s and hasRoom t r) and b) ≡ false
+  first-short h = rw (no-room t s h)
+
+  pub second-short : length r < length t → ((hasRoom t s and hasRoom t r) and b) ≡ false
+  second-short h = rw (no-room t r h, and-false-right (hasRoom t s))
+
+  pub both-there : length t ≤ length s → length t ≤ length r → ((hasRoom t s and hasRoom t r) and b) ≡ b
+  both-there h k = rw (room t s h, room t r k)

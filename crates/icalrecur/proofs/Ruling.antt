@@ -42,6 +42,10 @@ module _ (t : List ℕ) (at : ℕ) where
   untested text h = rw (no-room t text h)
 
   module _ (n : (tagAt t at ≡ tagObject) → ⊥) where
+    pub no-object-rule : valueIs recur (valueAt t at) ≡ false
+    unfolding valueIs holds
+    no-object-rule = rw (no-object t at n)
+
     pub no-rule : (text : List ℕ) → false ≡ (hasRoom t text and valueIs recur (valueAt t at))
     unfolding valueIs holds
     no-rule text = rw (no-object t at n) (sym (and-false-right (hasRoom t text)))
@@ -64,6 +68,10 @@ module _ {t : List ℕ} {at i : ℕ} (o : tagAt t at ≡ tagObject) (x : After t
   unfolding recurIs
   other-kinds text k = rw (is-rule, k) (sym (and-false-right (hasRoom t text)))
 
+  pub other-members : kindsAre (membersAt t i) ≡ false → valueIs recur (valueAt t at) ≡ false
+  unfolding recurIs
+  other-members k = rw (is-rule, k)
+
   -- its text is laid into lent memory
   module _ {text later : List ℕ} {n : ℕ} (h : length t ≤ length text) (w : Wrote (pen text 0) (objectText (membersAt t i)) (pen later n)) where
     land : Landed text (objectText (membersAt t i)) later n
@@ -82,6 +90,10 @@ module _ {t : List ℕ} {at i : ℕ} (o : tagAt t at ≡ tagObject) (x : After t
     pub tested : kindsAre (membersAt t i) ≡ true → isSome (partsOf (upper (take (n - 0) (drop 0 later)))) ≡ (hasRoom t text and valueIs recur (valueAt t at))
     unfolding recurIs
     tested k = rw (room t text h, is-rule, k, parts)
+
+    pub rule-stands : kindsAre (membersAt t i) ≡ true → valueIs recur (valueAt t at) ≡ isSome (partsOf (upper (take (n - 0) (drop 0 later))))
+    unfolding recurIs
+    rule-stands k = rw (is-rule, k, parts)
 
     -- it is no rule
     pub no-parts : (rule : List ℕ) → isSome (partsOf (upper (take (n - 0) (drop 0 later)))) ≡ false → [] ≡ pick (hasRoom t text and hasRoom t rule) (valueText recur (valueAt t at)) []
@@ -106,3 +118,6 @@ module _ {t : List ℕ} {at i : ℕ} (o : tagAt t at ≡ tagObject) (x : After t
 
       pub rule-text : take (m - 0) (drop 0 after) ≡ pick (hasRoom t text and hasRoom t rule) (valueText recur (valueAt t at)) []
       rule-text = upto after m ∙ shown .front ∙ sym (rw (room t text h, room t rule k) normal)
+
+      pub normal-text : take (m - 0) (drop 0 after) ≡ valueText recur (valueAt t at)
+      normal-text = upto after m ∙ shown .front ∙ sym normal

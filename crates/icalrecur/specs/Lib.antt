@@ -1,3 +1,4 @@
 pub mod Kinds
 pub mod Wording
 pub mod Room
+pub mod Ruled

@@ -3,5 +3,13 @@ mod kinds;
 mod rules;
 mod wording;
 
+use content::Folder;
 pub use rules::is_recur;
 pub use rules::write_recur;
+pub use rules::write_rule;
+
+// A rule written, and where the pen stands; or the value is none.
+pub enum Ruled {
+    Wrote(Folder),
+    NoRule,
+}

@@ -7,6 +7,8 @@ ghost use Rattle.tape.specs.Decode.{valueAt};
 ghost use Rattle.values.specs.Sorts.{recur};
 ghost use Rattle.values.specs.Write.{valueIs, valueText};
 ghost use Rattle.icalrecur.specs.Room.{hasRoom};
+ghost use Rattle.icalrecur.specs.Ruled.{RuledAs};
+use crate::Ruled;
 use crate::kinds::members_are;
 use crate::wording::put_members;
 use calendar::rules::is_rule;
@@ -65,4 +67,38 @@ pub fn write_recur(
     }
     let m = put_rule(rule, 0, &text[0..n]);
     fold_all(out, p, &rule[0..m])
+}
+
+// Writes the value at `at`, if it is a recurrence rule. Its text is laid into `text` and its normal form into `rule`, both as long as the tape;
+// what is left there is the code's choice.
+pub fn write_rule(
+    out: &mut [u8],
+    p: Folder,
+    t: &[u8],
+    at: usize,
+    text: &mut [u8],
+    rule: &mut [u8],
+) -> Ruled
+    ensures { λ r. ⌜ RuledAs (hasRoom (now (t .entry)) (now (text .entry)) and hasRoom (now (t .entry)) (now (rule .entry)))
+        (now (t .entry)) at (folding (now (out .entry)) p) (now (out .exit)) r ⌝ }
+{
+    if text.len() < t.len() {
+        return Ruled::NoRule;
+    }
+    if rule.len() < t.len() {
+        return Ruled::NoRule;
+    }
+    if tag(t, at) != OBJECT {
+        return Ruled::NoRule;
+    }
+    let i = after(t, at);
+    if !members_are(t, i) {
+        return Ruled::NoRule;
+    }
+    let n = put_members(text, 0, t, i);
+    if !is_rule(&text[0..n]) {
+        return Ruled::NoRule;
+    }
+    let m = put_rule(rule, 0, &text[0..n]);
+    Ruled::Wrote(fold_all(out, p, &rule[0..m]))
 }

@@ -1,10 +1,9 @@
 -- The values of a group, tested and written one after another: several only where the name may have many and the sort splits.
-use Prim.Native.Nat.{ℕ, _≤_, _<_}
+use Prim.Native.Nat.{ℕ}
 use mathlib.Core.Path.{_≡_, sym, _∙_}
 use mathlib.Core.Bool.{Bool, true, false}
 use mathlib.Core.List.{List}
 use native.Mathlib.Omega.{arith}
-use lib.ListN.{length}
 use Rattle.octets.specs.Basics.{_and_, _or_, all, filled, single}
 use Rattle.octets.proofs.Cases.{and-false-right, and-true-right, or-false-right, or-true-right}
 use Rattle.json.specs.Tape.{tagEnd}
@@ -15,8 +14,6 @@ use Rattle.tape.proofs.Values.{list-end, list-first, list-next}
 use Rattle.tape.proofs.Walks.{Along, along-start}
 use Rattle.values.specs.Sorts.{Sort, splits}
 use Rattle.values.specs.Write.{valueIs, valuesAre}
-use Rattle.icalrecur.specs.Room.{hasRoom}
-use Rattle.icalrecur.proofs.Room.{room, no-room}
 use Rattle.icalvalues.proofs.Listed.{listed-stop, listed-on}
 
 -- the places
@@ -50,14 +47,3 @@ module _ (many : Bool) (s : Sort) (t : List ℕ) (i : ℕ) where
       pub values-on : (many and splits s) ≡ true → valueIs s (valueAt t i) ≡ true → valuesAre many s (listAt t i) ≡ valuesAre many s (listAt t e)
       unfolding valuesAre
       values-on f h = rw (f, listed-on (valueIs s) t i n x h)
-
--- the room for a recurrence rule
-module _ (t text rule : List ℕ) (b : Bool) where
-  pub no-text : length text < length t → ((hasRoom t text and hasRoom t rule) and b) ≡ false
-  no-text h = rw (no-room t text h)
-
-  pub no-rule : length rule < length t → ((hasRoom t text and hasRoom t rule) and b) ≡ false
-  no-rule h = rw (no-room t rule h, and-false-right (hasRoom t text))
-
-  pub both-there : length t ≤ length text → length t ≤ length rule → ((hasRoom t text and hasRoom t rule) and b) ≡ b
-  both-there h k = rw (room t text h, room t rule k)

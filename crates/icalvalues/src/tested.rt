@@ -6,8 +6,8 @@ ghost use lib.ListN.{length};
 ghost use Rattle.octets.specs.Basics.{_and_};
 ghost use Rattle.content.specs.Folding.{folding};
 ghost use Rattle.tape.specs.Decode.{tagAt};
-ghost use Rattle.json.specs.Tape.{tagNumber, tagString, tagEnd};
-ghost use Rattle.values.specs.Sorts.{splits};
+ghost use Rattle.json.specs.Tape.{tagNumber, tagString, tagObject, tagEnd};
+ghost use Rattle.values.specs.Sorts.{recur, splits};
 ghost use Rattle.values.specs.Coded.{sortSaid};
 ghost use Rattle.icalrecur.specs.Room.{hasRoom};
 ghost use Rattle.icalvalues.specs.Valued.{ValueAs, ValuedAs};
@@ -19,8 +19,11 @@ use crate::testing::value_at;
 use crate::writing::write_value;
 use content::Folder;
 use content::fold_octet;
+use icalrecur::Ruled;
+use icalrecur::write_rule;
 use tape::END;
 use tape::NUMBER;
+use tape::OBJECT;
 use tape::STRING;
 use tape::after;
 use tape::behind;
@@ -55,6 +58,60 @@ fn number_at(out: &mut [u8], p: Folder, t: &[u8], at: usize, sort: Sort) -> Valu
     match f {
         Folds::To(q) => Valued::Wrote(s.next, q),
         Folds::Refused => Valued::Invalid,
+    }
+}
+
+// The recurrence rule at `at`.
+fn rule_at(
+    out: &mut [u8],
+    p: Folder,
+    t: &[u8],
+    at: usize,
+    text: &mut [u8],
+    rule: &mut [u8],
+) -> Valued
+    requires { ⌜ (length (now t) ≤ length (now text)) × (length (now t) ≤ length (now rule)) ⌝ }
+    ensures { λ r. ⌜ ValueAs recur (now (t .entry)) at (folding (now (out .entry)) p) (now (out .exit)) r ⌝ }
+{
+    let w = write_rule(out, p, t, at, text, rule);
+    match w {
+        Ruled::Wrote(q) => {
+            let e = behind(t, at);
+            Valued::Wrote(e, q)
+        }
+        Ruled::NoRule => Valued::Invalid,
+    }
+}
+
+// The object at `at`: no other sort takes one.
+fn object_at(
+    out: &mut [u8],
+    p: Folder,
+    t: &[u8],
+    at: usize,
+    sort: Sort,
+    text: &mut [u8],
+    rule: &mut [u8],
+) -> Valued
+    requires { ⌜ (tagAt (now t) at ≡ tagObject) × (length (now t) ≤ length (now text)) × (length (now t) ≤ length (now rule)) ⌝ }
+    ensures { λ r. ⌜ ValueAs (sortSaid sort) (now (t .entry)) at (folding (now (out .entry)) p) (now (out .exit)) r ⌝ }
+{
+    match sort {
+        Sort::Plain => Valued::Invalid,
+        Sort::Binary => Valued::Invalid,
+        Sort::Boolean => Valued::Invalid,
+        Sort::Date => Valued::Invalid,
+        Sort::DateTime => Valued::Invalid,
+        Sort::Duration => Valued::Invalid,
+        Sort::Float => Valued::Invalid,
+        Sort::Geo => Valued::Invalid,
+        Sort::Integer => Valued::Invalid,
+        Sort::Period => Valued::Invalid,
+        Sort::Recur => rule_at(out, p, t, at, text, rule),
+        Sort::Text => Valued::Invalid,
+        Sort::Status => Valued::Invalid,
+        Sort::Time => Valued::Invalid,
+        Sort::UtcOffset => Valued::Invalid,
     }
 }
 
@@ -96,6 +153,7 @@ fn write_one(
     match b {
         STRING => string_at(out, p, t, at, sort),
         NUMBER => number_at(out, p, t, at, sort),
+        OBJECT => object_at(out, p, t, at, sort, text, rule),
         _ => other_at(out, p, t, at, sort, text, rule),
     }
 }

@@ -10,6 +10,9 @@ string-at-requires c κs = sym (c .before .before .tag .ensures) ∙ c .before .
 number-at-requires : tie.Need-number-at-requires
 number-at-requires c κs = sym (c .before .before .tag .ensures) ∙ c .before .match .keys2
 
+object-at-requires : tie.Need-object-at-requires
+object-at-requires c κs = (sym (c .before .before .before .before .tag .ensures) ∙ c .before .before .before .match .keys3, c .before .before .before .before .before .before .before .before .before .pre .0, c .before .before .before .before .before .before .before .before .before .pre .1)
+
 returns : tie.Need-returns
 returns c = c .before .before .string-at .ensures
 
@@ -17,7 +20,10 @@ returns-2 : tie.Need-returns-2
 returns-2 c = c .before .before .number-at .ensures
 
 returns-3 : tie.Need-returns-3
-returns-3 c = c .before .before .before .before .before .before .other-at .ensures
+returns-3 c = c .before .before .before .before .before .before .object-at .ensures
+
+returns-4 : tie.Need-returns-4
+returns-4 c = c .before .before .before .before .before .before .other-at .ensures
 
 pub write-one-spec : {M : Type 1} → statement M
 write-one-spec =
@@ -26,6 +32,7 @@ write-one-spec =
     (λ c κs. search needs)
     string-at-requires
     number-at-requires
+    object-at-requires
     (λ c κs. search needs)
     (λ c. search needs)
     returns
@@ -34,4 +41,8 @@ write-one-spec =
     (λ c. search needs)
     (λ c. search needs)
     (λ c. search needs)
-    returns-3)
+    returns-3
+    (λ c. search needs)
+    (λ c. search needs)
+    (λ c. search needs)
+    returns-4)

@@ -3,18 +3,18 @@ use mathlib.Core.Path.{sym, _∙_}
 use borrow.Author.Needs.{needs}
 use borrow.Author.Tests.{not-true, not-false}
 use Rattle.values.specs.Write.{valuesText}
-use Rattle.icalrecur.proofs.Room.{room}
-use Rattle.icalvalues.proofs.Grouped.{left-here, values-none, no-text, no-rule, both-there}
+use Rattle.icalrecur.proofs.Room.{room, first-short, second-short, both-there}
+use Rattle.icalvalues.proofs.Grouped.{left-here, values-none}
 use Rattle.icalvalues.proofs.Listed.{joined-none}
 use Rattle.content.proofs.Folding.{none, as-folded}
 use Rattle.icalvalues.proofs.tested.write_tested.Tie as tie
 use Rattle.icalvalues.proofs.tested.write_tested.Statement.{statement}
 
 returns : tie.Need-returns
-returns c = no-text _ _ _ _ (c .if1 .taken)
+returns c = first-short _ _ _ _ (c .if1 .taken)
 
 returns-2 : tie.Need-returns-2
-returns-2 c = no-rule _ _ _ _ (c .if2 .taken)
+returns-2 c = second-short _ _ _ _ (c .if2 .taken)
 
 returns-3 : tie.Need-returns-3
 returns-3 c = both-there _ _ _ _ (c .before .before .before .before .before .if1 .left) (c .before .before .before .before .if2 .left) ∙ values-none _ _ _ _ (sym (c .before .before .before .tag .ensures) ∙ c .before .before .if3 .taken) ∙ sym (c .before .may-be-several .ensures) ∙ not-true _ (c .if4 .taken)
