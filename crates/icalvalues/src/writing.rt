@@ -1,8 +1,6 @@
 // How iCalendar writes the values of a sort. Each writer says what it writes for any JSON value.
-ghost use mathlib.Core.List.{[]};
 ghost use Prim.Native.Nat.{_≤_};
 ghost use lib.ListN.{length};
-ghost use Rattle.octets.specs.Basics.{pick, _and_};
 ghost use Rattle.octets.specs.Classes.{upper};
 ghost use Rattle.octets.specs.Decimal.{trim, integerText};
 ghost use Rattle.calendar.specs.Texts.{formText};
@@ -11,9 +9,8 @@ ghost use Rattle.content.specs.Folding.{folding, Folded};
 ghost use Rattle.json.specs.Tree.{octetsOf};
 ghost use Rattle.tape.specs.Decode.{valueAt, listAt};
 ghost use Rattle.values.specs.Sorts.{boolean, geo, period, text, status};
-ghost use Rattle.values.specs.Write.{valueText, valuesText};
+ghost use Rattle.values.specs.Write.{valueText};
 ghost use Rattle.values.specs.Coded.{sortSaid};
-ghost use Rattle.icalrecur.specs.Room.{hasRoom};
 ghost use Rattle.icalvalues.specs.Written.{endsText, statusText, geoText};
 use crate::texts::fold_text;
 use calendar::texts::Form;
@@ -258,56 +255,4 @@ pub(crate) fn write_value(
         Sort::Time => write_form(out, p, t, at, Form::Time),
         Sort::UtcOffset => write_form(out, p, t, at, Form::Offset),
     }
-}
-
-// Writes the values from `at` to the end of their group, with commas between them. There is room in `text` and `rule` for a recurrence rule.
-fn write_all(
-    out: &mut [u8],
-    p: Folder,
-    t: &[u8],
-    at: usize,
-    sort: Sort,
-    text: &mut [u8],
-    rule: &mut [u8],
-) -> Folder
-    requires { ⌜ (length (now t) ≤ length (now text)) × (length (now t) ≤ length (now rule)) ⌝ }
-    ensures { λ r. ⌜ Folded (folding (now (out .entry)) p) (valuesText (sortSaid sort) (listAt (now (t .entry)) at)) (folding (now (out .exit)) r) ⌝ }
-{
-    if tag(t, at) == END {
-        return p;
-    }
-    let mut q = p;
-    let mut i = at;
-    loop {
-        q = write_value(out, q, t, i, sort, text, rule);
-        i = behind(t, i);
-        if tag(t, i) == END {
-            return q;
-        }
-        q = fold_octet(out, q, b',');
-    }
-}
-
-// Writes the values from `at` to the end of their group. `text` and `rule` are as long as the tape, or nothing is written; what is left there is
-// the code's choice.
-pub fn write_values(
-    out: &mut [u8],
-    p: Folder,
-    t: &[u8],
-    at: usize,
-    sort: Sort,
-    text: &mut [u8],
-    rule: &mut [u8],
-) -> Folder
-    ensures { λ r. ⌜ Folded (folding (now (out .entry)) p)
-        (pick (hasRoom (now (t .entry)) (now (text .entry)) and hasRoom (now (t .entry)) (now (rule .entry))) (valuesText (sortSaid sort) (listAt (now (t .entry)) at)) [])
-        (folding (now (out .exit)) r) ⌝ }
-{
-    if text.len() < t.len() {
-        return p;
-    }
-    if rule.len() < t.len() {
-        return p;
-    }
-    write_all(out, p, t, at, sort, text, rule)
 }
