@@ -1,14 +1,13 @@
 // Which JSON values a sort takes.
 ghost use mathlib.Core.Path.{_≡_};
-ghost use Prim.Native.Nat.{_≤_};
-ghost use lib.ListN.{length};
 ghost use Rattle.octets.specs.Basics.{all};
 ghost use Rattle.octets.specs.Classes.{plainOctet};
 ghost use Rattle.octets.specs.Optional.{isSome};
 ghost use Rattle.calendar.specs.Texts.{formIs};
 ghost use Rattle.calendar.specs.Durations.{durationIs, periodEndIs};
 ghost use Rattle.json.specs.Tree.{boolean?};
-ghost use Rattle.tape.specs.Decode.{valueAt, listAt};
+ghost use Rattle.json.specs.Tape.{tagObject};
+ghost use Rattle.tape.specs.Decode.{tagAt, valueAt, listAt};
 ghost use Rattle.values.specs.Sorts.{geo, period, status};
 ghost use Rattle.values.specs.Texts.{textIs};
 ghost use Rattle.values.specs.Simple.{binaryIs, floatOf, integerOf};
@@ -18,7 +17,6 @@ use calendar::durations::is_duration;
 use calendar::durations::is_extended_period_end;
 use calendar::texts::Form;
 use calendar::texts::is_extended;
-use icalrecur::is_recur;
 use octets::all_plain;
 use octets::all_text;
 use tape::ARRAY;
@@ -218,9 +216,9 @@ fn status_at(t: &[u8], at: usize) -> bool
     }
 }
 
-// One value. There is room in `text` for the text of a recurrence rule.
-pub(crate) fn value_at(t: &[u8], at: usize, sort: Sort, text: &mut [u8]) -> bool
-    requires { ⌜ length (now t) ≤ length (now text) ⌝ }
+// One value that is no object.
+pub(crate) fn value_at(t: &[u8], at: usize, sort: Sort) -> bool
+    requires { ⌜ ((tagAt (now t) at ≡ tagObject) → ⊥) ⌝ }
     ensures { λ r. ⌜ r ≡ valueIs (sortSaid sort) (valueAt (now (t .entry)) at) ⌝ }
 {
     match sort {
@@ -234,7 +232,7 @@ pub(crate) fn value_at(t: &[u8], at: usize, sort: Sort, text: &mut [u8]) -> bool
         Sort::Geo => geo_at(t, at),
         Sort::Integer => integer_at(t, at),
         Sort::Period => period_at(t, at),
-        Sort::Recur => is_recur(t, at, text),
+        Sort::Recur => false,
         Sort::Text => text_stands(t, at),
         Sort::Status => status_at(t, at),
         Sort::Time => form_at(t, at, Form::Time),
