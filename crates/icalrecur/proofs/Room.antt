@@ -2,10 +2,10 @@
 use Prim.Native.Nat.{ℕ, _≤_, _<_}
 use mathlib.Core.Path.{_≡_}
 use mathlib.Core.Bool.{Bool, true, false}
-use mathlib.Core.List.{List, []}
+use mathlib.Core.List.{List}
 use borrow.Author.Tests.{le-leb, lt-leb}
 use lib.ListN.{length}
-use Rattle.octets.specs.Basics.{pick, _and_}
+use Rattle.octets.specs.Basics.{_and_}
 use Rattle.octets.proofs.Cases.{and-false-right}
 use Rattle.icalrecur.specs.Room.{hasRoom}
 
@@ -16,17 +16,6 @@ room t s h = le-leb (length t) (length s) h
 pub no-room : (t s : List ℕ) → length s < length t → hasRoom t s ≡ false
 unfolding hasRoom
 no-room t s h = lt-leb (length t) (length s) h
-
--- what is written where two of them are asked for
-module _ (t s r xs : List ℕ) where
-  pub no-first : length s < length t → [] ≡ pick (hasRoom t s and hasRoom t r) xs []
-  no-first h = rw (no-room t s h)
-
-  pub no-second : length r < length t → [] ≡ pick (hasRoom t s and hasRoom t r) xs []
-  no-second h = rw (no-room t r h, and-false-right (hasRoom t s))
-
-  pub both-rooms : length t ≤ length s → length t ≤ length r → xs ≡ pick (hasRoom t s and hasRoom t r) xs []
-  both-rooms h k = rw (room t s h, room t r k)
 
 -- what is told where two of them are asked for
 module _ (t s r : List ℕ) (b : Bool) where

@@ -1,20 +1,17 @@
 -- A recurrence object as a rule: its text in lent memory, what the recurrence reader says of it, and its normal form.
-use Prim.Native.Nat.{ℕ, _-_, _≤_, _<_}
-use mathlib.Core.Path.{_≡_, refl, sym, ap, _∙_}
+use Prim.Native.Nat.{ℕ, _-_, _≤_}
+use mathlib.Core.Path.{_≡_, sym, ap, _∙_}
 use mathlib.Core.Bool.{true, false}
 use mathlib.Core.List.{List, []}
-use mathlib.Core.Option.{Option, none, some}
 use native.Mathlib.Omega.{arith}
 use lib.ListN.{length, take, drop}
-use Rattle.octets.specs.Basics.{pick, _and_}
 use Rattle.octets.specs.Optional.{isSome, holds, given}
 use Rattle.octets.specs.Classes.{upper}
 use Rattle.octets.specs.Pen.{pen, Wrote}
-use Rattle.octets.proofs.Cases.{never, and-false-right, pick-same}
 use Rattle.octets.proofs.Optional.{some-is}
 use Rattle.octets.proofs.Pen.{Landed, landed, kept}
 use Rattle.octets.proofs.Positions.{upto}
-use Rattle.calendar.specs.Recurrence.{Part, partsOf}
+use Rattle.calendar.specs.Recurrence.{partsOf}
 use Rattle.calendar.specs.Walk.{ruleShown}
 use Rattle.calendar.proofs.Showing.{rule-shown}
 use Rattle.json.specs.Tape.{tagObject}
@@ -26,33 +23,18 @@ use Rattle.values.specs.Sorts.{recur}
 use Rattle.values.specs.Recur.{kindsAre, ruleParts, recurIs, recurText}
 use Rattle.values.specs.Write.{valueIs, valueText}
 use Rattle.icalrecur.specs.Wording.{objectText}
-use Rattle.icalrecur.specs.Room.{hasRoom}
-use Rattle.icalrecur.proofs.Room.{room, no-room}
 use Rattle.icalrecur.proofs.Sizing.{object-length}
 use Rattle.icalrecur.proofs.Lengths.{rule-length}
 
-absent : (o : Option (List Part)) → isSome o ≡ false → o ≡ none
-unfolding isSome
-absent none e = refl
-absent (some ps) e = never refl e
+-- where there is no object
+module _ (t : List ℕ) (at : ℕ) (n : (tagAt t at ≡ tagObject) → ⊥) where
+  pub no-object-rule : valueIs recur (valueAt t at) ≡ false
+  unfolding valueIs holds
+  no-object-rule = rw (no-object t at n)
 
--- where there is no room, and where there is no object
-module _ (t : List ℕ) (at : ℕ) where
-  pub untested : (text : List ℕ) → length text < length t → false ≡ (hasRoom t text and valueIs recur (valueAt t at))
-  untested text h = rw (no-room t text h)
-
-  module _ (n : (tagAt t at ≡ tagObject) → ⊥) where
-    pub no-object-rule : valueIs recur (valueAt t at) ≡ false
-    unfolding valueIs holds
-    no-object-rule = rw (no-object t at n)
-
-    pub no-rule : (text : List ℕ) → false ≡ (hasRoom t text and valueIs recur (valueAt t at))
-    unfolding valueIs holds
-    no-rule text = rw (no-object t at n) (sym (and-false-right (hasRoom t text)))
-
-    pub no-text : (text rule : List ℕ) → [] ≡ pick (hasRoom t text and hasRoom t rule) (valueText recur (valueAt t at)) []
-    unfolding valueText given
-    no-text text rule = rw (no-object t at n) (sym (pick-same (hasRoom t text and hasRoom t rule) []))
+  pub no-object-text : valueText recur (valueAt t at) ≡ []
+  unfolding valueText given
+  no-object-text = rw (no-object t at n)
 
 -- the members of an object
 module _ {t : List ℕ} {at i : ℕ} (o : tagAt t at ≡ tagObject) (x : After t at i) where
@@ -63,10 +45,6 @@ module _ {t : List ℕ} {at i : ℕ} (o : tagAt t at ≡ tagObject) (x : After t
   text-of : valueText recur (valueAt t at) ≡ recurText (membersAt t i)
   unfolding valueText given
   text-of = rw (object-some x o)
-
-  pub other-kinds : (text : List ℕ) → kindsAre (membersAt t i) ≡ false → false ≡ (hasRoom t text and valueIs recur (valueAt t at))
-  unfolding recurIs
-  other-kinds text k = rw (is-rule, k) (sym (and-false-right (hasRoom t text)))
 
   pub other-members : kindsAre (membersAt t i) ≡ false → valueIs recur (valueAt t at) ≡ false
   unfolding recurIs
@@ -87,18 +65,9 @@ module _ {t : List ℕ} {at i : ℕ} (o : tagAt t at ≡ tagObject) (x : After t
     unfolding ruleParts
     parts = rw laid
 
-    pub tested : kindsAre (membersAt t i) ≡ true → isSome (partsOf (upper (take (n - 0) (drop 0 later)))) ≡ (hasRoom t text and valueIs recur (valueAt t at))
-    unfolding recurIs
-    tested k = rw (room t text h, is-rule, k, parts)
-
     pub rule-stands : kindsAre (membersAt t i) ≡ true → valueIs recur (valueAt t at) ≡ isSome (partsOf (upper (take (n - 0) (drop 0 later))))
     unfolding recurIs
     rule-stands k = rw (is-rule, k, parts)
-
-    -- it is no rule
-    pub no-parts : (rule : List ℕ) → isSome (partsOf (upper (take (n - 0) (drop 0 later)))) ≡ false → [] ≡ pick (hasRoom t text and hasRoom t rule) (valueText recur (valueAt t at)) []
-    unfolding recurText given
-    no-parts rule e = rw (text-of, parts, absent (partsOf (upper (take (n - 0) (drop 0 later)))) e) (sym (pick-same (hasRoom t text and hasRoom t rule) []))
 
     -- it is a rule, and its normal form is laid into lent memory
     module _ {rule after : List ℕ} {m : ℕ} (k : length t ≤ length rule) (e : isSome (partsOf (upper (take (n - 0) (drop 0 later)))) ≡ true)
@@ -115,9 +84,6 @@ module _ {t : List ℕ} {at i : ℕ} (o : tagAt t at ≡ tagObject) (x : After t
       normal : valueText recur (valueAt t at) ≡ ruleShown (take (n - 0) (drop 0 later))
       unfolding recurText given
       normal = some-is (partsOf (upper (take (n - 0) (drop 0 later)))) e (λ ps q. rw (text-of, parts, q) (sym (rule-shown (take (n - 0) (drop 0 later)) ps q)))
-
-      pub rule-text : take (m - 0) (drop 0 after) ≡ pick (hasRoom t text and hasRoom t rule) (valueText recur (valueAt t at)) []
-      rule-text = upto after m ∙ shown .front ∙ sym (rw (room t text h, room t rule k) normal)
 
       pub normal-text : take (m - 0) (drop 0 after) ≡ valueText recur (valueAt t at)
       normal-text = upto after m ∙ shown .front ∙ sym normal

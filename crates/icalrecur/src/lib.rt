@@ -4,8 +4,6 @@ mod rules;
 mod wording;
 
 use content::Folder;
-pub use rules::is_recur;
-pub use rules::write_recur;
 pub use rules::write_rule;
 
 // A rule written, and where the pen stands; or the value is none.

@@ -3,6 +3,5 @@ pub mod Listed
 pub mod Arrays
 pub mod Bared
 pub mod Escapes
-pub mod Sorted
 pub mod Strings
 pub mod Grouped

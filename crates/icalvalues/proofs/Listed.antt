@@ -1,13 +1,9 @@
 -- The values of a group one after another: tested, and written with a separator between them.
-use Prim.Native.Nat.{ℕ, min}
+use Prim.Native.Nat.{ℕ}
 use mathlib.Core.Path.{_≡_, refl}
 use mathlib.Core.Bool.{Bool, true, false}
 use mathlib.Core.List.{List, [], _∷_, _++_, map}
-use native.Mathlib.Omega.{arith}
-use borrow.Author.Tests.{eq-eqb, ne-eqb}
-use lib.Dec.{eqb}
-use lib.ListN.{length}
-use Rattle.octets.specs.Basics.{all, filled, single}
+use Rattle.octets.specs.Basics.{all}
 use Rattle.octets.specs.Pieces.{joined}
 use Rattle.json.specs.Tree.{Json, listOf}
 use Rattle.json.specs.Tape.{tagEnd}
@@ -46,10 +42,3 @@ module _ (sep : ℕ) (f : Json → List ℕ) (t : List ℕ) (i : ℕ) where
       where
         by : (l k : List ℕ) (ls : List (List ℕ)) → joined sep (l ∷ k ∷ ls) ≡ l ++ sep ∷ joined sep (k ∷ ls)
         by l k ls = unfold joined in refl
-
--- exactly one
-pub single-is : (js : List Json) (n : ℕ) → n ≡ min 2 (length js) → eqb n 1 ≡ single js
-unfolding single filled
-single-is [] n e = ne-eqb n 1 (λ z. omega arith)
-single-is (j ∷ []) n e = eq-eqb n 1 (omega arith)
-single-is (j ∷ k ∷ js) n e = ne-eqb n 1 (λ z. omega arith)

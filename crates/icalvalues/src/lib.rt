@@ -8,8 +8,6 @@ mod writing;
 
 use content::Folder;
 pub use tested::write_tested;
-pub use testing::are_values;
-pub use writing::write_values;
 
 // Values written: the place behind the end of their group and where the pen stands; or they are not what the sort takes.
 pub enum Valued {

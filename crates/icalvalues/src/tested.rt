@@ -116,22 +116,14 @@ fn object_at(
 }
 
 // Any other value.
-fn other_at(
-    out: &mut [u8],
-    p: Folder,
-    t: &[u8],
-    at: usize,
-    sort: Sort,
-    text: &mut [u8],
-    rule: &mut [u8],
-) -> Valued
-    requires { ⌜ (length (now t) ≤ length (now text)) × (length (now t) ≤ length (now rule)) ⌝ }
+fn other_at(out: &mut [u8], p: Folder, t: &[u8], at: usize, sort: Sort) -> Valued
+    requires { ⌜ ((tagAt (now t) at ≡ tagObject) → ⊥) ⌝ }
     ensures { λ r. ⌜ ValueAs (sortSaid sort) (now (t .entry)) at (folding (now (out .entry)) p) (now (out .exit)) r ⌝ }
 {
-    if !value_at(t, at, sort, text) {
+    if !value_at(t, at, sort) {
         return Valued::Invalid;
     }
-    let q = write_value(out, p, t, at, sort, text, rule);
+    let q = write_value(out, p, t, at, sort);
     let e = behind(t, at);
     Valued::Wrote(e, q)
 }
@@ -154,7 +146,7 @@ fn write_one(
         STRING => string_at(out, p, t, at, sort),
         NUMBER => number_at(out, p, t, at, sort),
         OBJECT => object_at(out, p, t, at, sort, text, rule),
-        _ => other_at(out, p, t, at, sort, text, rule),
+        _ => other_at(out, p, t, at, sort),
     }
 }
 

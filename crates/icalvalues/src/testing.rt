@@ -1,25 +1,22 @@
 // Which JSON values a sort takes.
 ghost use mathlib.Core.Path.{_≡_};
-ghost use Prim.Native.Nat.{_≤_};
-ghost use lib.ListN.{length};
-ghost use Rattle.octets.specs.Basics.{_and_, _or_, all, single};
+ghost use Rattle.octets.specs.Basics.{all};
 ghost use Rattle.octets.specs.Classes.{plainOctet};
 ghost use Rattle.octets.specs.Optional.{isSome};
 ghost use Rattle.calendar.specs.Texts.{formIs};
 ghost use Rattle.calendar.specs.Durations.{durationIs, periodEndIs};
 ghost use Rattle.json.specs.Tree.{boolean?};
-ghost use Rattle.tape.specs.Decode.{valueAt, listAt};
-ghost use Rattle.values.specs.Sorts.{geo, period, status, splits};
+ghost use Rattle.json.specs.Tape.{tagObject};
+ghost use Rattle.tape.specs.Decode.{tagAt, valueAt, listAt};
+ghost use Rattle.values.specs.Sorts.{geo, period, status};
 ghost use Rattle.values.specs.Texts.{textIs};
 ghost use Rattle.values.specs.Simple.{binaryIs, floatOf, integerOf};
-ghost use Rattle.values.specs.Write.{isString, isLettered, isNumber, valueIs, valuesAre};
+ghost use Rattle.values.specs.Write.{isString, isLettered, isNumber, valueIs};
 ghost use Rattle.values.specs.Coded.{sortSaid};
-ghost use Rattle.icalrecur.specs.Room.{hasRoom};
 use calendar::durations::is_duration;
 use calendar::durations::is_extended_period_end;
 use calendar::texts::Form;
 use calendar::texts::is_extended;
-use icalrecur::is_recur;
 use octets::all_plain;
 use octets::all_text;
 use tape::ARRAY;
@@ -219,9 +216,9 @@ fn status_at(t: &[u8], at: usize) -> bool
     }
 }
 
-// One value. There is room in `text` for the text of a recurrence rule.
-pub(crate) fn value_at(t: &[u8], at: usize, sort: Sort, text: &mut [u8]) -> bool
-    requires { ⌜ length (now t) ≤ length (now text) ⌝ }
+// One value that is no object.
+pub(crate) fn value_at(t: &[u8], at: usize, sort: Sort) -> bool
+    requires { ⌜ ((tagAt (now t) at ≡ tagObject) → ⊥) ⌝ }
     ensures { λ r. ⌜ r ≡ valueIs (sortSaid sort) (valueAt (now (t .entry)) at) ⌝ }
 {
     match sort {
@@ -235,54 +232,10 @@ pub(crate) fn value_at(t: &[u8], at: usize, sort: Sort, text: &mut [u8]) -> bool
         Sort::Geo => geo_at(t, at),
         Sort::Integer => integer_at(t, at),
         Sort::Period => period_at(t, at),
-        Sort::Recur => is_recur(t, at, text),
+        Sort::Recur => false,
         Sort::Text => text_stands(t, at),
         Sort::Status => status_at(t, at),
         Sort::Time => form_at(t, at, Form::Time),
         Sort::UtcOffset => form_at(t, at, Form::Offset),
     }
-}
-
-// The values from `at` to the end of their group. There is room in `text` for the text of a recurrence rule.
-fn all_stand(t: &[u8], at: usize, sort: Sort, text: &mut [u8]) -> bool
-    requires { ⌜ length (now t) ≤ length (now text) ⌝ }
-    ensures { λ r. ⌜ r ≡ all (valueIs (sortSaid sort)) (listAt (now (t .entry)) at) ⌝ }
-{
-    let mut i = at;
-    loop {
-        if tag(t, i) == END {
-            return true;
-        }
-        if !value_at(t, i, sort, text) {
-            return false;
-        }
-        i = behind(t, i);
-    }
-}
-
-// The values may be several, or there is one.
-fn number_stands(t: &[u8], at: usize, sort: Sort, many: bool) -> bool
-    ensures { λ r. ⌜ r ≡ ((many and splits (sortSaid sort)) or single (listAt (now (t .entry)) at)) ⌝ }
-{
-    if count(t, at, 2) == 1 {
-        return true;
-    }
-    if !many {
-        return false;
-    }
-    sort.splits()
-}
-
-// Whether a sort takes the values from `at` to the end of their group, several of them only where the name may have many and the sort splits.
-// `text` is as long as the tape, or the answer is no; what is left there is the code's choice.
-pub fn are_values(t: &[u8], at: usize, sort: Sort, many: bool, text: &mut [u8]) -> bool
-    ensures { λ r. ⌜ r ≡ (hasRoom (now (t .entry)) (now (text .entry)) and valuesAre many (sortSaid sort) (listAt (now (t .entry)) at)) ⌝ }
-{
-    if text.len() < t.len() {
-        return false;
-    }
-    if !number_stands(t, at, sort, many) {
-        return false;
-    }
-    all_stand(t, at, sort, text)
 }

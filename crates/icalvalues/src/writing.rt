@@ -1,19 +1,16 @@
 // How iCalendar writes the values of a sort. Each writer says what it writes for any JSON value.
-ghost use mathlib.Core.List.{[]};
-ghost use Prim.Native.Nat.{_≤_};
-ghost use lib.ListN.{length};
-ghost use Rattle.octets.specs.Basics.{pick, _and_};
+ghost use mathlib.Core.Path.{_≡_};
 ghost use Rattle.octets.specs.Classes.{upper};
 ghost use Rattle.octets.specs.Decimal.{trim, integerText};
 ghost use Rattle.calendar.specs.Texts.{formText};
 ghost use Rattle.calendar.specs.Durations.{periodEndText};
 ghost use Rattle.content.specs.Folding.{folding, Folded};
 ghost use Rattle.json.specs.Tree.{octetsOf};
-ghost use Rattle.tape.specs.Decode.{valueAt, listAt};
+ghost use Rattle.json.specs.Tape.{tagObject};
+ghost use Rattle.tape.specs.Decode.{tagAt, valueAt, listAt};
 ghost use Rattle.values.specs.Sorts.{boolean, geo, period, text, status};
-ghost use Rattle.values.specs.Write.{valueText, valuesText};
+ghost use Rattle.values.specs.Write.{valueText};
 ghost use Rattle.values.specs.Coded.{sortSaid};
-ghost use Rattle.icalrecur.specs.Room.{hasRoom};
 ghost use Rattle.icalvalues.specs.Written.{endsText, statusText, geoText};
 use crate::texts::fold_text;
 use calendar::texts::Form;
@@ -23,7 +20,6 @@ use content::Folder;
 use content::fold_all;
 use content::fold_octet;
 use content::fold_upper;
-use icalrecur::write_recur;
 use octets::is_negative;
 use octets::leading_zeros;
 use octets::sign_length;
@@ -228,17 +224,9 @@ fn write_period(out: &mut [u8], p: Folder, t: &[u8], at: usize) -> Folder
     write_ends(out, q, t, b)
 }
 
-// Writes one value. There is room in `text` and `rule` for a recurrence rule.
-pub(crate) fn write_value(
-    out: &mut [u8],
-    p: Folder,
-    t: &[u8],
-    at: usize,
-    sort: Sort,
-    text: &mut [u8],
-    rule: &mut [u8],
-) -> Folder
-    requires { ⌜ (length (now t) ≤ length (now text)) × (length (now t) ≤ length (now rule)) ⌝ }
+// Writes one value that is no object.
+pub(crate) fn write_value(out: &mut [u8], p: Folder, t: &[u8], at: usize, sort: Sort) -> Folder
+    requires { ⌜ ((tagAt (now t) at ≡ tagObject) → ⊥) ⌝ }
     ensures { λ r. ⌜ Folded (folding (now (out .entry)) p) (valueText (sortSaid sort) (valueAt (now (t .entry)) at)) (folding (now (out .exit)) r) ⌝ }
 {
     match sort {
@@ -252,62 +240,10 @@ pub(crate) fn write_value(
         Sort::Geo => write_geo(out, p, t, at),
         Sort::Integer => write_integer(out, p, t, at),
         Sort::Period => write_period(out, p, t, at),
-        Sort::Recur => write_recur(out, p, t, at, text, rule),
+        Sort::Recur => p,
         Sort::Text => write_text(out, p, t, at),
         Sort::Status => write_status(out, p, t, at),
         Sort::Time => write_form(out, p, t, at, Form::Time),
         Sort::UtcOffset => write_form(out, p, t, at, Form::Offset),
     }
-}
-
-// Writes the values from `at` to the end of their group, with commas between them. There is room in `text` and `rule` for a recurrence rule.
-fn write_all(
-    out: &mut [u8],
-    p: Folder,
-    t: &[u8],
-    at: usize,
-    sort: Sort,
-    text: &mut [u8],
-    rule: &mut [u8],
-) -> Folder
-    requires { ⌜ (length (now t) ≤ length (now text)) × (length (now t) ≤ length (now rule)) ⌝ }
-    ensures { λ r. ⌜ Folded (folding (now (out .entry)) p) (valuesText (sortSaid sort) (listAt (now (t .entry)) at)) (folding (now (out .exit)) r) ⌝ }
-{
-    if tag(t, at) == END {
-        return p;
-    }
-    let mut q = p;
-    let mut i = at;
-    loop {
-        q = write_value(out, q, t, i, sort, text, rule);
-        i = behind(t, i);
-        if tag(t, i) == END {
-            return q;
-        }
-        q = fold_octet(out, q, b',');
-    }
-}
-
-// Writes the values from `at` to the end of their group. `text` and `rule` are as long as the tape, or nothing is written; what is left there is
-// the code's choice.
-pub fn write_values(
-    out: &mut [u8],
-    p: Folder,
-    t: &[u8],
-    at: usize,
-    sort: Sort,
-    text: &mut [u8],
-    rule: &mut [u8],
-) -> Folder
-    ensures { λ r. ⌜ Folded (folding (now (out .entry)) p)
-        (pick (hasRoom (now (t .entry)) (now (text .entry)) and hasRoom (now (t .entry)) (now (rule .entry))) (valuesText (sortSaid sort) (listAt (now (t .entry)) at)) [])
-        (folding (now (out .exit)) r) ⌝ }
-{
-    if text.len() < t.len() {
-        return p;
-    }
-    if rule.len() < t.len() {
-        return p;
-    }
-    write_all(out, p, t, at, sort, text, rule)
 }

@@ -13,6 +13,9 @@ number-at-requires c κs = sym (c .before .before .tag .ensures) ∙ c .before .
 object-at-requires : tie.Need-object-at-requires
 object-at-requires c κs = (sym (c .before .before .before .before .tag .ensures) ∙ c .before .before .before .match .keys3, c .before .before .before .before .before .before .before .before .before .pre .0, c .before .before .before .before .before .before .before .before .before .pre .1)
 
+other-at-requires : tie.Need-other-at-requires
+other-at-requires c κs = λ z. c .before .match .rest .1 (c .before .before .tag .ensures ∙ z)
+
 returns : tie.Need-returns
 returns c = c .before .before .string-at .ensures
 
@@ -23,7 +26,7 @@ returns-3 : tie.Need-returns-3
 returns-3 c = c .before .before .before .before .before .before .object-at .ensures
 
 returns-4 : tie.Need-returns-4
-returns-4 c = c .before .before .before .before .before .before .other-at .ensures
+returns-4 c = c .before .before .other-at .ensures
 
 pub write-one-spec : {M : Type 1} → statement M
 write-one-spec =
@@ -33,7 +36,7 @@ write-one-spec =
     string-at-requires
     number-at-requires
     object-at-requires
-    (λ c κs. search needs)
+    other-at-requires
     (λ c. search needs)
     returns
     (λ c. search needs)
@@ -42,7 +45,5 @@ write-one-spec =
     (λ c. search needs)
     (λ c. search needs)
     returns-3
-    (λ c. search needs)
-    (λ c. search needs)
     (λ c. search needs)
     returns-4)

@@ -1,8 +1,9 @@
 -- `icalvalues::testing::value_at` meets its contract.
+use mathlib.Core.Path.{sym}
 use borrow.Author.Needs.{needs}
 use Rattle.values.specs.Coded.{sortSaid}
 use Rattle.values.specs.Write.{valueIs}
-use Rattle.icalrecur.proofs.Room.{room}
+use Rattle.icalrecur.proofs.Ruling.{no-object-rule}
 use Rattle.icalvalues.proofs.testing.value_at.Tie as tie
 use Rattle.icalvalues.proofs.testing.value_at.Statement.{statement}
 
@@ -48,11 +49,7 @@ returns-10 c = rw (c .before .enum-told10 .given .1) (c .period-at .ensures)
 
 returns-11 : tie.Need-returns-11
 unfolding sortSaid
-returns-11 c =
-    let at-is-recur = c .before .before in
-    let at-enum-told11 = at-is-recur .before .before in
-    let at-pre = at-enum-told11 .before .before .before .before in
-    rw (at-enum-told11 .enum-told11 .given .1) (rw (room _ _ (at-pre .pre)) at (at-is-recur .is-recur .ensures))
+returns-11 c = rw (c .enum-told11 .given .1) (sym (no-object-rule _ _ (c .before .before .before .pre)))
 
 returns-12 : tie.Need-returns-12
 unfolding sortSaid valueIs
@@ -95,7 +92,6 @@ value-at-spec =
     (λ c. search needs)
     (λ c κs. search needs)
     (λ c. search needs)
-    (λ c κs. search needs)
     (λ c. search needs)
     (λ c κs. search needs)
     (λ c. search needs)
@@ -114,7 +110,6 @@ value-at-spec =
     returns-8
     returns-9
     returns-10
-    (λ c. search needs)
     returns-11
     returns-12
     returns-13

@@ -1,10 +1,10 @@
 -- `icalvalues::writing::write_value` meets its contract.
 use mathlib.Core.Path.{sym}
 use borrow.Author.Needs.{needs}
-use Rattle.content.proofs.Folding.{as-folded}
+use Rattle.content.proofs.Folding.{none, as-folded}
 use Rattle.values.specs.Coded.{sortSaid}
 use Rattle.values.specs.Write.{valueText}
-use Rattle.icalrecur.proofs.Room.{both-rooms}
+use Rattle.icalrecur.proofs.Ruling.{no-object-text}
 use Rattle.icalvalues.proofs.writing.write_value.Tie as tie
 use Rattle.icalvalues.proofs.writing.write_value.Statement.{statement}
 
@@ -80,11 +80,7 @@ returns-10 c =
 
 returns-11 : tie.Need-returns-11
 unfolding sortSaid
-returns-11 c =
-    let at-write-recur = c .before .before .before .before .before .before in
-    let at-enum-told11 = at-write-recur .before .before .before .before in
-    let at-pre = at-enum-told11 .before .before .before .before .before .before in
-    rw (at-enum-told11 .enum-told11 .given .1) (as-folded (at-write-recur .write-recur .ensures) (sym (both-rooms _ _ _ _ (at-pre .pre .0) (at-pre .pre .1))))
+returns-11 c = rw (c .enum-told11 .given .1) (as-folded none (sym (no-object-text _ _ (c .before .before .before .before .pre))))
 
 returns-12 : tie.Need-returns-12
 unfolding sortSaid
@@ -139,7 +135,6 @@ write-value-spec =
     (λ c. search needs)
     (λ c κs. search needs)
     (λ c. search needs)
-    (λ c κs. search needs)
     (λ c. search needs)
     (λ c κs. search needs)
     (λ c. search needs)
@@ -168,9 +163,6 @@ write-value-spec =
     returns-9
     (λ c. search needs)
     returns-10
-    (λ c. search needs)
-    (λ c. search needs)
-    (λ c. search needs)
     returns-11
     (λ c. search needs)
     returns-12
