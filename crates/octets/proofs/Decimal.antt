@@ -135,15 +135,6 @@ pub value-end : (s : List ℕ) (i : ℕ) → length s ≤ i → (a m : ℕ) → 
 unfolding valueFrom
 value-end s i h a m k = rw (ended s i h) (omega arith)
 
--- figures as they are written: those in front, and the last
-pub figures-none : (w n : ℕ) → w ≡ 0 → figures w n ≡ []
-unfolding figures
-figures-none w n e = rw e
-
-pub figures-last : (w n : ℕ) → (w ≡ 0 → ⊥) → figures w n ≡ figures (w - 1) (n / 10) ++ (48 + n % 10) ∷ []
-figures-last zero n h = absurd (h refl)
-figures-last (suc w) n h = unfold figures in (let e : suc w - 1 ≡ w = omega arith in rw e)
-
 -- the sign in front
 pub unsigned-none : (s : List ℕ) → length s ≡ 0 → unsigned s ≡ s
 unfolding unsigned
@@ -343,6 +334,7 @@ unfolding decimal
 decimal-last n h k =
     let f : n / 10 < 10 ^ 19 = omega arith in
     let v : 0 < valueOf (figures 19 (n / 10)) = rw (figures-value 19 (n / 10) f) (omega arith) in
-    ap trim (figures-last 20 n (λ e. omega arith))
+    let l : figures 20 n ≡ figures 19 (n / 10) ++ (48 + n % 10) ∷ [] = unfold figures in refl in
+    ap trim l
     ∙ trim-more (figures 19 (n / 10)) (48 + n % 10) (figures-digits 19 (n / 10)) v
     ∙ ap (λ (s : List ℕ). s ++ (48 + n % 10) ∷ []) (sym (trim-wide 18 (n / 10) f))

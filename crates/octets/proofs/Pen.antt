@@ -9,7 +9,7 @@ use native.Mathlib.Omega.{arith}
 use borrow.Author.Tests.{lt-ltb, le-ltb, ltb-true, ltb-false}
 use lib.Dec.{ltb}
 use lib.ListN.{length, set, take, drop, length-set, length-append}
-use lib.Seq.{sets, sets-eq, length-sets, take-append-seam, take-all}
+use lib.Seq.{sets, sets-eq, length-sets, take-append-seam}
 use Rattle.octets.specs.Basics.{pick}
 use Rattle.octets.specs.Pen.{Pen, pen, wroteOne, wrote, Wrote}
 use Rattle.octets.proofs.Cases.{cases}
@@ -131,12 +131,6 @@ landed o xs b n h w =
     let l : n ≡ length xs = ap (λ (p : Pen). p .at) e ∙ zero-add (length xs) in
     let f : b ≡ xs ++ drop (length xs) o = ap (λ (p : Pen). p .buf) e ∙ sets-eq xs o 0 (omega arith) ∙ rw zero-add in
     record { count = l; buffer = f; front = rw (l, f) (take-append-seam xs (drop (length xs) o)) }
-
--- what fills a buffer is the buffer
-pub fills : (o xs b : List ℕ) (n : ℕ) → length xs ≡ length o → Wrote (pen o 0) xs (pen b n) → b ≡ xs
-fills o xs b n e w =
-    let l = landed o xs b n (omega arith) w in
-    sym (take-all n b (omega (arith, l .count, kept w))) ∙ l .front
 
 -- For loops: to write `rest` from q on is to write `all` from p on.
 pub record Leads (p : Pen) (all : List ℕ) (q : Pen) (rest : List ℕ) : Type 0 where

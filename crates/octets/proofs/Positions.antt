@@ -23,10 +23,6 @@ taken s i h = rw add-one (take-suc s i 0 h)
 pub from : (s : List ℕ) (i : ℕ) → take (length s - i) (drop i s) ≡ drop i s
 from s i = take-all (length s - i) (drop i s) (rw (length-drop i s) (omega arith))
 
--- `&s[i..n]` too, where n is the length
-pub from-to : (s : List ℕ) (i n : ℕ) → length s ≡ n → take (n - i) (drop i s) ≡ drop i s
-from-to s i n e = rw (← e) (from s i)
-
 -- `&s[0..n]` is what stands before n
 pub upto : (s : List ℕ) (n : ℕ) → take (n - 0) (drop 0 s) ≡ take n s
 upto s n = let e : n - 0 ≡ n = omega arith in rw e

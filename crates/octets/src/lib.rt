@@ -32,7 +32,6 @@ pub use numbers::is_negative;
 pub use numbers::is_sign;
 pub use numbers::leading_zeros;
 pub use numbers::put_decimal;
-pub use numbers::put_figures;
 pub use numbers::put_integer_text;
 pub use numbers::sign_length;
 pub use numbers::value_of;

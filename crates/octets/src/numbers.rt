@@ -5,7 +5,7 @@ ghost use Prim.Native.Nat.{_+_, _-_, _*_, _≤_, min};
 ghost use lib.Dec.{eqb};
 ghost use lib.ListN.{length, drop};
 ghost use Rattle.octets.specs.Basics.{_and_};
-ghost use Rattle.octets.specs.Decimal.{valueOf, figures, isSign, minus, unsigned, trim, decimal, integerText};
+ghost use Rattle.octets.specs.Decimal.{valueOf, isSign, minus, unsigned, trim, decimal, integerText};
 ghost use Rattle.octets.specs.Pen.{pen, Wrote};
 use crate::names::is_digit;
 use crate::names::peek;
@@ -34,17 +34,6 @@ fn next_value(value: u64, c: u8, limit: u64) -> u64
     let digit = if c < b'0' { 0 } else { c - b'0' };
     let next = value * 10 + digit as u64;
     if next < limit { next } else { limit }
-}
-
-// Writes the last `width` decimal digits of n.
-pub fn put_figures(out: &mut [u8], at: usize, width: u8, n: u64) -> usize
-    ensures { λ r. ⌜ Wrote (pen (now (out .entry)) at) (figures width n) (pen (now (out .exit)) r) ⌝ }
-{
-    if width == 0 {
-        return at;
-    }
-    let to = put_figures(out, at, width - 1, n / 10);
-    put(out, to, b'0' + (n % 10) as u8)
 }
 
 // How many zeros stand in front that a digit follows.
