@@ -8,8 +8,7 @@ use lib.ListN.{length, take, drop}
 use lib.Seq.{drop-drop, take-add}
 use Rattle.octets.specs.Basics.{_and_, all}
 use Rattle.octets.proofs.Cases.{and-true, all-append}
-use Rattle.json.specs.Promise.{Run}
-use Rattle.json.proofs.Runs.{Passed}
+use Rattle.json.specs.Promise.{Run, Passed}
 
 module _ {class : ℕ → Bool} {s : List ℕ} {at i : ℕ} (p : Passed class s at i) where
   -- the part up to i and the part from there to e are one

@@ -4,7 +4,8 @@ use mathlib.Core.Path.{sym, _∙_}
 use lib.ListN.{length}
 use borrow.Author.Tests.{not-true, not-false}
 use borrow.Author.Needs.{needs}
-use Rattle.json.proofs.Runs.{Passed, passed-none, passed-more, run-over, run-end}
+use Rattle.json.specs.Promise.{Passed}
+use Rattle.json.proofs.Runs.{passed-none, passed-more, run-over, run-end}
 use Rattle.values.specs.Shown.{runOctet}
 use Rattle.valuetexts.proofs.past_octets.Statement.{statement}
 use Rattle.valuetexts.proofs.past_octets.Tie as tie

@@ -5,7 +5,8 @@ use native.Mathlib.Omega.{arith}
 use lib.ListN.{length}
 use borrow.Author.Needs.{needs}
 use borrow.Author.Tests.{not-false}
-use Rattle.json.proofs.Runs.{Passed, passed-none, run-end}
+use Rattle.json.specs.Promise.{Passed}
+use Rattle.json.proofs.Runs.{passed-none, run-end}
 use Rattle.values.specs.Shown.{runOctet}
 use Rattle.valuetexts.proofs.Blocks.{passed-part, run-on}
 use Rattle.valuetexts.proofs.past_run.Statement.{statement}
