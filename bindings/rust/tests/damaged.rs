@@ -16,9 +16,9 @@ impl Numbers {
     }
 }
 
-/// The inputs of a case program that end so.
-fn inputs(program: &str, ending: &str) -> Vec<Vec<u8>> {
-    let folder = format!("{}/../../crates/{program}/data", env!("CARGO_MANIFEST_DIR"));
+/// The inputs in a folder of a case program that end so.
+fn inputs(folder: &str, ending: &str) -> Vec<Vec<u8>> {
+    let folder = format!("{}/../../crates/{folder}", env!("CARGO_MANIFEST_DIR"));
     let mut paths: Vec<_> = std::fs::read_dir(folder).unwrap().map(|e| e.unwrap().path()).collect();
     paths.sort();
     let texts: Vec<_> = paths.iter().filter(|p| p.to_str().unwrap().ends_with(ending)).map(|p| std::fs::read(p).unwrap()).collect();
@@ -74,7 +74,9 @@ fn lists(text: &[u8], page: &[u8]) {
 #[test]
 fn every_text_gets_an_answer() {
     let mut numbers = Numbers(88_172_645_463_325_252);
-    let (lines, jcals, pages) = (inputs("tojcal_cases", ".ics"), inputs("tocal_cases", ".json"), inputs("stops_cases", ".txt"));
+    let lines = inputs("conversion_cases/data/tojcal", ".ics");
+    let jcals = inputs("conversion_cases/data/tocal", ".json");
+    let pages = inputs("stops_cases/data", ".txt");
     let mut out = vec![BLANK; 65_536];
     let (mut written, mut refused) = (0, 0);
     for k in 0..CASES {

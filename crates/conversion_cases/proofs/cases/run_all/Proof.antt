@@ -1,15 +1,15 @@
--- `tojcal_cases::run_all` meets its contract: there are no more cases than octets.
+-- `conversion_cases::cases::run_all` meets its contract: there are no more cases than octets.
 use Prim.Native.Nat.{_-_, _≤_}
 use lib.ListN.{length}
 use borrow.Author.Needs.{needs}
-use Rattle.tojcal_cases.proofs.run_all.Statement.{statement}
-use Rattle.tojcal_cases.proofs.run_all.Tie as tie
+use Rattle.conversion_cases.proofs.cases.run_all.Statement.{statement}
+use Rattle.conversion_cases.proofs.cases.run_all.Tie as tie
 
 abbrev Inv-loop : tie.InvT-loop
-Inv-loop index n₀ i₀ n i = n ≤ i
+Inv-loop folder to index n₀ i₀ n i = n ≤ i
 
 abbrev μ-loop : tie.MeasureT-loop
-μ-loop index n₀ i₀ n i = length index - i
+μ-loop folder to index n₀ i₀ n i = length index - i
 
 loop-holds : tie.Need-loop-holds Inv-loop μ-loop
 loop-holds c = search needs

@@ -1,9 +1,9 @@
--- `tocal_cases::rest_is` meets its contract.
+-- `conversion_cases::cases::rest_is` meets its contract.
 use Prim.Native.Nat.{_-_}
 use lib.ListN.{length}
 use borrow.Author.Needs.{needs}
-use Rattle.tocal_cases.proofs.rest_is.Statement.{statement}
-use Rattle.tocal_cases.proofs.rest_is.Tie as tie
+use Rattle.conversion_cases.proofs.cases.rest_is.Statement.{statement}
+use Rattle.conversion_cases.proofs.cases.rest_is.Tie as tie
 
 abbrev Inv-loop : tie.InvT-loop
 Inv-loop s from b i₀ i = Unit {0}

@@ -1,9 +1,9 @@
--- `tocal_cases::line_end` meets its contract.
+-- `conversion_cases::cases::line_end` meets its contract.
 use Prim.Native.Nat.{_-_, _≤_}
 use lib.ListN.{length}
 use borrow.Author.Needs.{needs}
-use Rattle.tocal_cases.proofs.line_end.Statement.{statement}
-use Rattle.tocal_cases.proofs.line_end.Tie as tie
+use Rattle.conversion_cases.proofs.cases.line_end.Statement.{statement}
+use Rattle.conversion_cases.proofs.cases.line_end.Tie as tie
 
 abbrev Inv-loop : tie.InvT-loop
 Inv-loop s from i₀ i = (from ≤ i) × (i ≤ length s)

@@ -1,5 +1,5 @@
-// Runs the four routes of a property that only the newer table lists: to jCal under the older or the newer, back under either. Prints the jCal and
-// the iCalendar of each.
+// The four routes of a property that only the newer table lists: to jCal under the older or the newer, back under either. Prints the jCal and the
+// iCalendar of each.
 use octets::Converted;
 
 const TEXT: [u8; 59] = *b"BEGIN:VCALENDAR\r\nX-TROUGH:20240229T060000Z\r\nEND:VCALENDAR\r\n";
@@ -25,7 +25,7 @@ fn route(there: &[u8], back: &[u8]) {
     }
 }
 
-fn main() {
+pub fn run() {
     route(b"", b"");
     route(b"", &NEWER);
     route(&NEWER, b"");

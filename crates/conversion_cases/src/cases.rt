@@ -1,6 +1,7 @@
-// Runs the cases that data/index names: NAME.ics with the rows of NAME.rows, if there are any, must give NAME.out, a text or the line of a refusal.
+// Cases in files: NAME.ics or NAME.json with the rows of NAME.rows, if there are any, must give NAME.out, a text or the line of a refusal. The file index names them.
 ghost use Prim.Native.Nat.{_≤_};
 ghost use lib.ListN.{length};
+use ical::to_ical;
 use jcal::to_jcal;
 use octets::Converted;
 use octets::put;
@@ -11,30 +12,34 @@ use octets::same;
 // What a buffer holds where nothing is written.
 const BLANK: u8 = 170;
 
-// Reads a file, and answers its length; 0 where there is none.
-fn load(path: &[u8], buf: &mut [u8]) -> usize
-    ensures { λ r. ⌜ r ≤ length (now (buf .exit)) ⌝ }
-{
-    let fd = os::open_read(path);
-    if fd < 0 {
-        return 0;
-    }
-    let n = io::read_full(fd, buf);
-    libc::close(fd);
-    n
+// Which conversion a folder's cases are for.
+pub enum Direction {
+    ToJcal,
+    ToIcal,
 }
 
-// Reads a file of a case.
-fn load_part(name: &[u8], ending: &[u8], buf: &mut [u8]) -> usize
+// Reads a file of a case, and answers its length; 0 where there is none.
+fn load_part(folder: &[u8], name: &[u8], ending: &[u8], buf: &mut [u8]) -> usize
     ensures { λ r. ⌜ r ≤ length (now (buf .exit)) ⌝ }
 {
     let mut path = [0u8; 64];
-    let n = put_all(&mut path, 0, name);
-    let e = put_all(&mut path, n, ending);
+    let n = put_all(&mut path, 0, folder);
+    let m = put_all(&mut path, n, name);
+    let e = put_all(&mut path, m, ending);
     if 64 < e {
         return 0;
     }
-    load(&path[0..e], buf)
+    console::load(&path[0..e], buf)
+}
+
+// Reads the text of a case.
+fn load_text(folder: &[u8], to: Direction, name: &[u8], buf: &mut [u8]) -> usize
+    ensures { λ r. ⌜ r ≤ length (now (buf .exit)) ⌝ }
+{
+    match to {
+        Direction::ToJcal => load_part(folder, name, b".ics", buf),
+        Direction::ToIcal => load_part(folder, name, b".json", buf),
+    }
 }
 
 // Whether from `from` on there is nothing but b.
@@ -72,7 +77,7 @@ fn is_text(out: &[u8], n: usize, want: &[u8]) -> bool {
     same(&out[0..n], want)
 }
 
-// The answer and the buffer are as they must be.
+// The answer and the buffer are as they must be: where it is refused, the buffer is zeroed.
 fn is_answer(r: Converted, out: &[u8], want: &[u8]) -> bool {
     match r {
         Converted::Written(n) => is_text(out, n, want),
@@ -85,49 +90,56 @@ fn is_answer(r: Converted, out: &[u8], want: &[u8]) -> bool {
     }
 }
 
+fn convert(to: Direction, text: &[u8], rows: &[u8], out: &mut [u8]) -> Converted {
+    match to {
+        Direction::ToJcal => to_jcal(text, rows, out),
+        Direction::ToIcal => to_ical(text, rows, out),
+    }
+}
+
 // The conversion into a buffer of n octets gives what it must.
-fn gives(text: &[u8], rows: &[u8], n: usize, want: &[u8]) -> bool {
+fn gives(to: Direction, text: &[u8], rows: &[u8], n: usize, want: &[u8]) -> bool {
     if 65536 < n {
         return false;
     }
     let mut lent = [BLANK; 65536];
     let out = &mut lent[0..n];
-    let r = to_jcal(text, rows, out);
+    let r = convert(to, text, rows, out);
     is_answer(r, out, want)
 }
 
 // A text fits into a buffer of its length, and into no shorter one.
-fn just_fits(text: &[u8], rows: &[u8], n: usize, want: &[u8]) -> bool {
+fn just_fits(to: Direction, text: &[u8], rows: &[u8], n: usize, want: &[u8]) -> bool {
     if n == 0 {
         return false;
     }
-    if !gives(text, rows, n, want) {
+    if !gives(to, text, rows, n, want) {
         return false;
     }
-    gives(text, rows, n - 1, b"refused 10\n")
+    gives(to, text, rows, n - 1, b"refused 10\n")
 }
 
-fn holds(text: &[u8], rows: &[u8], want: &[u8]) -> bool {
+fn holds(to: Direction, text: &[u8], rows: &[u8], want: &[u8]) -> bool {
     let mut out = [BLANK; 65536];
-    let r = to_jcal(text, rows, &mut out);
+    let r = convert(to, text, rows, &mut out);
     if !is_answer(r, &out, want) {
         return false;
     }
     match r {
-        Converted::Written(n) => just_fits(text, rows, n, want),
+        Converted::Written(n) => just_fits(to, text, rows, n, want),
         Converted::Refused(_) => true,
     }
 }
 
 // Runs a case, and says so where it fails.
-fn run(name: &[u8]) {
+fn run(folder: &[u8], to: Direction, name: &[u8]) {
     let mut text = [0u8; 65538];
     let mut rows = [0u8; 8192];
     let mut want = [0u8; 65537];
-    let n = load_part(name, b".ics", &mut text);
-    let m = load_part(name, b".rows", &mut rows);
-    let k = load_part(name, b".out", &mut want);
-    if !holds(&text[0..n], &rows[0..m], &want[0..k]) {
+    let n = load_text(folder, to, name, &mut text);
+    let m = load_part(folder, name, b".rows", &mut rows);
+    let k = load_part(folder, name, b".out", &mut want);
+    if !holds(to, &text[0..n], &rows[0..m], &want[0..k]) {
         io::write_all(1, b"failed: ");
         io::write_all(1, name);
         io::write_all(1, b"\n");
@@ -148,22 +160,25 @@ fn line_end(s: &[u8], from: usize) -> usize
     i
 }
 
-// Runs the cases, and answers how many there are.
-fn run_all(index: &[u8]) -> u64 {
+// Runs the cases of a folder, and answers how many there are.
+fn run_all(folder: &[u8], to: Direction, index: &[u8]) -> u64 {
     let mut n: u64 = 0;
     let mut i = 0;
     while i < index.len() {
         let e = line_end(index, i);
-        run(&index[i..e]);
+        run(folder, to, &index[i..e]);
         n += 1;
         i = e + 1;
     }
     n
 }
 
-fn main() {
+// Runs the cases of a folder, and prints how many there are.
+pub fn run_folder(folder: &[u8], to: Direction) {
     let mut index = [0u8; 16384];
-    let n = load(b"index", &mut index);
-    io::print_decimal(1, run_all(&index[0..n]));
+    let n = load_part(folder, b"index", b"", &mut index);
+    io::write_all(1, folder);
+    io::write_all(1, b" ");
+    io::print_decimal(1, run_all(folder, to, &index[0..n]));
     io::write_all(1, b" cases\n");
 }
