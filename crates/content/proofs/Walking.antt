@@ -11,7 +11,7 @@ use lib.ListN.{length, getD, take, drop}
 use Rattle.octets.specs.Basics.{pick, _or_, any, same, among, twice}
 use Rattle.octets.specs.Pieces.{cut}
 use Rattle.octets.specs.Classes.{isUpper, isLower, upperOctet, lowerOctet, upper, lower, sameName}
-use Rattle.octets.proofs.Cases.{cases, alike}
+use Rattle.octets.proofs.Cases.{cases, alike, or-second, or-false-right}
 use Rattle.octets.proofs.Classes.{between-true, within-between, above-between, below-between, same-is, same-itself}
 use Rattle.octets.proofs.Positions.{here, ended}
 use Rattle.content.specs.Line.{Param, quoteAfter, bare, pieces, paramOf}
@@ -112,10 +112,16 @@ module _ (s : List ℕ) (e : ℕ) where
   twice-none h = rw (no-params s e h)
 
   module _ (st : Stands s e) (h : e < length s) (p : ParamParts) (k : CutParam s (e + 1) p) where
-    pub twice-here : among (lower (take (p .name - (e + 1)) (drop (e + 1) s))) (map nameOf (paramsIn (drop (p .end) s))) ≡ true → nameTwice (paramsIn (drop e s)) ≡ true
-    unfolding nameTwice twice paramAt
-    twice-here t = rw (param-here s e st h p k, t)
+    -- the name stands again behind the parameter
+    abbrev again : Bool
+    again = among (lower (take (p .name - (e + 1)) (drop (e + 1) s))) (map nameOf (paramsIn (drop (p .end) s)))
 
-    pub twice-on : among (lower (take (p .name - (e + 1)) (drop (e + 1) s))) (map nameOf (paramsIn (drop (p .end) s))) ≡ false → nameTwice (paramsIn (drop e s)) ≡ nameTwice (paramsIn (drop (p .end) s))
+    twice-turn : nameTwice (paramsIn (drop e s)) ≡ (again or nameTwice (paramsIn (drop (p .end) s)))
     unfolding nameTwice twice paramAt
-    twice-on t = rw (param-here s e st h p k, t)
+    twice-turn = rw (param-here s e st h p k)
+
+    pub twice-behind : nameTwice (paramsIn (drop (p .end) s)) ≡ true → nameTwice (paramsIn (drop e s)) ≡ true
+    twice-behind t = twice-turn ∙ or-second again t
+
+    pub twice-first : nameTwice (paramsIn (drop (p .end) s)) ≡ false → nameTwice (paramsIn (drop e s)) ≡ again
+    twice-first t = twice-turn ∙ rw t (or-false-right again)

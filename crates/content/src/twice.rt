@@ -104,25 +104,31 @@ fn twice_many(s: &[u8], from: usize) -> bool
     twice_by(s, from, &mut table)
 }
 
+// Whether a name of the parameters from `from` on stands twice: `few` of them are compared with all names behind them, the rest are found by
+// a table. The recursive call comes first: as a tail call it would be inlined, and the table would stand on the stack of every caller.
+fn twice_few(s: &[u8], from: usize, few: usize) -> bool
+    ensures { λ r. ⌜ r ≡ nameTwice (paramsIn (drop from (now (s .entry)))) ⌝ }
+{
+    let e = next_bare(&*s, from, b';', b';');
+    if s.len() <= e {
+        return false;
+    }
+    if few == 0 {
+        return twice_many(&*s, e);
+    }
+    let i = e + 1;
+    let p = param_at(&*s, i);
+    let n = p.name;
+    let end = p.end;
+    if twice_few(&*s, end, few - 1) {
+        return true;
+    }
+    has_name(&*s, end, &s[i..n])
+}
+
 // Whether a parameter name stands twice.
 pub fn name_twice(s: &[u8]) -> bool
     ensures { λ r. ⌜ r ≡ nameTwice (paramsIn (now (s .entry))) ⌝ }
 {
-    let mut e = next_bare(s, 0, b';', b';');
-    let mut few = 0;
-    while few < FEW {
-        if s.len() <= e {
-            return false;
-        }
-        let i = e + 1;
-        let p = param_at(s, i);
-        let n = p.name;
-        let end = p.end;
-        if has_name(s, end, &s[i..n]) {
-            return true;
-        }
-        e = end;
-        few += 1;
-    }
-    twice_many(s, e)
+    twice_few(&*s, 0, FEW)
 }
