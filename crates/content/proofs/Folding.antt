@@ -9,9 +9,11 @@ use borrow.Author.Tests.{lt-ltb, le-ltb, ltb-true, ltb-false}
 use lib.Dec.{ltb}
 use lib.ListN.{length}
 use Rattle.octets.specs.Basics.{octets}
+use Rattle.octets.specs.Classes.{upperOctet, upper}
 use Rattle.octets.specs.Limits.{mostColumns}
 use Rattle.octets.specs.Pen.{Pen, pen, wrote, Wrote}
 use Rattle.octets.proofs.Cases.{cases, and-false-right}
+use Rattle.octets.proofs.Classes.{map-length}
 use Rattle.octets.proofs.Limits.{most-columns}
 use Rattle.octets.proofs.Pen.{nothing, then as wrote-then, wrote-append, as-text}
 use Rattle.content.specs.Fold.{width, breaks, foldedOctet, nextColumn, foldFrom, columnAfter, textOf}
@@ -105,6 +107,13 @@ one-plain e m w = record { wrote = rw e w; column = rw e m }
 pub run-plain : {p q : Pen} {col : ℕ} {xs : List ℕ} → col + length xs + 3 ≤ mostColumns → Wrote p xs q
     → Folded (record { pen = p; column = col }) xs (record { pen = q; column = col + length xs })
 run-plain {p} {q} {col} {xs} h w = let k = plain col xs h in record { wrote = as-text w (sym (k .text)); column = sym (k .column) }
+
+-- the same in uppercase
+pub run-upper : {p q : Pen} {col : ℕ} (xs : List ℕ) → col + length xs + 3 ≤ mostColumns → Wrote p (upper xs) q
+    → Folded (record { pen = p; column = col }) (upper xs) (record { pen = q; column = col + length xs })
+run-upper {col} xs h w =
+    let e : length (upper xs) ≡ length xs = unfold upper in map-length upperOctet xs in
+    rw e at (run-plain {col = col} {xs = upper xs} (rw e h) w)
 
 -- for loops: to write `rest` from q on is to write `all` from p on
 pub record Leads (p : FoldPen) (all : List ℕ) (q : FoldPen) (rest : List ℕ) : Type 0 where

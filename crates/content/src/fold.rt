@@ -12,6 +12,7 @@ ghost use Rattle.content.specs.Folding.{folding, Folded};
 use octets::MOST_COLUMNS;
 use octets::put;
 use octets::put_all;
+use octets::put_upper;
 use octets::upper_octet;
 
 // Where the next octet goes: its place in the buffer and its column in the line. A line begins at column 0.
@@ -96,11 +97,14 @@ fn run_end(column: usize, i: usize, len: usize) -> usize
     if len - i <= room { len } else { i + room }
 }
 
-// Writes a slice.
-pub fn fold_all(out: &mut [u8], p: Folder, s: &[u8]) -> Folder
+// Writes a slice that may end behind the safe columns: run by run.
+fn fold_long(out: &mut [u8], p: Folder, s: &[u8]) -> Folder
     ensures { λ r. ⌜ Folded (folding (now (out .entry)) p) (now (s .entry)) (folding (now (out .exit)) r) ⌝ }
 {
-    let mut q = p;
+    let mut q = Folder {
+        at: p.at,
+        column: p.column,
+    };
     let mut i = 0;
     while i < s.len() {
         let column = q.column;
@@ -116,17 +120,89 @@ pub fn fold_all(out: &mut [u8], p: Folder, s: &[u8]) -> Folder
     q
 }
 
-// Writes a slice in uppercase.
-pub fn fold_upper(out: &mut [u8], p: Folder, s: &[u8]) -> Folder
+// Writes a slice; one that stands whole in safe columns is written at once.
+pub fn fold_all(out: &mut [u8], p: Folder, s: &[u8]) -> Folder
+    ensures { λ r. ⌜ Folded (folding (now (out .entry)) p) (now (s .entry)) (folding (now (out .exit)) r) ⌝ }
+{
+    let at = p.at;
+    let column = p.column;
+    if column < SAFE_COLUMNS {
+        if s.len() <= SAFE_COLUMNS - column {
+            return fold_run(
+                out,
+                Folder {
+                    at: at,
+                    column: column,
+                },
+                &*s,
+            );
+        }
+    }
+    fold_long(
+        out,
+        Folder {
+            at: at,
+            column: column,
+        },
+        &*s,
+    )
+}
+
+// Writes octets in uppercase that all stand in safe columns.
+fn fold_upper_run(out: &mut [u8], p: Folder, s: &[u8]) -> Folder
+    requires { ⌜ p .column + length (now s) + 3 ≤ mostColumns ⌝ }
     ensures { λ r. ⌜ Folded (folding (now (out .entry)) p) (upper (now (s .entry))) (folding (now (out .exit)) r) ⌝ }
 {
-    let mut q = p;
+    let at = p.at;
+    let end = put_upper(out, at, &*s);
+    Folder {
+        at: end,
+        column: p.column + s.len(),
+    }
+}
+
+// Writes a slice in uppercase that may end behind the safe columns: octet by octet.
+fn fold_upper_long(out: &mut [u8], p: Folder, s: &[u8]) -> Folder
+    ensures { λ r. ⌜ Folded (folding (now (out .entry)) p) (upper (now (s .entry))) (folding (now (out .exit)) r) ⌝ }
+{
+    let mut q = Folder {
+        at: p.at,
+        column: p.column,
+    };
     let mut i = 0;
     while i < s.len() {
         q = fold_octet(out, q, upper_octet(s[i]));
         i += 1;
     }
     q
+}
+
+// Writes a slice in uppercase; one that stands whole in safe columns is written at once.
+pub fn fold_upper(out: &mut [u8], p: Folder, s: &[u8]) -> Folder
+    ensures { λ r. ⌜ Folded (folding (now (out .entry)) p) (upper (now (s .entry))) (folding (now (out .exit)) r) ⌝ }
+{
+    let at = p.at;
+    let column = p.column;
+    if column < SAFE_COLUMNS {
+        if s.len() <= SAFE_COLUMNS - column {
+            return fold_upper_run(
+                out,
+                Folder {
+                    at: at,
+                    column: column,
+                },
+                &*s,
+            );
+        }
+    }
+    fold_upper_long(
+        out,
+        Folder {
+            at: at,
+            column: column,
+        },
+        &*s,
+    )
 }
 
 // Ends a line; the next one begins at the place returned, in column 0.
