@@ -117,7 +117,7 @@ fn put_decoded(out: &mut [u8], at: usize, v: &[u8]) -> usize
 fn put_value(out: &mut [u8], at: usize, v: &[u8]) -> usize
     ensures { λ r. ⌜ Wrote (pen (now (out .entry)) at) (printString (paramValue (now (v .entry)))) (pen (now (out .exit)) r) ⌝ }
 {
-    let span = inner(v, 0, v.len());
+    let span = inner(&*v, 0, v.len());
     let from = span.from;
     let end = span.end;
     let a = put(out, at, b'"');

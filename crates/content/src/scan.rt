@@ -108,12 +108,12 @@ pub fn find(s: &[u8], at: usize, b: u8) -> usize
     ensures { λ r. ⌜ r ≡ at + length (until (λ c. eqb c b) (drop at (now (s .entry)))) ⌝ }
 {
     let n = s.len();
-    let mut i = past_blocks(s, at, b);
+    let mut i = past_blocks(&*s, at, b);
     while i < n {
         if n - i < 8 {
-            return find_last(s, i, b);
+            return find_last(&*s, i, b);
         }
-        let e = in_eight(s, i, b);
+        let e = in_eight(&*s, i, b);
         if e < i + 8 {
             return e;
         }

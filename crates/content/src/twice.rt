@@ -22,12 +22,12 @@ const SLOTS: usize = 16640;
 fn has_name(s: &[u8], from: usize, name: &[u8]) -> bool
     ensures { λ r. ⌜ r ≡ among (lower (now (name .entry))) (map nameOf (paramsIn (drop from (now (s .entry))))) ⌝ }
 {
-    let mut e = next_bare(s, from, b';', b';');
+    let mut e = next_bare(&*s, from, b';', b';');
     while e < s.len() {
         let i = e + 1;
-        let p = param_at(s, i);
+        let p = param_at(&*s, i);
         let n = p.name;
-        if same_name(name, &s[i..n]) {
+        if same_name(&*name, &s[i..n]) {
             return true;
         }
         e = p.end;
@@ -101,7 +101,7 @@ fn twice_many(s: &[u8], from: usize) -> bool
     ensures { λ r. ⌜ r ≡ nameTwice (paramsIn (drop from (now (s .entry)))) ⌝ }
 {
     let mut table = [0usize; SLOTS];
-    twice_by(s, from, &mut table)
+    twice_by(&*s, from, &mut table)
 }
 
 // Whether a name of the parameters from `from` on stands twice: `few` of them are compared with all names behind them, the rest are found by

@@ -78,7 +78,7 @@ fn fold_encoded(out: &mut [u8], p: Folder, v: &[u8]) -> Folder
     let mut q = p;
     let mut i = 0;
     loop {
-        let end = plain_end(v, i);
+        let end = plain_end(&*v, i);
         q = fold_all(out, q, &v[i..end]);
         if end == v.len() {
             return q;
@@ -93,7 +93,7 @@ pub fn begin_param(out: &mut [u8], p: Folder, name: &[u8]) -> Folder
     ensures { λ r. ⌜ Folded (folding (now (out .entry)) p) (octets ";" ++ upper (now (name .entry)) ++ octets "=") (folding (now (out .exit)) r) ⌝ }
 {
     let a = fold_octet(out, p, b';');
-    let b = fold_upper(out, a, name);
+    let b = fold_upper(out, a, &*name);
     fold_octet(out, b, b'=')
 }
 
@@ -101,15 +101,15 @@ pub fn begin_param(out: &mut [u8], p: Folder, name: &[u8]) -> Folder
 pub fn write_param_value(out: &mut [u8], p: Folder, v: &[u8]) -> Folder
     ensures { λ r. ⌜ Folded (folding (now (out .entry)) p) (paramValueText (now (v .entry))) (folding (now (out .exit)) r) ⌝ }
 {
-    if is_quoted(v) {
+    if is_quoted(&*v) {
         let a = fold_octet(out, p, b'"');
-        let b = fold_encoded(out, a, v);
+        let b = fold_encoded(out, a, &*v);
         return fold_octet(out, b, b'"');
     }
-    if plain_end(v, 0) == v.len() {
-        return fold_all(out, p, v);
+    if plain_end(&*v, 0) == v.len() {
+        return fold_all(out, p, &*v);
     }
-    fold_encoded(out, p, v)
+    fold_encoded(out, p, &*v)
 }
 
 // Writes a further value of a parameter.
