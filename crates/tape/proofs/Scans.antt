@@ -1,7 +1,7 @@
 -- The scan along a tape, turn by turn: within a string, along an object's keys, and from value to value.
 use Prim.Native.Nat.{ℕ, suc, _+_, _-_, _≤_, _<_}
 use mathlib.Core.Path.{_≡_, refl, sym, ap, _∙_}
-use mathlib.Core.Bool.{true, false}
+use mathlib.Core.Bool.{true, false, not}
 use mathlib.Core.List.{List, [], _∷_}
 use native.Mathlib.Omega.{arith}
 use borrow.Author.Tests.{ne-eqb, le-leb, lt-leb}
@@ -9,7 +9,7 @@ use lib.Dec.{eqb, leb}
 use lib.ListN.{length, take, drop, getD, drop-of-length-le}
 use lib.Seq.{drop-drop}
 use Rattle.octets.specs.Basics.{_and_, same}
-use Rattle.octets.proofs.Cases.{cases, and-false-right}
+use Rattle.octets.proofs.Cases.{cases, and-true-right, and-false-right}
 use Rattle.json.specs.Tree.{member}
 use Rattle.json.specs.Tape.{tagNumber, tagString, tagObject, tagEnd}
 use Rattle.tape.specs.Sound.{hasLone, hasKey, distinctKeys}
@@ -94,13 +94,14 @@ module _ {t : List ℕ} {i e : ℕ} {r : Text} (m : Keyed t i r e) where
   unfolding hasKey
   key-next k q = rw (members-on, q)
 
-  pub key-twice : hasKey (part t r) (membersAt t e) ≡ true → distinctKeys (membersAt t i) ≡ false
+  -- the keys behind it are all different, or they are not
+  pub key-new : distinctKeys (membersAt t e) ≡ true → distinctKeys (membersAt t i) ≡ not (hasKey (part t r) (membersAt t e))
   unfolding distinctKeys
-  key-twice q = rw (members-on, q)
+  key-new q = rw (members-on, q) (and-true-right (not (hasKey (part t r) (membersAt t e))))
 
-  pub key-once : hasKey (part t r) (membersAt t e) ≡ false → distinctKeys (membersAt t i) ≡ distinctKeys (membersAt t e)
+  pub keys-twice : distinctKeys (membersAt t e) ≡ false → distinctKeys (membersAt t i) ≡ false
   unfolding distinctKeys
-  key-once q = rw (members-on, q)
+  keys-twice q = rw (members-on, q) (and-false-right (not (hasKey (part t r) (membersAt t e))))
 
   pub member-on : i < e
   member-on = omega (arith, m .key .behind .more (m .some), m .next .low (m .key .behind .high))

@@ -5,7 +5,7 @@ use super::walking::tag;
 use super::walking::text_at;
 use octets::same;
 ghost use mathlib.Core.Path.{_≡_};
-ghost use Prim.Native.Nat.{_≤_};
+ghost use Prim.Native.Nat.{_+_, _≤_};
 ghost use Rattle.tape.specs.Sound.{hasKey, distinctKeys};
 ghost use Rattle.tape.specs.Decode.{membersAt};
 ghost use Rattle.tape.specs.Slots.{slotOf, Blank, Probes};
@@ -121,26 +121,35 @@ fn many_distinct(t: &[u8], at: usize) -> bool
     all_new(t, at, &mut table)
 }
 
+// Whether the keys from `at` on are all different: `few` of them are compared with all keys behind them, the rest by a table.
+// The call of itself comes before `has_key`, so that it is no tail call: a recursion, and the table's room with it, is not inlined.
+fn few_distinct(t: &[u8], at: usize, few: usize) -> bool
+    requires { ⌜ 1 ≤ at + few ⌝ }
+    ensures { λ r. ⌜ r ≡ distinctKeys (membersAt (now (t .entry)) at) ⌝ }
+{
+    if tag(&*t, at) == END {
+        return true;
+    }
+    if few == 0 {
+        return many_distinct(&*t, at);
+    }
+    let k = text_at(&*t, at);
+    let v = k.next;
+    let e = behind(&*t, v);
+    let from = k.from;
+    let to = k.to;
+    if few_distinct(&*t, e, few - 1) {
+        return !has_key(&*t, e, &t[from..to]);
+    }
+    false
+}
+
 // Whether the keys from `at` to the end of the object are all different.
 pub fn keys_distinct(t: &[u8], at: usize) -> bool
     ensures { λ r. ⌜ r ≡ distinctKeys (membersAt (now (t .entry)) at) ⌝ }
 {
-    let mut i = at;
-    let mut n = 0;
-    while n < FEW {
-        if tag(t, i) == END {
-            return true;
-        }
-        let k = text_at(t, i);
-        let v = k.next;
-        let e = behind(t, v);
-        let from = k.from;
-        let to = k.to;
-        if has_key(t, e, &t[from..to]) {
-            return false;
-        }
-        i = e;
-        n += 1;
+    if tag(&*t, at) == END {
+        return true;
     }
-    many_distinct(t, i)
+    few_distinct(&*t, at, FEW)
 }

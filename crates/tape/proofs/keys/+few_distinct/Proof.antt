@@ -1,0 +1,102 @@
+-- `tape::keys::few_distinct` meets its contract: the keys behind the first are tested before it. The measure is the number of keys to compare.
+use Prim.Native.Nat.{ℕ, _<_}
+use mathlib.Core.Path.{sym, ap, _∙_}
+use mathlib.Core.Bool.{not}
+use native.Mathlib.Omega.{arith}
+use borrow.Author.Needs.{needs}
+use borrow.Fn.Kinds.{In}
+use borrow.Fn.PlainCycle.{Measures, is, falls, and}
+use Rattle.tape.proofs.Scans.{Keyed, distinct-end, key-new, keys-twice, member-on}
+use Rattle.tape.proofs.keys.few_distinct.Reads as few-distinct
+use Rattle.tape.proofs.keys.few_distinct.Kinds as few-distinct-kinds
+use Rattle.tape.proofs.keys.+few_distinct.Lts-few_distinct as few-distinct-lts
+use Rattle.tape.proofs.keys.has_key.Reads as has-key-reads
+use Rattle.tape.proofs.keys.many_distinct.Reads as many-distinct-reads
+use Rattle.tape.proofs.walking.behind.Reads as behind-reads
+use Rattle.tape.proofs.walking.tag.Reads as tag-reads
+use Rattle.tape.proofs.walking.text_at.Reads as text-at-reads
+use Rattle.tape.proofs.keys.+few_distinct.{statement}
+use Rattle.tape.proofs.keys.+few_distinct.Tie.{close}
+
+abbrev μ-few-distinct : Measures 1 few-distinct-kinds.ps ℕ
+μ-few-distinct κs a = a .1 .1 .0
+
+abbrev few-distinct-at : ℕ → In 1 few-distinct-kinds.ps
+few-distinct-at t =
+    and 1 few-distinct-kinds.ps (is 1 few-distinct-kinds.ps μ-few-distinct t) few-distinct.Pre
+
+abbrev few-distinct-below : ℕ → In 1 few-distinct-kinds.ps
+few-distinct-below t =
+    and 1 few-distinct-kinds.ps (falls 1 few-distinct-kinds.ps _<_ μ-few-distinct t) few-distinct.Pre
+
+abbrev claims : ℕ → few-distinct-lts.Claims
+claims t =
+    (tag-reads.Asked, tag-reads.Learnt, many-distinct-reads.Asked, many-distinct-reads.Learnt, text-at-reads.Asked, text-at-reads.Learnt, behind-reads.Asked, behind-reads.Learnt, few-distinct-below t, few-distinct.Post, has-key-reads.Asked, has-key-reads.Learnt)
+
+-- the member at `at`
+keyed :
+    (t : ℕ) (c : few-distinct-lts.After-behind (claims t) (few-distinct-at t) few-distinct.Post) →
+    let b = c .before .before .before .before .before .before .args in
+    Keyed (b .t .now) (b .at) (c .before .text-at .result) (c .behind .result)
+keyed t c = record { some = λ z. c .before .before .before .if1 .left (c .before .before .before .before .tag .ensures ∙ z); key = c .before .text-at .ensures; next = c .behind .ensures }
+
+few-distinct-tag-requires : (t : ℕ) → few-distinct-lts.Need-tag-requires (claims t) (few-distinct-at t) few-distinct.Post
+few-distinct-tag-requires t c κs = search needs
+
+few-distinct-returns : (t : ℕ) → few-distinct-lts.Need-returns (claims t) (few-distinct-at t) few-distinct.Post
+few-distinct-returns t c = sym (distinct-end _ _ (sym (c .before .tag .ensures) ∙ c .if1 .taken))
+
+few-distinct-many-distinct-requires : (t : ℕ) → few-distinct-lts.Need-many-distinct-requires (claims t) (few-distinct-at t) few-distinct.Post
+few-distinct-many-distinct-requires t c κs = omega (arith, c .before .before .before .before .pre .1)
+
+few-distinct-returns-2 : (t : ℕ) → few-distinct-lts.Need-returns-2 (claims t) (few-distinct-at t) few-distinct.Post
+few-distinct-returns-2 t c = c .many-distinct .ensures
+
+few-distinct-text-at-requires : (t : ℕ) → few-distinct-lts.Need-text-at-requires (claims t) (few-distinct-at t) few-distinct.Post
+few-distinct-text-at-requires t c κs = search needs
+
+few-distinct-behind-requires : (t : ℕ) → few-distinct-lts.Need-behind-requires (claims t) (few-distinct-at t) few-distinct.Post
+few-distinct-behind-requires t c κs = search needs
+
+few-distinct-sub-few-distinct : (t : ℕ) → few-distinct-lts.Need-sub-few-distinct (claims t) (few-distinct-at t) few-distinct.Post
+few-distinct-sub-few-distinct t c = search needs
+
+few-distinct-few-distinct-requires : (t : ℕ) → few-distinct-lts.Need-few-distinct-requires (claims t) (few-distinct-at t) few-distinct.Post
+few-distinct-few-distinct-requires t c κs = (omega (arith, c .before .before .before .before .before .before .pre .0), omega (arith, member-on (keyed t c)))
+
+few-distinct-sub-has-key : (t : ℕ) → few-distinct-lts.Need-sub-has-key (claims t) (few-distinct-at t) few-distinct.Post
+few-distinct-sub-has-key t c = search needs
+
+few-distinct-part-has-key-start : (t : ℕ) → few-distinct-lts.Need-part-has-key-start (claims t) (few-distinct-at t) few-distinct.Post
+few-distinct-part-has-key-start t c = search needs
+
+few-distinct-part-has-key-end : (t : ℕ) → few-distinct-lts.Need-part-has-key-end (claims t) (few-distinct-at t) few-distinct.Post
+few-distinct-part-has-key-end t c = search needs
+
+few-distinct-has-key-requires : (t : ℕ) → few-distinct-lts.Need-has-key-requires (claims t) (few-distinct-at t) few-distinct.Post
+few-distinct-has-key-requires t c κs = search needs
+
+few-distinct-returns-3 : (t : ℕ) → few-distinct-lts.Need-returns-3 (claims t) (few-distinct-at t) few-distinct.Post
+few-distinct-returns-3 t c = ap not (c .has-key .ensures) ∙ sym (key-new (keyed t (c .before .before .before .before)) (sym (c .before .before .before .few-distinct .ensures) ∙ c .before .before .if3 .taken))
+
+few-distinct-returns-4 : (t : ℕ) → few-distinct-lts.Need-returns-4 (claims t) (few-distinct-at t) few-distinct.Post
+few-distinct-returns-4 t c = sym (keys-twice (keyed t (c .before .before)) (sym (c .before .few-distinct .ensures) ∙ c .if3 .left))
+
+pub +few-distinct-spec : {M : Type 1} → statement M
++few-distinct-spec = close μ-few-distinct λ t. few-distinct-lts.spec (claims t)
+    (few-distinct-at t)
+    few-distinct.Post
+    (few-distinct-tag-requires t)
+    (few-distinct-returns t)
+    (few-distinct-many-distinct-requires t)
+    (few-distinct-returns-2 t)
+    (few-distinct-text-at-requires t)
+    (few-distinct-behind-requires t)
+    (few-distinct-sub-few-distinct t)
+    (few-distinct-few-distinct-requires t)
+    (few-distinct-sub-has-key t)
+    (few-distinct-part-has-key-start t)
+    (few-distinct-part-has-key-end t)
+    (few-distinct-has-key-requires t)
+    (few-distinct-returns-3 t)
+    (few-distinct-returns-4 t)
