@@ -1,15 +1,15 @@
 -- The scan along a tape, turn by turn: within a string, along an object's keys, and from value to value.
-use Prim.Native.Nat.{ℕ, suc, _+_, _-_, _≤_, _<_}
+use Prim.Native.Nat.{ℕ, zero, suc, _+_, _-_, _≤_, _<_}
 use mathlib.Core.Path.{_≡_, refl, sym, ap, _∙_}
 use mathlib.Core.Bool.{true, false, not}
 use mathlib.Core.List.{List, [], _∷_}
 use native.Mathlib.Omega.{arith}
-use borrow.Author.Tests.{ne-eqb, le-leb, lt-leb}
+use borrow.Author.Tests.{ne-eqb, le-leb, lt-leb, not-true}
 use lib.Dec.{eqb, leb}
 use lib.ListN.{length, take, drop, getD, drop-of-length-le}
 use lib.Seq.{drop-drop}
-use Rattle.octets.specs.Basics.{_and_, same}
-use Rattle.octets.proofs.Cases.{cases, and-true-right, and-false-right}
+use Rattle.octets.specs.Basics.{_and_, all, same}
+use Rattle.octets.proofs.Cases.{cases, both, and-true-right, and-false-right}
 use Rattle.json.specs.Tree.{member}
 use Rattle.json.specs.Tape.{tagNumber, tagString, tagObject, tagEnd}
 use Rattle.tape.specs.Sound.{hasLone, hasKey, distinctKeys}
@@ -62,6 +62,21 @@ module _ {t : List ℕ} {i e p : ℕ} (s : Seeking t i e p) where
 
       pub seek-other : ((p ≡ 237) → ⊥) → Seeking t i (e + 1) (getD t e 0)
       seek-other q = seek-on (rw (ne-eqb p 237 q))
+
+-- where no octet is the one that a surrogate begins with, no string has a lone one
+no-lone : (p : ℕ) (s : List ℕ) → eqb p 237 ≡ false → all (λ c. not (eqb c 237)) s ≡ true → hasLone p (text s) ≡ false
+unfolding hasLone text all
+no-lone p [] q h = refl
+no-lone p (x ∷ s) q h =
+    let b = both (not (eqb x 237)) (all (λ c. not (eqb c 237)) s) h in
+    let r = no-lone x s (not-true (eqb x 237) (b .0)) (b .1) in
+    cases (eqb x tagEnd) (λ e. rw e) (λ e. rw (e, q) r)
+
+pub none-lone : (t : List ℕ) (i : ℕ) → all (λ c. not (eqb c 237)) t ≡ true → hasLone 0 (textAt t i) ≡ false
+unfolding textAt all hasLone text
+none-lone t zero h = no-lone 0 t refl h
+none-lone [] (suc i) h = refl
+none-lone (x ∷ t) (suc i) h = none-lone t i (both (not (eqb x 237)) (all (λ c. not (eqb c 237)) t) h .1)
 
 -- an object's keys, from the one at i on
 module _ (t : List ℕ) (i : ℕ) (z : tagAt t i ≡ tagEnd) where

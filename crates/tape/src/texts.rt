@@ -6,28 +6,27 @@ ghost use Prim.Native.Nat.{_+_, _≤_};
 ghost use lib.Dec.{eqb};
 ghost use lib.ListN.{length};
 ghost use Rattle.octets.specs.Basics.{_and_, all};
-ghost use Rattle.json.specs.Tape.{tagEnd};
 ghost use Rattle.tape.specs.Decode.{textAt};
 ghost use Rattle.tape.specs.Promise.{Sought};
 
 // Octets that are looked at together.
 const BLOCK: usize = 16;
 
-// Whether no octet was an end, and `c` is none.
-fn still_text(free: bool, c: u8) -> bool
-    ensures { λ r. ⌜ r ≡ (free and not (eqb c tagEnd)) ⌝ }
+// Whether no octet was `b`, and `c` is none.
+fn still_free(free: bool, c: u8, b: u8) -> bool
+    ensures { λ r. ⌜ r ≡ (free and not (eqb c b)) ⌝ }
 {
-    if free { c != END } else { false }
+    if free { c != b } else { false }
 }
 
-// Whether no octet is an end. The loop has no way out on the way, so that many octets are looked at together.
-fn is_text(s: &[u8]) -> bool
-    ensures { λ r. ⌜ r ≡ all (λ c. not (eqb c tagEnd)) (now (s .entry)) ⌝ }
+// Whether no octet is `b`. The loop has no way out on the way, so that many octets are looked at together.
+pub fn is_free(s: &[u8], b: u8) -> bool
+    ensures { λ r. ⌜ r ≡ all (λ c. not (eqb c b)) (now (s .entry)) ⌝ }
 {
     let mut free = true;
     let mut i = 0;
     while i < s.len() {
-        free = still_text(free, s[i]);
+        free = still_free(free, s[i], b);
         i += 1;
     }
     free
@@ -43,7 +42,7 @@ fn past_blocks(t: &[u8], at: usize) -> usize
         if n - i < BLOCK {
             return i;
         }
-        if is_text(&t[i..i + BLOCK]) {
+        if is_free(&t[i..i + BLOCK], END) {
             i += BLOCK;
         } else {
             return i;

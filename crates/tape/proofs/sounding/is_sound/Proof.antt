@@ -11,16 +11,19 @@ use Rattle.tape.proofs.sounding.is_sound.Statement.{statement}
 use Rattle.tape.proofs.sounding.is_sound.Tie as tie
 
 abbrev Inv-loop : tie.InvT-loop
-Inv-loop t i₀ i = soundFrom t i ≡ soundTape t
+Inv-loop t free i₀ i = soundFrom t i ≡ soundTape t
 
 abbrev μ-loop : tie.MeasureT-loop
-μ-loop t i₀ i = length t - i
+μ-loop t free i₀ i = length t - i
+
+is-free-requires : tie.Need-is-free-requires Inv-loop μ-loop
+is-free-requires c κs = search needs
 
 loop-holds : tie.Need-loop-holds Inv-loop μ-loop
 loop-holds c = scan-start _
 
 scan-requires : tie.Need-scan-requires Inv-loop μ-loop
-scan-requires c κs = search needs
+scan-requires c κs = (c .loop-test .taken, c .before .before .is-free .ensures)
 
 enum-known-s : tie.Need-enum-known-s Inv-loop μ-loop
 enum-known-s c = search needs
@@ -28,7 +31,7 @@ enum-known-s c = search needs
 -- what the turn answered
 scanned :
     (c : tie.After-known-told Inv-loop μ-loop) →
-    Scans (c .before .before .before .before .before .before .before .args .t .now) (c .before .before .before .before .before .loop .i) (To (c .before .s .given .0 .0))
+    Scans (c .before .before .before .before .before .before .before .before .args .t .now) (c .before .before .before .before .before .loop .i) (To (c .before .s .given .0 .0))
 scanned c = rw (c .before .s .given .1) at (c .before .before .before .scan .ensures)
 
 loop-less : tie.Need-loop-less Inv-loop μ-loop
@@ -47,4 +50,4 @@ returns-2 : tie.Need-returns-2 Inv-loop μ-loop
 returns-2 c = sym (scan-past _ _ (c .loop-test .left)) ∙ c .before .loop .inv
 
 pub is-sound-spec : {M : Type 1} → statement M
-is-sound-spec = tie.close (tie.spec Inv-loop μ-loop loop-holds scan-requires enum-known-s loop-less loop-again enum-told returns returns-2)
+is-sound-spec = tie.close (tie.spec Inv-loop μ-loop is-free-requires loop-holds scan-requires enum-known-s loop-less loop-again enum-told returns returns-2)

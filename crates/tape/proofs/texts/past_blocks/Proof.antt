@@ -24,20 +24,20 @@ sub-if1 c = search needs
 returns : tie.Need-returns Inv-loop μ-loop
 returns c = c .before .before .loop .inv
 
-add-is-text : tie.Need-add-is-text Inv-loop μ-loop
-add-is-text c = search needs
+add-is-free : tie.Need-add-is-free Inv-loop μ-loop
+add-is-free c = search needs
 
-sub-is-text : tie.Need-sub-is-text Inv-loop μ-loop
-sub-is-text c = search needs
+sub-is-free : tie.Need-sub-is-free Inv-loop μ-loop
+sub-is-free c = search needs
 
-part-is-text-start : tie.Need-part-is-text-start Inv-loop μ-loop
-part-is-text-start c = search needs
+part-is-free-start : tie.Need-part-is-free-start Inv-loop μ-loop
+part-is-free-start c = search needs
 
-part-is-text-end : tie.Need-part-is-text-end Inv-loop μ-loop
-part-is-text-end c = search needs
+part-is-free-end : tie.Need-part-is-free-end Inv-loop μ-loop
+part-is-free-end c = search needs
 
-is-text-requires : tie.Need-is-text-requires Inv-loop μ-loop
-is-text-requires c κs = search needs
+is-free-requires : tie.Need-is-free-requires Inv-loop μ-loop
+is-free-requires c κs = search needs
 
 returns-2 : tie.Need-returns-2 Inv-loop μ-loop
 returns-2 c = c .before .before .before .before .before .loop .inv
@@ -51,7 +51,7 @@ loop-less c = search needs
 loop-again : tie.Need-loop-again Inv-loop μ-loop
 loop-again c =
     let l = c .before .before .before .before .before .loop in
-    (omega arith, past-part (c .before .before .before .before .before .before .before .args .t .now) (l .i) _ (omega arith) (omega arith) (sym (c .before .is-text .ensures) ∙ c .if2 .taken) ∙ l .inv .1)
+    (omega arith, past-part (c .before .before .before .before .before .before .before .args .t .now) (l .i) _ (omega arith) (omega arith) (sym (c .before .is-free .ensures) ∙ c .if2 .taken) ∙ l .inv .1)
 
 returns-3 : tie.Need-returns-3 Inv-loop μ-loop
 returns-3 c = c .before .loop .inv
@@ -65,11 +65,11 @@ past-blocks-spec =
     loop-holds
     sub-if1
     returns
-    add-is-text
-    sub-is-text
-    part-is-text-start
-    part-is-text-end
-    is-text-requires
+    add-is-free
+    sub-is-free
+    part-is-free-start
+    part-is-free-end
+    is-free-requires
     add-i
     loop-less
     loop-again

@@ -1,0 +1,53 @@
+-- `tape::texts::is_free` meets its contract.
+use Prim.Native.Nat.{ℕ, _≤_, _-_}
+use mathlib.Core.Path.{_≡_, refl, sym, _∙_}
+use mathlib.Core.Bool.{not}
+use native.Mathlib.Omega.{arith}
+use lib.Dec.{eqb}
+use lib.ListN.{length, drop}
+use borrow.Author.Needs.{needs}
+use Rattle.octets.specs.Basics.{_and_, all}
+use Rattle.octets.proofs.Classes.{all-more, all-done}
+use Rattle.tape.proofs.texts.is_free.Statement.{statement}
+use Rattle.tape.proofs.texts.is_free.Tie as tie
+
+abbrev Inv-loop : tie.InvT-loop
+Inv-loop s b free₀ i₀ free i = (i ≤ length s) × ((free and all (λ c. not (eqb c b)) (drop i s)) ≡ all (λ c. not (eqb c b)) s)
+
+abbrev μ-loop : tie.MeasureT-loop
+μ-loop s b free₀ i₀ free i = length s - i
+
+loop-holds : tie.Need-loop-holds Inv-loop μ-loop
+loop-holds c = (omega arith, refl)
+
+shared-slice-read-still-free : tie.Need-shared-slice-read-still-free Inv-loop μ-loop
+shared-slice-read-still-free c = search needs
+
+still-free-requires : tie.Need-still-free-requires Inv-loop μ-loop
+still-free-requires c κs = search needs
+
+add-i : tie.Need-add-i Inv-loop μ-loop
+add-i c = search needs
+
+loop-less : tie.Need-loop-less Inv-loop μ-loop
+loop-less c = search needs
+
+loop-again : tie.Need-loop-again Inv-loop μ-loop
+loop-again c = (omega arith, rw (c .still-free .ensures) (all-more (λ (x : ℕ). not (eqb x (c .before .before .before .before .before .args .b))) (c .before .before .before .before .before .args .s .now) (c .before .before .before .loop .i) (c .before .before .before .loop .free) (c .before .before .loop-test .taken) ∙ c .before .before .before .loop .inv .1))
+
+returns : tie.Need-returns Inv-loop μ-loop
+returns c = sym (all-done _ _ _ _ (c .loop-test .left)) ∙ c .before .loop .inv .1
+
+pub is-free-spec : {M : Type 1} → statement M
+is-free-spec =
+    tie.close
+    (tie.spec
+    Inv-loop
+    μ-loop
+    loop-holds
+    shared-slice-read-still-free
+    still-free-requires
+    add-i
+    loop-less
+    loop-again
+    returns)
