@@ -29,15 +29,15 @@ fn has_key(t: &[u8], at: usize, key: &[u8]) -> bool
 {
     let mut i = at;
     loop {
-        if tag(t, i) == END {
+        if tag(&*t, i) == END {
             return false;
         }
-        let k = text_at(t, i);
+        let k = text_at(&*t, i);
         let v = k.next;
-        let e = behind(t, v);
+        let e = behind(&*t, v);
         let from = k.from;
         let to = k.to;
-        if same(key, &t[from..to]) {
+        if same(&*key, &t[from..to]) {
             return true;
         }
         i = e;
@@ -118,7 +118,7 @@ fn many_distinct(t: &[u8], at: usize) -> bool
     ensures { λ r. ⌜ r ≡ distinctKeys (membersAt (now (t .entry)) at) ⌝ }
 {
     let mut table = [0usize; SLOTS];
-    all_new(t, at, &mut table)
+    all_new(&*t, at, &mut table)
 }
 
 // Whether the keys from `at` on are all different: `few` of them are compared with all keys behind them, the rest by a table.

@@ -124,13 +124,13 @@ pub fn text_end(t: &[u8], at: usize) -> usize
     let mut e = at;
     while e < n {
         if n - e < BLOCK {
-            return last_end(t, e);
+            return last_end(&*t, e);
         }
-        let r = in_block(t, e);
+        let r = in_block(&*t, e);
         if r < e + BLOCK {
             return r;
         }
-        e = past_blocks(t, r);
+        e = past_blocks(&*t, r);
     }
     e
 }

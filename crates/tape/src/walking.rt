@@ -67,7 +67,7 @@ pub fn leave(t: &[u8], at: usize) -> usize
                 i += 1;
             }
             _ => {
-                i = past_leaf(t, i);
+                i = past_leaf(&*t, i);
             }
         }
     }
@@ -122,10 +122,10 @@ pub fn count(t: &[u8], at: usize, most: usize) -> usize
     let mut i = at;
     let mut n = 0;
     while n < most {
-        if tag(t, i) == END {
+        if tag(&*t, i) == END {
             return n;
         }
-        i = behind(t, i);
+        i = behind(&*t, i);
         n += 1;
     }
     n
