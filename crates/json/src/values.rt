@@ -102,6 +102,17 @@ fn value(text: &[u8], at: usize, left: usize, tape: &mut [u8], to: usize) -> Ste
     }
 }
 
+// Reads a value: a string at once, and any other by `value`.
+fn element(text: &[u8], at: usize, left: usize, tape: &mut [u8], to: usize) -> Step
+    requires { ⌜ at ≤ length (now text) ⌝ }
+    ensures { λ r. ⌜ Agrees ser (now (text .entry)) (at + 1) (pen (now (tape .entry)) to) (now (tape .exit)) (valueOf left (drop at (now (text .entry)))) r ⌝ }
+{
+    if octets::peek(&*text, at) == b'"' {
+        return string(&*text, at + 1, tape, to);
+    }
+    value(&*text, at, left, tape, to)
+}
+
 // Reads a value whose first octet, at `at`, is `[`.
 fn array(text: &[u8], at: usize, left: usize, tape: &mut [u8], to: usize) -> Step
     requires { ⌜ kindOf (getD (now text) at 0) ≡ bracket ⌝ }
@@ -116,7 +127,7 @@ fn array(text: &[u8], at: usize, left: usize, tape: &mut [u8], to: usize) -> Ste
         return close(text, i, b']', tape, p);
     }
     loop {
-        let v = value(text, i, left - 1, tape, p);
+        let v = element(text, i, left - 1, tape, p);
         let Step::Read(e, q) = v else {
             return v;
         };
@@ -147,7 +158,7 @@ fn object(text: &[u8], at: usize, left: usize, tape: &mut [u8], to: usize) -> St
         let Step::Read(a, b) = k else {
             return k;
         };
-        let v = value(text, a, left - 1, tape, b);
+        let v = element(text, a, left - 1, tape, b);
         let Step::Read(e, q) = v else {
             return v;
         };
