@@ -1,21 +1,21 @@
 -- The scan along a tape, turn by turn: within a string, along an object's keys, and from value to value.
 use Prim.Native.Nat.{ℕ, zero, suc, _+_, _-_, _≤_, _<_}
 use mathlib.Core.Path.{_≡_, refl, sym, ap, _∙_}
-use mathlib.Core.Bool.{true, false, not}
+use mathlib.Core.Bool.{Bool, true, false, not}
 use mathlib.Core.List.{List, [], _∷_}
 use native.Mathlib.Omega.{arith}
 use borrow.Author.Tests.{ne-eqb, le-leb, lt-leb, not-true}
 use lib.Dec.{eqb, leb}
 use lib.ListN.{length, take, drop, getD, drop-of-length-le}
 use lib.Seq.{drop-drop}
-use Rattle.octets.specs.Basics.{_and_, all, same}
-use Rattle.octets.proofs.Cases.{cases, both, and-true-right, and-false-right}
+use Rattle.octets.specs.Basics.{_and_, _or_, all, same}
+use Rattle.octets.proofs.Cases.{cases, both, and-true-right, and-false-right, or-true-right}
 use Rattle.json.specs.Tree.{member}
 use Rattle.json.specs.Tape.{tagNumber, tagString, tagObject, tagEnd}
 use Rattle.tape.specs.Sound.{hasLone, hasKey, distinctKeys}
-use Rattle.tape.specs.Decode.{inText, view, tagAt, textAt, valueAt, itemsAt, membersAt, text}
+use Rattle.tape.specs.Decode.{top, paired, groups, inText, view, tagAt, textAt, valueAt, itemsAt, membersAt, text}
 use Rattle.tape.specs.Promise.{After, Next, TextAt}
-use Rattle.tape.specs.Scan.{soundHere, soundAlong, soundFrom, soundTape, PastString, Scans}
+use Rattle.tape.specs.Scan.{soundHere, soundAlong, soundFrom, soundTape, PastString, Scans, keysAlong, keysFrom}
 use Rattle.tape.specs.declared.Text.{Text}
 use Rattle.tape.specs.declared.sounding.Scanned.{Scanned}
 use Rattle.tape.specs.declared.sounding.Scanned.the-variants.{To, Unsound}
@@ -71,12 +71,6 @@ no-lone p (x ∷ s) q h =
     let b = both (not (eqb x 237)) (all (λ c. not (eqb c 237)) s) h in
     let r = no-lone x s (not-true (eqb x 237) (b .0)) (b .1) in
     cases (eqb x tagEnd) (λ e. rw e) (λ e. rw (e, q) r)
-
-pub none-lone : (t : List ℕ) (i : ℕ) → all (λ c. not (eqb c 237)) t ≡ true → hasLone 0 (textAt t i) ≡ false
-unfolding textAt all hasLone text
-none-lone t zero h = no-lone 0 t refl h
-none-lone [] (suc i) h = refl
-none-lone (x ∷ t) (suc i) h = none-lone t i (both (not (eqb x 237)) (all (λ c. not (eqb c 237)) t) h .1)
 
 -- an object's keys, from the one at i on
 module _ (t : List ℕ) (i : ℕ) (z : tagAt t i ≡ tagEnd) where
@@ -180,3 +174,57 @@ module _ (t : List ℕ) (i : ℕ) (h : i < length t) where
   pub scan-other : ((getD t i 0 ≡ tagString) → ⊥) → ((getD t i 0 ≡ tagNumber) → ⊥) → ((getD t i 0 ≡ tagObject) → ⊥) → Scans t i (To (i + 1))
   unfolding inText soundFrom
   scan-other s n o = (on-scan ∙ rw (← (read-tag t i h), ne-eqb _ tagString s, ne-eqb _ tagNumber n, ne-eqb _ tagObject o), omega arith, omega arith)
+
+-- the keys from a place on
+pub keys-start : (t : List ℕ) → keysFrom t 0 ≡ keysAlong t
+unfolding keysFrom
+keys-start t = refl
+
+pub keys-past : (t : List ℕ) (i : ℕ) → length t ≤ i → keysFrom t i ≡ true
+unfolding keysFrom keysAlong
+keys-past t i h = rw (drop-of-length-le t {i = i} h)
+
+module _ (t : List ℕ) (i : ℕ) (h : i < length t) where
+  keys-here : keysFrom t i ≡ ((not (eqb (tagAt t i) tagObject) or distinctKeys (membersAt t (i + 1))) and keysFrom t (i + 1))
+  unfolding keysFrom keysAlong membersAt itemsAt view
+  keys-here = rw (here t i h)
+
+  pub keys-other : ((getD t i 0 ≡ tagObject) → ⊥) → keysFrom t (i + 1) ≡ keysFrom t i
+  keys-other n = sym (keys-here ∙ rw (← (read-tag t i h), ne-eqb _ tagObject n))
+
+  pub keys-object : distinctKeys (membersAt t (i + 1)) ≡ true → keysFrom t (i + 1) ≡ keysFrom t i
+  keys-object q = sym (keys-here ∙ rw (q, or-true-right (not (eqb (tagAt t i) tagObject))))
+
+keys-free : (k : ℕ) (s : List ℕ) → all (λ c. not (eqb c tagObject)) (take k s) ≡ true → keysAlong (drop k s) ≡ keysAlong s
+unfolding keysAlong all
+keys-free zero s h = refl
+keys-free (suc k) [] h = refl
+keys-free (suc k) (c ∷ s) h =
+    let b = both (not (eqb c tagObject)) (all (λ x. not (eqb x tagObject)) (take k s)) h in
+    rw (b .0) (keys-free k s (b .1))
+
+-- octets among which there is no object's tag are passed together
+pub keys-block : (t : List ℕ) (i e : ℕ) → i ≤ e → all (λ c. not (eqb c tagObject)) (take (e - i) (drop i t)) ≡ true → keysFrom t e ≡ keysFrom t i
+unfolding keysFrom
+keys-block t i e l h =
+    let q : i + (e - i) ≡ e = omega arith in
+    let k : drop (e - i) (drop i t) ≡ drop e t = drop-drop (e - i) i t ∙ ap (λ (n : ℕ). drop n t) q in
+    sym (ap keysAlong k) ∙ keys-free (e - i) (drop i t) h
+
+-- where no octet begins a surrogate, the keys tell whether the tape is sound
+keys-along : (m : Bool) (s : List ℕ) → all (λ c. not (eqb c 237)) s ≡ true → keysAlong s ≡ true → soundAlong m s ≡ true
+unfolding soundAlong keysAlong all
+keys-along m [] h k = refl
+keys-along true (x ∷ s) h k =
+    let a = both (not (eqb x 237)) (all (λ c. not (eqb c 237)) s) h in
+    let b = both (not (eqb x tagObject) or distinctKeys (paired (top (groups false s)))) (keysAlong s) k in
+    keys-along (inText true x) s (a .1) (b .1)
+keys-along false (x ∷ s) h k =
+    let a = both (not (eqb x 237)) (all (λ c. not (eqb c 237)) s) h in
+    let b = both (not (eqb x tagObject) or distinctKeys (paired (top (groups false s)))) (keysAlong s) k in
+    let r = keys-along (inText false x) s (a .1) (b .1) in
+    cases (eqb x tagString) (λ e. rw (e, no-lone 0 s refl (a .1)) r) (λ e. cases (eqb x tagObject) (λ f. rw (e, f, rw f at (b .0)) r) (λ f. rw (e, f) r))
+
+pub keys-sound : (t : List ℕ) → all (λ c. not (eqb c 237)) t ≡ true → keysAlong t ≡ true → true ≡ soundTape t
+unfolding soundTape
+keys-sound t h k = sym (keys-along false t h k)

@@ -5,7 +5,7 @@ use mathlib.Core.Bool.{Bool, true, false, not}
 use mathlib.Core.List.{List, [], _∷_}
 use lib.Dec.{eqb}
 use lib.ListN.{length, drop}
-use Rattle.octets.specs.Basics.{pick, _and_}
+use Rattle.octets.specs.Basics.{pick, _and_, _or_}
 use Rattle.json.specs.Tape.{tagString, tagObject}
 use Rattle.tape.specs.Sound.{hasLone, distinctKeys}
 use Rattle.tape.specs.Decode.{top, paired, text, inText, groups, textAt}
@@ -40,3 +40,11 @@ PastString t i Unsound = hasLone 0 (textAt t i) ≡ true
 abbrev pub Scans : List ℕ → ℕ → Scanned → Type 0
 Scans t i (To e) = (soundFrom t i ≡ soundFrom t e) × (i < e) × (e ≤ length t)
 Scans t i Unsound = soundFrom t i ≡ false
+
+-- behind every octet that may be an object's tag, in a text or not, the keys are all different
+unfoldable pub keysAlong : List ℕ → Bool
+keysAlong [] = true
+keysAlong (b ∷ s) = (not (eqb b tagObject) or distinctKeys (paired (top (groups false s)))) and keysAlong s
+
+unfoldable pub keysFrom : List ℕ → ℕ → Bool
+keysFrom t i = keysAlong (drop i t)

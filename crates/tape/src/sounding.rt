@@ -4,15 +4,14 @@ use super::NUMBER;
 use super::OBJECT;
 use super::STRING;
 use super::keys::keys_distinct;
+use super::texts::BLOCK;
 use super::texts::is_free;
 use super::walking::past_text;
 ghost use mathlib.Core.Path.{_≡_};
-ghost use mathlib.Core.Bool.{not};
-ghost use Prim.Native.Nat.{_+_, _<_};
-ghost use lib.Dec.{eqb};
+ghost use Prim.Native.Nat.{_+_, _≤_, _<_};
+ghost use mathlib.Core.Bool.{true};
 ghost use lib.ListN.{length};
-ghost use Rattle.octets.specs.Basics.{all};
-ghost use Rattle.tape.specs.Scan.{soundTape, PastString, Scans};
+ghost use Rattle.tape.specs.Scan.{soundTape, PastString, Scans, keysFrom, keysAlong};
 
 // A turn of the scan: the place that it goes on from, or that something is not sound.
 pub enum Scanned {
@@ -24,7 +23,7 @@ pub enum Scanned {
 const SURROGATE: u8 = 237;
 
 // Behind the string whose text stands at `at`, unless a lone surrogate stands in it.
-fn past_octets(t: &[u8], at: usize) -> Scanned
+fn past_string(t: &[u8], at: usize) -> Scanned
     ensures { λ r. ⌜ PastString (now (t .entry)) at r ⌝ }
 {
     let mut e = at;
@@ -46,26 +45,14 @@ fn past_octets(t: &[u8], at: usize) -> Scanned
     Scanned::To(t.len())
 }
 
-// The same, where `free` says whether the tape has no octet that a surrogate begins with: then the octets are not looked at.
-fn past_string(t: &[u8], at: usize, free: bool) -> Scanned
-    requires { ⌜ free ≡ all (λ c. not (eqb c 237)) (now t) ⌝ }
-    ensures { λ r. ⌜ PastString (now (t .entry)) at r ⌝ }
-{
-    if free {
-        let e = past_text(&*t, at);
-        return Scanned::To(e);
-    }
-    past_octets(&*t, at)
-}
-
 // One turn of the scan: past a text, and otherwise one octet on.
-fn scan(t: &[u8], at: usize, free: bool) -> Scanned
-    requires { ⌜ at < length (now t) ⌝ ∗ ⌜ free ≡ all (λ c. not (eqb c 237)) (now t) ⌝ }
+fn scan(t: &[u8], at: usize) -> Scanned
+    requires { ⌜ at < length (now t) ⌝ }
     ensures { λ r. ⌜ Scans (now (t .entry)) at r ⌝ }
 {
     let b = t[at];
     match b {
-        STRING => past_string(t, at + 1, free),
+        STRING => past_string(t, at + 1),
         NUMBER => {
             let e = past_text(t, at + 1);
             Scanned::To(e)
@@ -81,14 +68,13 @@ fn scan(t: &[u8], at: usize, free: bool) -> Scanned
     }
 }
 
-// Whether the whole tape is sound.
-pub fn is_sound(t: &[u8]) -> bool
+// Whether the whole tape is sound, value by value.
+fn each_sound(t: &[u8]) -> bool
     ensures { λ r. ⌜ r ≡ soundTape (now (t .entry)) ⌝ }
 {
-    let free = is_free(t, SURROGATE);
     let mut i = 0;
     while i < t.len() {
-        let s = scan(t, i, free);
+        let s = scan(t, i);
         match s {
             Scanned::To(e) => {
                 i = e;
@@ -99,4 +85,71 @@ pub fn is_sound(t: &[u8]) -> bool
         }
     }
     true
+}
+
+// Passes whole blocks that have no octet of an object's tag.
+fn past_blocks(t: &[u8], at: usize) -> usize
+    ensures { λ r. ⌜ (at ≤ r) × (keysFrom (now (t .entry)) r ≡ keysFrom (now (t .entry)) at) ⌝ }
+{
+    let n = t.len();
+    let mut i = at;
+    while i < n {
+        if n - i < BLOCK {
+            return i;
+        }
+        if is_free(&t[i..i + BLOCK], OBJECT) {
+            i += BLOCK;
+        } else {
+            return i;
+        }
+    }
+    i
+}
+
+// The next octet from `at` on that may be an object's tag, or the end.
+fn next_object(t: &[u8], at: usize) -> usize
+    ensures { λ r. ⌜ (at ≤ r) × (keysFrom (now (t .entry)) r ≡ keysFrom (now (t .entry)) at) ⌝ }
+{
+    let mut i = past_blocks(t, at);
+    while i < t.len() {
+        if t[i] == OBJECT {
+            return i;
+        }
+        i += 1;
+    }
+    i
+}
+
+// Whether the keys behind each octet that may be an object's tag are all different. Behind an end it is surely a tag; elsewhere it may stand in a
+// text, and the answer is no.
+fn all_distinct(t: &[u8]) -> bool
+    ensures { λ r. ⌜ (r ≡ true → keysAlong (now (t .entry)) ≡ true) ⌝ }
+{
+    let mut i = next_object(t, 0);
+    while i < t.len() {
+        if i == 0 {
+            return false;
+        }
+        if t[i - 1] != END {
+            return false;
+        }
+        if !keys_distinct(t, i + 1) {
+            return false;
+        }
+        i = next_object(t, i + 1);
+    }
+    true
+}
+
+// Whether the whole tape is sound. Without the octet that a surrogate begins with, only keys can fault, and they are looked for without passing
+// each string.
+pub fn is_sound(t: &[u8]) -> bool
+    ensures { λ r. ⌜ r ≡ soundTape (now (t .entry)) ⌝ }
+{
+    if is_free(t, SURROGATE) {
+        if all_distinct(t) {
+            return true;
+        }
+    }
+    each_sound(t)
 }

@@ -10,7 +10,7 @@ ghost use Rattle.tape.specs.Decode.{textAt};
 ghost use Rattle.tape.specs.Promise.{Sought};
 
 // Octets that are looked at together.
-const BLOCK: usize = 16;
+pub const BLOCK: usize = 16;
 
 // Whether no octet was `b`, and `c` is none.
 fn still_free(free: bool, c: u8, b: u8) -> bool

@@ -1,21 +1,69 @@
 -- `tape::sounding::past_string` meets its contract.
-use mathlib.Core.Path.{sym, _∙_}
+use Prim.Native.Nat.{_-_}
+use native.Mathlib.Omega.{arith}
 use borrow.Author.Needs.{needs}
-use Rattle.tape.proofs.Scans.{none-lone}
+use lib.ListN.{length}
+use Rattle.tape.proofs.Scans.{Seeking, seek-start, seek-past, seek-end, seek-lone, seek-low, seek-other}
 use Rattle.tape.proofs.sounding.past_string.Statement.{statement}
 use Rattle.tape.proofs.sounding.past_string.Tie as tie
 
-past-text-requires : tie.Need-past-text-requires
-past-text-requires c κs = search needs
+abbrev Inv-loop : tie.InvT-loop
+Inv-loop t at e₀ p₀ e p = Seeking t at e p
 
-returns : tie.Need-returns
-returns c = (none-lone _ _ (sym (c .before .before .before .pre) ∙ c .before .if1 .taken), c .past-text .ensures)
+abbrev μ-loop : tie.MeasureT-loop
+μ-loop t at e₀ p₀ e p = length t - e
 
-past-octets-requires : tie.Need-past-octets-requires
-past-octets-requires c κs = search needs
+loop-holds : tie.Need-loop-holds Inv-loop μ-loop
+loop-holds c = seek-start
 
-returns-2 : tie.Need-returns-2
-returns-2 c = search needs
+shared-slice-read-b : tie.Need-shared-slice-read-b Inv-loop μ-loop
+shared-slice-read-b c = search needs
+
+add-e : tie.Need-add-e Inv-loop μ-loop
+add-e c = search needs
+
+loop-less : tie.Need-loop-less Inv-loop μ-loop
+loop-less c = search needs
+
+loop-again : tie.Need-loop-again Inv-loop μ-loop
+loop-again c = seek-low (c .before .before .before .loop .inv) (c .before .before .loop-test .taken) (λ z. omega arith) (c .if1 .taken)
+
+add-t11 : tie.Need-add-t11 Inv-loop μ-loop
+add-t11 c = search needs
+
+returns : tie.Need-returns Inv-loop μ-loop
+returns c = seek-end (c .before .before .before .before .loop .inv) (c .before .before .before .loop-test .taken) (c .if2 .taken)
+
+returns-2 : tie.Need-returns-2 Inv-loop μ-loop
+returns-2 c = seek-lone (c .before .before .before .before .before .loop .inv) (c .before .before .before .before .loop-test .taken) (c .before .if2 .left) (c .if3 .taken) (c .before .before .if1 .left)
+
+add-e-2 : tie.Need-add-e-2 Inv-loop μ-loop
+add-e-2 c = search needs
+
+loop-less-2 : tie.Need-loop-less-2 Inv-loop μ-loop
+loop-less-2 c = search needs
+
+loop-again-2 : tie.Need-loop-again-2 Inv-loop μ-loop
+loop-again-2 c = seek-other (c .before .before .before .before .before .loop .inv) (c .before .before .before .before .loop-test .taken) (c .before .if2 .left) (c .if3 .left)
+
+returns-3 : tie.Need-returns-3 Inv-loop μ-loop
+returns-3 c = seek-past (c .before .loop .inv) (c .loop-test .left)
 
 pub past-string-spec : {M : Type 1} → statement M
-past-string-spec = tie.close (tie.spec past-text-requires returns past-octets-requires returns-2)
+past-string-spec =
+    tie.close
+    (tie.spec
+    Inv-loop
+    μ-loop
+    loop-holds
+    shared-slice-read-b
+    add-e
+    loop-less
+    loop-again
+    add-t11
+    returns
+    returns-2
+    add-e-2
+    loop-less-2
+    loop-again-2
+    returns-3)

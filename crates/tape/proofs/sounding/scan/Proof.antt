@@ -12,7 +12,7 @@ add-past-string : tie.Need-add-past-string
 add-past-string c = search needs
 
 past-string-requires : tie.Need-past-string-requires
-past-string-requires c κs = c .before .before .before .pre .1
+past-string-requires c κs = search needs
 
 add-past-text : tie.Need-add-past-text
 add-past-text c = search needs
@@ -26,26 +26,26 @@ add-keys-distinct c = search needs
 keys-distinct-requires : tie.Need-keys-distinct-requires
 keys-distinct-requires c κs = search needs
 
+add-t13 : tie.Need-add-t13
+add-t13 c = search needs
+
 add-t14 : tie.Need-add-t14
 add-t14 c = search needs
 
-add-t15 : tie.Need-add-t15
-add-t15 c = search needs
-
 returns : tie.Need-returns
-returns c = scan-string (c .before .before .before .before .args .t .now) _ (c .before .before .before .before .pre .0) (c .before .match .keys1) (c .past-string .result) (c .past-string .ensures)
+returns c = scan-string (c .before .before .before .before .args .t .now) _ (c .before .before .before .before .pre) (c .before .match .keys1) (c .past-string .result) (c .past-string .ensures)
 
 returns-2 : tie.Need-returns-2
-returns-2 c = scan-number _ _ (c .before .before .before .before .pre .0) (c .before .match .keys2) (c .past-text .ensures)
+returns-2 c = scan-number _ _ (c .before .before .before .before .pre) (c .before .match .keys2) (c .past-text .ensures)
 
 returns-3 : tie.Need-returns-3
-returns-3 c = scan-object _ _ (c .before .before .before .before .before .pre .0) (c .before .before .match .keys3) (sym (c .before .keys-distinct .ensures) ∙ c .if1 .taken)
+returns-3 c = scan-object _ _ (c .before .before .before .before .before .pre) (c .before .before .match .keys3) (sym (c .before .keys-distinct .ensures) ∙ c .if1 .taken)
 
 returns-4 : tie.Need-returns-4
-returns-4 c = scan-twice _ _ (c .before .before .before .before .before .pre .0) (c .before .before .match .keys3) (sym (c .before .keys-distinct .ensures) ∙ c .if1 .left)
+returns-4 c = scan-twice _ _ (c .before .before .before .before .before .pre) (c .before .before .match .keys3) (sym (c .before .keys-distinct .ensures) ∙ c .if1 .left)
 
 returns-5 : tie.Need-returns-5
-returns-5 c = scan-other _ _ (c .before .before .before .pre .0) (c .match .rest .0 .0 .1) (c .match .rest .0 .1) (c .match .rest .1)
+returns-5 c = scan-other _ _ (c .before .before .before .pre) (c .match .rest .0 .0 .1) (c .match .rest .0 .1) (c .match .rest .1)
 
 pub scan-spec : {M : Type 1} → statement M
 scan-spec =
@@ -58,8 +58,8 @@ scan-spec =
     past-text-requires
     add-keys-distinct
     keys-distinct-requires
+    add-t13
     add-t14
-    add-t15
     returns
     returns-2
     returns-3
