@@ -1,21 +1,21 @@
--- Reading a duration by a table of states and classes of octets: the table is the definition's, entry by entry.
-use Prim.Native.Nat.{ℕ, zero, suc, _+_, _-_, _*_, _/_, _%_, _≤_, _<_}
+-- Reading a duration by its states' letters: each step is the definition's.
+use Prim.Native.Nat.{ℕ, _+_, _-_, _≤_, _<_}
 use Prim.Native.Char.{code}
 use mathlib.Core.Path.{_≡_, refl, sym, ap, _∙_}
 use mathlib.Core.Bool.{Bool, true, false, not}
 use mathlib.Core.Logic.{_⊎_, inl, inr, ⊎-elim}
 use mathlib.Core.List.{List, [], _∷_}
 use native.Mathlib.Omega.{arith}
-use borrow.Author.Tests.{eqb-true, ne-eqb, not-true}
+use borrow.Author.Tests.{ne-eqb, not-true}
 use lib.Dec.{eqb}
 use lib.ListN.{length, getD, drop}
-use Rattle.octets.specs.Basics.{octets, pick, _or_}
+use Rattle.octets.specs.Basics.{pick, _or_}
 use Rattle.octets.specs.Classes.{between, isDigit, upperOctet, upper}
 use Rattle.octets.specs.Decimal.{isSign}
-use Rattle.octets.proofs.Cases.{cases, same?, never, either, apart, apart-not}
+use Rattle.octets.proofs.Cases.{cases, never, apart, apart-not}
 use Rattle.octets.proofs.Positions.{here, ended}
 use Rattle.calendar.specs.Durations.{Span, start, signed, afterP, dayDigits, days, afterT, timeDigits, hours, minuteDigits, minutes, secondDigits, finished, wrong, span, spanAfter, mayEnd}
-use Rattle.calendar.specs.Phases.{phases, phaseAt, classOf}
+use Rattle.calendar.specs.Phases.{phases, phaseAt}
 use Rattle.calendar.proofs.Ranges.{below, each-below, alike, agree}
 
 -- a step by the tests of the octet alone
@@ -55,50 +55,40 @@ by-tests secondDigits c = refl
 by-tests finished c = refl
 by-tests wrong c = refl
 
--- an octet of each class
-abbrev memberOf : ℕ → ℕ
-memberOf k = getD (octets "0+PTDWHMS") k 0
+-- each digit counts as 0
+digits-tested : (q : Span) (c : ℕ) → isDigit c ≡ true → tested q c ≡ tested q (code "0")
+unfolding tested isSign isDigit between
+digits-tested q c e =
+    let n : (k : ℕ) → isDigit k ≡ false → eqb c k ≡ false = λ k f. apart isDigit c k e f in
+    rw (e, n (code "+") refl, n (code "-") refl, n (code "P") refl, n (code "T") refl, n (code "D") refl, n (code "W") refl, n (code "H") refl, n (code "M") refl, n (code "S") refl)
 
--- an octet counts by its class alone
-module _ (q : Span) (c : ℕ) where
-  abbrev Counts : Type 0
-  Counts = tested q c ≡ tested q (memberOf (classOf c))
+digits-alike : (q : Span) (c : ℕ) → isDigit c ≡ true → span q c ≡ span q (code "0")
+digits-alike q c e = by-tests q c ∙ digits-tested q c e ∙ sym (by-tests q (code "0"))
 
-  digit-counts : isDigit c ≡ true → Counts
-  unfolding tested classOf isSign isDigit between
-  digit-counts e =
-      let n : (k : ℕ) → isDigit k ≡ false → eqb c k ≡ false = λ k f. apart isDigit c k e f in
-      rw (e, n (code "+") refl, n (code "-") refl, n (code "P") refl, n (code "T") refl, n (code "D") refl, n (code "W") refl, n (code "H") refl, n (code "M") refl, n (code "S") refl)
+all-false : (q : Span) → spanBy q false false false false false false false false false ≡ wrong
+unfolding spanBy
+all-false start = refl
+all-false signed = refl
+all-false afterP = refl
+all-false dayDigits = refl
+all-false days = refl
+all-false afterT = refl
+all-false timeDigits = refl
+all-false hours = refl
+all-false minuteDigits = refl
+all-false minutes = refl
+all-false secondDigits = refl
+all-false finished = refl
+all-false wrong = refl
 
-  letter-counts : (k : ℕ) → tested q k ≡ tested q (memberOf (classOf k)) → c ≡ k → Counts
-  letter-counts k h e = rw e h
-
-  other-counts : isDigit c ≡ false → isSign c ≡ false → eqb c (code "P") ≡ false → eqb c (code "T") ≡ false → eqb c (code "D") ≡ false → eqb c (code "W") ≡ false
-      → eqb c (code "H") ≡ false → eqb c (code "M") ≡ false → eqb c (code "S") ≡ false → Counts
-  unfolding tested classOf
-  other-counts g n p t d w h m s = rw (g, n, p, t, d, w, h, m, s) (unfold isDigit isSign between in refl)
-
-  counts : Counts
-  counts =
-      cases (isDigit c) digit-counts λ g.
-      cases (isSign c)
-      (λ n. either (eqb c (code "+")) (eqb c (code "-")) (unfold isSign in n)
-      (λ e. letter-counts (code "+") (unfold tested classOf isDigit isSign between in refl) (eqb-true c _ e))
-      (λ e. letter-counts (code "-") (unfold tested classOf isDigit isSign between in refl) (eqb-true c _ e))) λ n.
-      same? c (code "P") (letter-counts (code "P") (unfold tested classOf isDigit isSign between in refl)) λ p.
-      same? c (code "T") (letter-counts (code "T") (unfold tested classOf isDigit isSign between in refl)) λ t.
-      same? c (code "D") (letter-counts (code "D") (unfold tested classOf isDigit isSign between in refl)) λ d.
-      same? c (code "W") (letter-counts (code "W") (unfold tested classOf isDigit isSign between in refl)) λ w.
-      same? c (code "H") (letter-counts (code "H") (unfold tested classOf isDigit isSign between in refl)) λ h.
-      same? c (code "M") (letter-counts (code "M") (unfold tested classOf isDigit isSign between in refl)) λ m.
-      same? c (code "S") (letter-counts (code "S") (unfold tested classOf isDigit isSign between in refl)) λ s.
-      other-counts g n p t d w h m s
-
-  by-class : span q c ≡ span q (memberOf (classOf c))
-  by-class = by-tests q c ∙ counts ∙ sym (by-tests q (memberOf (classOf c)))
+-- an octet that no test takes
+no-test : (q : Span) (c : ℕ) → isDigit c ≡ false → eqb c (code "+") ≡ false → eqb c (code "-") ≡ false → eqb c (code "P") ≡ false → eqb c (code "T") ≡ false
+    → eqb c (code "D") ≡ false → eqb c (code "W") ≡ false → eqb c (code "H") ≡ false → eqb c (code "M") ≡ false → eqb c (code "S") ≡ false → span q c ≡ wrong
+unfolding tested isSign
+no-test q c g n o p t d w h m s = by-tests q c ∙ rw (g, n, o, p, t, d, w, h, m, s) (all-false q)
 
 -- the letter of a state
-letterOf : Span → ℕ
+unfoldable pub letterOf : Span → ℕ
 letterOf start = code "a"
 letterOf signed = code "b"
 letterOf afterP = code "c"
@@ -129,26 +119,39 @@ letter-back secondDigits = (refl, omega arith)
 letter-back finished = (refl, omega arith)
 letter-back wrong = (refl, omega arith)
 
-abbrev table : List ℕ
-table =
-    octets "mbcmmmmmmmmmcmmmmmmmdmmfmmmmmmdmmmelmmmmmmmfmmmmmmgmmmmmmmmmgmmmmmhjlmimmmmmmmmmimmmmmmjmmkmmmmmmmmmkmmmmmmmlmmmmmmmmmmmmmmmmmmmmm"
+-- r is the letter of the state behind p and c
+abbrev pub Follows : ℕ → ℕ → ℕ → Type 0
+Follows p c r = (phaseAt r ≡ span (phaseAt p) c) × ((97 ≤ r) × (r ≤ 109))
 
-abbrev entry : ℕ → ℕ
-entry k = letterOf (span (phaseAt (97 + k / 10)) (memberOf (k % 10)))
+abbrev pub after : ℕ → ℕ → ℕ
+after p c = letterOf (span (phaseAt p) c)
 
-table-right : below (alike (λ k. getD table k 0) entry) 130 ≡ true
-unfolding below letterOf phaseAt phases span isDigit isSign between
-table-right = refl
+follows : (p c r : ℕ) → r ≡ after p c → Follows p c r
+follows p c r e = let t = letter-back (span (phaseAt p) c) in (rw e (t .0), (rw e (t .1 .0), rw e (t .1 .1)))
 
-pub next-right : (p c k : ℕ) → 97 ≤ p → p ≤ 109 → k ≡ classOf c → k < 10
-    → (phaseAt (getD table ((p - 97) * 10 + k) 0) ≡ span (phaseAt p) c) × ((97 ≤ getD table ((p - 97) * 10 + k) 0) × (getD table ((p - 97) * 10 + k) 0 ≤ 109))
-next-right p c k a b e l =
-    let row : 97 + ((p - 97) * 10 + k) / 10 ≡ p = omega arith in
-    let column : ((p - 97) * 10 + k) % 10 ≡ k = omega arith in
-    let q = span (phaseAt p) (memberOf k) in
-    let x : getD table ((p - 97) * 10 + k) 0 ≡ letterOf q = rw (row, column) at (agree (λ k. getD table k 0) entry 130 table-right ((p - 97) * 10 + k) (omega arith)) in
-    let t = letter-back q in
-    (rw x (t .0 ∙ sym (by-class (phaseAt p) c ∙ ap (λ k. span (phaseAt p) (memberOf k)) (sym e))), (rw x (t .1 .0), rw x (t .1 .1)))
+-- one state follows n states from `low` on
+pub range-follows : (c low n r : ℕ) → below (alike (λ k. r) (λ k. after (k + low) c)) n ≡ true → (p : ℕ) → low ≤ p → p < low + n → Follows p c r
+range-follows c low n r t p a b =
+    let back : p - low + low ≡ p = omega arith in
+    follows p c r (rw back at (agree (λ k. r) (λ k. after (k + low) c) n t (p - low) (omega arith)))
+
+-- a state follows two states alone
+abbrev pub alone : ℕ → ℕ → ℕ → ℕ → ℕ
+alone one other to p = pick (eqb p one or eqb p other) to 109
+
+pub alone-follows : (x one other to : ℕ) → below (alike (λ k. alone one other to (k + 97)) (λ k. after (k + 97) x)) 13 ≡ true
+    → (p c r : ℕ) → 97 ≤ p → p ≤ 109 → c ≡ x → r ≡ alone one other to p → Follows p c r
+alone-follows x one other to t p c r a b h e =
+    let back : p - 97 + 97 ≡ p = omega arith in
+    rw h (follows p x r (e ∙ rw back at (agree (λ k. alone one other to (k + 97)) (λ k. after (k + 97) x) 13 t (p - 97) (omega arith))))
+
+pub digit-follows : (p c r : ℕ) → isDigit c ≡ true → Follows p (code "0") r → Follows p c r
+digit-follows p c r e f = (f .0 ∙ sym (digits-alike (phaseAt p) c e), f .1)
+
+pub other-follows : (p c : ℕ) → isDigit c ≡ false → eqb c (code "+") ≡ false → eqb c (code "-") ≡ false → eqb c (code "P") ≡ false → eqb c (code "T") ≡ false
+    → eqb c (code "D") ≡ false → eqb c (code "W") ≡ false → eqb c (code "H") ≡ false → eqb c (code "M") ≡ false → eqb c (code "S") ≡ false → Follows p c 109
+unfolding letterOf
+other-follows p c g n o k t d w h m s = follows p c 109 (sym (ap letterOf (no-test (phaseAt p) c g n o k t d w h m s)))
 
 -- the states in which a duration may end
 pub ends-there : (p : ℕ) → (p ≡ 101) ⊎ ((p ≡ 104) ⊎ ((p ≡ 106) ⊎ (p ≡ 108))) → true ≡ mayEnd (phaseAt p)
@@ -193,27 +196,11 @@ unfolding spanAfter span
 wrong-stays [] = refl
 wrong-stays (c ∷ s) = wrong-stays s
 
-all-false : (q : Span) → spanBy q false false false false false false false false false ≡ wrong
-unfolding spanBy
-all-false start = refl
-all-false signed = refl
-all-false afterP = refl
-all-false dayDigits = refl
-all-false days = refl
-all-false afterT = refl
-all-false timeDigits = refl
-all-false hours = refl
-all-false minuteDigits = refl
-all-false minutes = refl
-all-false secondDigits = refl
-all-false finished = refl
-all-false wrong = refl
-
 pub no-octet : (q : Span) (c : ℕ) (p : ℕ → Bool) → p c ≡ false → (isDigit c ≡ true → p c ≡ true) → ((k : ℕ) → between (code "+") (code "W") k ≡ true → p k ≡ true) → span q c ≡ wrong
-unfolding tested isSign
 no-octet q c p n d l =
     let g : isDigit c ≡ false = cases (isDigit c) (λ e. never (d e) n) (λ e. e) in
     let m : (k : ℕ) → between (code "+") (code "W") k ≡ true → eqb c k ≡ false = λ k h. apart-not p c k n (l k h) in
-    by-tests q c
-    ∙ rw (g, m (code "+") (unfold between in refl), m (code "-") (unfold between in refl), m (code "P") (unfold between in refl), m (code "T") (unfold between in refl), m (code "D") (unfold between in refl), m (code "W") (unfold between in refl), m (code "H") (unfold between in refl), m (code "M") (unfold between in refl), m (code "S") (unfold between in refl))
-    (all-false q)
+    no-test q c g
+    (m (code "+") (unfold between in refl)) (m (code "-") (unfold between in refl)) (m (code "P") (unfold between in refl)) (m (code "T") (unfold between in refl))
+    (m (code "D") (unfold between in refl)) (m (code "W") (unfold between in refl)) (m (code "H") (unfold between in refl)) (m (code "M") (unfold between in refl))
+    (m (code "S") (unfold between in refl))

@@ -1,12 +1,15 @@
 // Durations and the ends of periods.
 ghost use mathlib.Core.Path.{_≡_};
+ghost use mathlib.Core.Bool.{false};
 ghost use mathlib.Core.List.{[]};
-ghost use Prim.Native.Nat.{_≤_, _<_};
+ghost use Prim.Native.Nat.{_≤_};
+ghost use lib.Dec.{eqb};
+ghost use Rattle.octets.specs.Basics.{pick, _or_};
 ghost use Rattle.octets.specs.Optional.{isSome, given};
-ghost use Rattle.octets.specs.Classes.{upper};
+ghost use Rattle.octets.specs.Classes.{isDigit, upper};
 ghost use Rattle.octets.specs.Pen.{pen, Wrote};
 ghost use Rattle.calendar.specs.Durations.{span, mayEnd, durationIs, forwardIs, periodEndOf, periodEndIs};
-ghost use Rattle.calendar.specs.Phases.{phaseAt, classOf};
+ghost use Rattle.calendar.specs.Phases.{phaseAt};
 use crate::texts::Form;
 use crate::texts::extended;
 use crate::texts::is_basic;
@@ -17,39 +20,48 @@ use octets::peek;
 use octets::put_upper;
 use octets::upper_octet;
 
-// The next state, a row for each state: behind a digit, a sign, P, T, D, W, H, M, S, and any other octet.
-const NEXT: [u8; 130] = *b"\
-    mbcmmmmmmm\
-    mmcmmmmmmm\
-    dmmfmmmmmm\
-    dmmmelmmmm\
-    mmmfmmmmmm\
-    gmmmmmmmmm\
-    gmmmmmhjlm\
-    immmmmmmmm\
-    immmmmmjmm\
-    kmmmmmmmmm\
-    kmmmmmmmlm\
-    mmmmmmmmmm\
-    mmmmmmmmmm";
-
-// The column of an octet in `NEXT`.
-fn class_of(c: u8) -> usize
-    ensures { λ r. ⌜ (r ≡ classOf c) × (r < 10) ⌝ }
+// The state behind a digit, which 0 stands for.
+fn after_digit(p: u8) -> u8
+    requires { ⌜ (97 ≤ p) × (p ≤ 109) ⌝ }
+    ensures { λ r. ⌜ (phaseAt r ≡ span (phaseAt p) 48) × ((97 ≤ r) × (r ≤ 109)) ⌝ }
 {
-    if is_digit(c) {
-        return 0;
+    match p {
+        b'c' | b'd' => b'd',
+        b'f' | b'g' => b'g',
+        b'h' | b'i' => b'i',
+        b'j' | b'k' => b'k',
+        _ => b'm',
     }
+}
+
+// The state `to` behind one of two states, and behind any other that of what is no duration.
+fn only_behind(p: u8, one: u8, other: u8, to: u8) -> u8
+    ensures { λ r. ⌜ r ≡ pick (eqb p one or eqb p other) to 109 ⌝ }
+{
+    if p == one {
+        return to;
+    }
+    if p == other {
+        return to;
+    }
+    b'm'
+}
+
+// The state behind an octet that is no digit.
+fn after_letter(p: u8, c: u8) -> u8
+    requires { ⌜ ((97 ≤ p) × (p ≤ 109)) × (isDigit c ≡ false) ⌝ }
+    ensures { λ r. ⌜ (phaseAt r ≡ span (phaseAt p) c) × ((97 ≤ r) × (r ≤ 109)) ⌝ }
+{
     match c {
-        b'+' | b'-' => 1,
-        b'P' => 2,
-        b'T' => 3,
-        b'D' => 4,
-        b'W' => 5,
-        b'H' => 6,
-        b'M' => 7,
-        b'S' => 8,
-        _ => 9,
+        b'+' | b'-' => only_behind(p, b'a', b'a', b'b'),
+        b'P' => only_behind(p, b'a', b'b', b'c'),
+        b'T' => only_behind(p, b'c', b'e', b'f'),
+        b'D' => only_behind(p, b'd', b'd', b'e'),
+        b'W' => only_behind(p, b'd', b'd', b'l'),
+        b'H' => only_behind(p, b'g', b'g', b'h'),
+        b'M' => only_behind(p, b'g', b'i', b'j'),
+        b'S' => only_behind(p, b'g', b'k', b'l'),
+        _ => b'm',
     }
 }
 
@@ -58,7 +70,10 @@ fn next(p: u8, c: u8) -> u8
     requires { ⌜ (97 ≤ p) × (p ≤ 109) ⌝ }
     ensures { λ r. ⌜ (phaseAt r ≡ span (phaseAt p) c) × ((97 ≤ r) × (r ≤ 109)) ⌝ }
 {
-    NEXT[((p - b'a') as usize) * 10 + class_of(c)]
+    if is_digit(c) {
+        return after_digit(p);
+    }
+    after_letter(p, c)
 }
 
 // A duration may end in this state: behind the days, the hours, the minutes, or all of it.

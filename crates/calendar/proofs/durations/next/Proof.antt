@@ -1,38 +1,26 @@
--- `calendar::durations::next` meets its contract: the table is the definition's, entry by entry.
+-- `calendar::durations::next` meets its contract.
+use mathlib.Core.Path.{sym, _∙_}
 use borrow.Author.Needs.{needs}
-use Rattle.calendar.proofs.Phases.{next-right}
+use Rattle.calendar.proofs.Phases.{digit-follows}
 use Rattle.calendar.proofs.durations.next.Statement.{statement}
 use Rattle.calendar.proofs.durations.next.Tie as tie
 
-sub-result : tie.Need-sub-result
-sub-result c = search needs
+is-digit-requires : tie.Need-is-digit-requires
+is-digit-requires c κs = search needs
 
-cast-result : tie.Need-cast-result
-cast-result c = search needs
-
-mul-result : tie.Need-mul-result
-mul-result c = search needs
-
-class-of-requires : tie.Need-class-of-requires
-class-of-requires c κs = search needs
-
-add-result : tie.Need-add-result
-add-result c = search needs
-
-array-read-result : tie.Need-array-read-result
-array-read-result c = search needs
+after-digit-requires : tie.Need-after-digit-requires
+after-digit-requires c κs = search needs
 
 returns : tie.Need-returns
-returns c = next-right (c .before .args .p) (c .before .args .c) _ (c .before .pre .0) (c .before .pre .1) (c .class-of .ensures .0) (c .class-of .ensures .1)
+returns c = digit-follows _ _ _ (sym (c .before .before .is-digit .ensures) ∙ c .before .if1 .taken) (c .after-digit .ensures)
+
+after-letter-requires : tie.Need-after-letter-requires
+after-letter-requires c κs = (c .before .before .pre, sym (c .before .is-digit .ensures) ∙ c .if1 .left)
+
+returns-2 : tie.Need-returns-2
+returns-2 c = search needs
 
 pub next-spec : {M : Type 1} → statement M
 next-spec =
     tie.close
-    (tie.spec
-    sub-result
-    cast-result
-    mul-result
-    class-of-requires
-    add-result
-    array-read-result
-    returns)
+    (tie.spec is-digit-requires after-digit-requires returns after-letter-requires returns-2)
