@@ -86,7 +86,7 @@ fn is_frequency(s: &[u8]) -> bool
 fn is_weekday(s: &[u8]) -> bool
     ensures { λ r. ⌜ r ≡ isSome (wordOf weekdays (upper (now (s .entry)))) ⌝ }
 {
-    word_place(b"SU,MO,TU,WE,TH,FR,SA", s) < 7
+    word_place(b"SU,MO,TU,WE,TH,FR,SA", &*s) < 7
 }
 
 // A weekday, and a number in front of it or none.
@@ -185,11 +185,11 @@ pub fn put_item(out: &mut [u8], at: usize, sort: ItemSort, s: &[u8]) -> usize
     ensures { λ r. ⌜ Wrote (pen (now (out .entry)) at) (itemShown (sortSaid sort) (now (s .entry))) (pen (now (out .exit)) r) ⌝ }
 {
     match sort {
-        ItemSort::Frequency => put_upper(out, at, s),
-        ItemSort::Moment => put_upper(out, at, s),
-        ItemSort::Count => put_integer_text(out, at, s),
-        ItemSort::Weekday => put_upper(out, at, s),
-        ItemSort::Ordinal => put_ordinal(out, at, s),
-        ItemSort::Numbers(_) => put_integer_text(out, at, s),
+        ItemSort::Frequency => put_upper(out, at, &*s),
+        ItemSort::Moment => put_upper(out, at, &*s),
+        ItemSort::Count => put_integer_text(out, at, &*s),
+        ItemSort::Weekday => put_upper(out, at, &*s),
+        ItemSort::Ordinal => put_ordinal(out, at, &*s),
+        ItemSort::Numbers(_) => put_integer_text(out, at, &*s),
     }
 }

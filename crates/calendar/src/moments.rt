@@ -107,7 +107,7 @@ fn moment_from(t: &[u8]) -> Moment
 pub fn read_moment(s: &[u8]) -> MomentRead
     ensures { λ r. ⌜ momentSaid r ≡ readMoment (now (s .entry)) ⌝ }
 {
-    let t = extended_moment(s);
+    let t = extended_moment(&*s);
     let o = t.octets;
     let n = t.len;
     if n == 0 {

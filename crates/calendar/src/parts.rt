@@ -83,19 +83,19 @@ pub fn key_place(name: &[u8]) -> usize
 {
     match name.len() {
         4 => {
-            let wkst = chosen(name, b"WKST", 13, 14);
-            chosen(name, b"FREQ", 0, wkst)
+            let wkst = chosen(&*name, b"WKST", 13, 14);
+            chosen(&*name, b"FREQ", 0, wkst)
         }
         5 => {
-            let by_day = chosen(name, b"BYDAY", 7, 14);
-            let count = chosen(name, b"COUNT", 2, by_day);
-            chosen(name, b"UNTIL", 1, count)
+            let by_day = chosen(&*name, b"BYDAY", 7, 14);
+            let count = chosen(&*name, b"COUNT", 2, by_day);
+            chosen(&*name, b"UNTIL", 1, count)
         }
-        6 => chosen(name, b"BYHOUR", 6, 14),
-        7 => chosen(name, b"BYMONTH", 11, 14),
-        8 => long_key_place(name),
-        9 => chosen(name, b"BYYEARDAY", 9, 14),
-        10 => chosen(name, b"BYMONTHDAY", 8, 14),
+        6 => chosen(&*name, b"BYHOUR", 6, 14),
+        7 => chosen(&*name, b"BYMONTH", 11, 14),
+        8 => long_key_place(&*name),
+        9 => chosen(&*name, b"BYYEARDAY", 9, 14),
+        10 => chosen(&*name, b"BYMONTHDAY", 8, 14),
         _ => 14,
     }
 }

@@ -168,7 +168,7 @@ pub fn year(t: &[u8]) -> u32
 fn day_in(t: &[u8]) -> bool
     ensures { λ r. ⌜ r ≡ dayIn (now (t .entry)) ⌝ }
 {
-    is_day(year(t), pair(t, 5), pair(t, 8))
+    is_day(year(&*t), pair(&*t, 5), pair(&*t, 8))
 }
 
 // There is such a time of day.
@@ -266,7 +266,7 @@ fn shape(form: Form, whole: bool, s: &[u8]) -> Text
 fn take(form: Form, whole: bool, s: &[u8]) -> Text
     ensures { λ r. ⌜ Says r (taken whole form (upper (now (s .entry)))) ⌝ }
 {
-    let t = shape(form, whole, s);
+    let t = shape(form, whole, &*s);
     let o = t.octets;
     let n = t.len;
     if n == 0 {
@@ -306,24 +306,24 @@ pub fn basic(form: Form, t: &[u8]) -> Text
     ensures { λ r. ⌜ Carries r (formText form (upper (now (t .entry)))) ⌝ }
 {
     match form {
-        Form::Date => strip(b"9999-99-99", t),
+        Form::Date => strip(b"9999-99-99", &*t),
         Form::Time => {
             if 9 <= t.len() {
-                return strip(b"99:99:99Z", t);
+                return strip(b"99:99:99Z", &*t);
             }
-            strip(b"99:99:99", t)
+            strip(b"99:99:99", &*t)
         }
         Form::DateTime => {
             if 20 <= t.len() {
-                return strip(b"9999-99-99T99:99:99Z", t);
+                return strip(b"9999-99-99T99:99:99Z", &*t);
             }
-            strip(b"9999-99-99T99:99:99", t)
+            strip(b"9999-99-99T99:99:99", &*t)
         }
         Form::Offset => {
             if 7 <= t.len() {
-                return strip(b"+99:99:99", t);
+                return strip(b"+99:99:99", &*t);
             }
-            strip(b"+99:99", t)
+            strip(b"+99:99", &*t)
         }
     }
 }
