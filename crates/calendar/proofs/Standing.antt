@@ -7,14 +7,14 @@ use mathlib.Core.List.{List, [], _∷_, _++_}
 use native.Mathlib.Omega.{arith}
 use borrow.Author.Tests.{le-leb, lt-leb, leb-true, leb-false, eqb-true}
 use lib.Dec.{eqb, leb, ltb}
-use lib.ListN.{length, take, drop}
-use Rattle.octets.specs.Basics.{octets, pick, _and_, _or_, all, filled, among}
+use lib.ListN.{length, getD, take, drop}
+use Rattle.octets.specs.Basics.{octets, pick, _and_, _or_, all, any, filled, same, among}
 use Rattle.octets.specs.Pieces.{split, cut, onto}
 use Rattle.octets.specs.Optional.{isSome}
 use Rattle.octets.specs.Classes.{between, isDigit, isUpper, isLower, upperOctet, upper}
 use Rattle.octets.specs.Decimal.{digits, valueOf, isSign, hasSign, unsigned}
 use Rattle.octets.proofs.Cases.{cases, both, either, and-false-right}
-use Rattle.octets.proofs.Classes.{between-true, below-between, above-between}
+use Rattle.octets.proofs.Classes.{between-true, below-between, above-between, same-length}
 use Rattle.octets.proofs.Decimal.{digits-all}
 use Rattle.octets.proofs.Limits.{most-integer}
 use Rattle.octets.proofs.Positions.{from, upto, part-length}
@@ -149,15 +149,60 @@ pub frequency-words : wordsIn (octets "SECONDLY,MINUTELY,HOURLY,DAILY,WEEKLY,MON
 unfolding wordsIn frequencies split cut onto upper upperOctet isLower between
 frequency-words = refl
 
-pub weekday-words : wordsIn (octets "SU,MO,TU,WE,TH,FR,SA") ≡ weekdays
-unfolding wordsIn weekdays split cut onto upper upperOctet isLower between
-weekday-words = refl
-
 pub frequency-stands : (n : List ℕ) → isSome (wordOf frequencies n) ≡ ltb (wordPlace frequencies n) 7
 frequency-stands n = word-stands frequencies n ∙ ap (ltb (wordPlace frequencies n)) (unfold frequencies in refl)
 
-pub weekday-stands : (n : List ℕ) → isSome (wordOf weekdays n) ≡ ltb (wordPlace weekdays n) 7
-weekday-stands n = word-stands weekdays n ∙ ap (ltb (wordPlace weekdays n)) (unfold weekdays in refl)
+-- a weekday's two letters
+weekday-length : (n : List ℕ) → (length n ≡ 2 → ⊥) → among n weekdays ≡ false
+unfolding among any weekdays
+weekday-length n h =
+    rw (same-length n (octets "SU") h, same-length n (octets "MO") h, same-length n (octets "TU") h, same-length n (octets "WE") h, same-length n (octets "TH") h, same-length n (octets "FR") h, same-length n (octets "SA") h)
+
+two-letters : (s : List ℕ) → length s ≡ 2 → upper s ≡ upperOctet (getD s 0 0) ∷ upperOctet (getD s 1 0) ∷ []
+unfolding upper
+two-letters [] e = absurd (omega arith)
+two-letters (a ∷ []) e = absurd (omega arith)
+two-letters (a ∷ b ∷ []) e = refl
+two-letters (a ∷ b ∷ c ∷ s) e = absurd (omega arith)
+
+module _ (s : List ℕ) where
+  pub no-weekday : (length s ≡ 2 → ⊥) → isSome (wordOf weekdays (upper s)) ≡ false
+  unfolding wordOf
+  no-weekday h = some-when _ _ ∙ weekday-length (upper s) (λ e. h (sym (upper-length s) ∙ e))
+
+  pub weekday-stands : (a b : ℕ) (r : Bool) → length s ≡ 2 → a ≡ upperOctet (getD s 0 0) → b ≡ upperOctet (getD s 1 0) → r ≡ among (a ∷ b ∷ []) weekdays
+      → r ≡ isSome (wordOf weekdays (upper s))
+  unfolding wordOf
+  weekday-stands a b r e f g h = rw (some-when (among (upper s) weekdays) (upper s), two-letters s e, ← f, ← g) h
+
+-- the second letters behind each first one
+module _ (b : ℕ) where
+  abbrev day-behind : ℕ → Bool
+  day-behind a = among (a ∷ b ∷ []) weekdays
+
+  pub behind-s : day-behind (code "S") ≡ (eqb b (code "U") or eqb b (code "A"))
+  unfolding among any same weekdays
+  behind-s = cases (eqb b (code "U")) (λ e. rw e) (λ e. rw e (cases (eqb b (code "A")) (λ f. rw f) (λ f. rw f)))
+
+  pub behind-t : day-behind (code "T") ≡ (eqb b (code "U") or eqb b (code "H"))
+  unfolding among any same weekdays
+  behind-t = cases (eqb b (code "U")) (λ e. rw e) (λ e. rw e (cases (eqb b (code "H")) (λ f. rw f) (λ f. rw f)))
+
+  pub behind-m : day-behind (code "M") ≡ eqb b (code "O")
+  unfolding among any same weekdays
+  behind-m = cases (eqb b (code "O")) (λ e. rw e) (λ e. rw e)
+
+  pub behind-w : day-behind (code "W") ≡ eqb b (code "E")
+  unfolding among any same weekdays
+  behind-w = cases (eqb b (code "E")) (λ e. rw e) (λ e. rw e)
+
+  pub behind-f : day-behind (code "F") ≡ eqb b (code "R")
+  unfolding among any same weekdays
+  behind-f = cases (eqb b (code "R")) (λ e. rw e) (λ e. rw e)
+
+  pub behind-other : (a : ℕ) → eqb a (code "S") ≡ false → eqb a (code "M") ≡ false → eqb a (code "T") ≡ false → eqb a (code "W") ≡ false → eqb a (code "F") ≡ false → day-behind a ≡ false
+  unfolding among any same weekdays
+  behind-other a s m t w f = rw (s, m, t, w, f)
 
 -- a weekday with a number
 module _ (s : List ℕ) (at : ℕ) (is : at ≡ length s - 2) where

@@ -2,8 +2,10 @@
 ghost use mathlib.Core.Path.{_≡_};
 ghost use mathlib.Core.Bool.{not};
 ghost use Prim.Native.Nat.{_-_};
+ghost use mathlib.Core.List.{[], _∷_};
+ghost use lib.Dec.{eqb};
 ghost use lib.ListN.{length};
-ghost use Rattle.octets.specs.Basics.{_and_, _or_};
+ghost use Rattle.octets.specs.Basics.{_and_, _or_, among};
 ghost use Rattle.octets.specs.Optional.{isSome};
 ghost use Rattle.octets.specs.Classes.{between, upper};
 ghost use Rattle.octets.specs.Decimal.{digits, valueOf, hasSign};
@@ -24,6 +26,7 @@ use octets::peek;
 use octets::put_integer_text;
 use octets::put_upper;
 use octets::sign_length;
+use octets::upper_octet;
 use octets::value_of;
 
 // A sign may stand in front, or none does.
@@ -83,10 +86,38 @@ fn is_frequency(s: &[u8]) -> bool
     word_place(b"SECONDLY,MINUTELY,HOURLY,DAILY,WEEKLY,MONTHLY,YEARLY", s) < 7
 }
 
+// The octet is one of two.
+fn is_either(c: u8, one: u8, other: u8) -> bool
+    ensures { λ r. ⌜ r ≡ (eqb c one or eqb c other) ⌝ }
+{
+    if c == one {
+        return true;
+    }
+    c == other
+}
+
+// Two capital letters are a weekday.
+fn are_weekday(a: u8, b: u8) -> bool
+    ensures { λ r. ⌜ r ≡ among (a ∷ b ∷ []) weekdays ⌝ }
+{
+    match a {
+        b'S' => is_either(b, b'U', b'A'),
+        b'M' => b == b'O',
+        b'T' => is_either(b, b'U', b'H'),
+        b'W' => b == b'E',
+        b'F' => b == b'R',
+        _ => false,
+    }
+}
+
+// A weekday, letters in either case.
 fn is_weekday(s: &[u8]) -> bool
     ensures { λ r. ⌜ r ≡ isSome (wordOf weekdays (upper (now (s .entry)))) ⌝ }
 {
-    word_place(b"SU,MO,TU,WE,TH,FR,SA", &*s) < 7
+    if s.len() != 2 {
+        return false;
+    }
+    are_weekday(upper_octet(s[0]), upper_octet(s[1]))
 }
 
 // A weekday, and a number in front of it or none.

@@ -1,24 +1,39 @@
--- `calendar::items::is_weekday` meets its contract.
+-- `calendar::items::is_weekday` meets its contract: a weekday has two letters.
 use mathlib.Core.Path.{sym}
 use borrow.Author.Needs.{needs}
-use Rattle.octets.specs.Classes.{upper}
-use Rattle.calendar.proofs.Standing.{weekday-words, weekday-stands}
+use Rattle.calendar.proofs.Standing.{no-weekday, weekday-stands}
 use Rattle.calendar.proofs.items.is_weekday.Statement.{statement}
 use Rattle.calendar.proofs.items.is_weekday.Tie as tie
 
-slice-aggregate-word-place : tie.Need-slice-aggregate-word-place
-slice-aggregate-word-place c = search needs
-
-word-place-requires : tie.Need-word-place-requires
-word-place-requires c κs = search needs
-
 returns : tie.Need-returns
-returns c = rw (c .word-place .ensures, weekday-words) (sym (weekday-stands (upper (c .before .before .before .args .s .now))))
+returns c = sym (no-weekday _ (c .if1 .taken))
+
+shared-slice-read-upper-octet : tie.Need-shared-slice-read-upper-octet
+shared-slice-read-upper-octet c = search needs
+
+upper-octet-requires : tie.Need-upper-octet-requires
+upper-octet-requires c κs = search needs
+
+shared-slice-read-upper-octet-2 : tie.Need-shared-slice-read-upper-octet-2
+shared-slice-read-upper-octet-2 c = search needs
+
+upper-octet-requires-2 : tie.Need-upper-octet-requires-2
+upper-octet-requires-2 c κs = search needs
+
+are-weekday-requires : tie.Need-are-weekday-requires
+are-weekday-requires c κs = search needs
+
+returns-2 : tie.Need-returns-2
+returns-2 c = weekday-stands _ _ _ _ (c .before .before .before .before .before .if1 .left) (c .before .before .before .upper-octet .ensures) (c .before .upper-octet2 .ensures) (c .are-weekday .ensures)
 
 pub is-weekday-spec : {M : Type 1} → statement M
 is-weekday-spec =
     tie.close
     (tie.spec
-    slice-aggregate-word-place
-    word-place-requires
-    returns)
+    returns
+    shared-slice-read-upper-octet
+    upper-octet-requires
+    shared-slice-read-upper-octet-2
+    upper-octet-requires-2
+    are-weekday-requires
+    returns-2)
