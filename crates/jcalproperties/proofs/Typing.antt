@@ -12,7 +12,7 @@ use lib.ListN.{length, take, drop}
 use Rattle.octets.specs.Basics.{octets, pick, _and_, _or_, all, any, same, filled, twice}
 use Rattle.octets.specs.Optional.{map?}
 use Rattle.octets.specs.Classes.{isName, lower, lowerNameOctet, isLowerName, isLower, isDigit, between}
-use Rattle.octets.specs.Answers.{Answer, refused, accepted, then, orElse, unless, number}
+use Rattle.octets.specs.Answers.{Answer, refused, accepted, then, orElse, unless}
 use Rattle.octets.specs.Pen.{Pen, pen, Wrote}
 use Rattle.octets.proofs.Cases.{cases, both, apart}
 use Rattle.octets.proofs.Classes.{same-is, name-lower as name-lowers}
@@ -38,7 +38,7 @@ use Rattle.converter.specs.Tree.{Property, property}
 use Rattle.converter.specs.Property.{typeOf, codeOf, manyOf, encodingFits, readAs, readProperty}
 use Rattle.converter.specs.Jcal.{propertyJson}
 use Rattle.jcalproperties.specs.Passed.{paramsTested}
-use Rattle.jcalproperties.specs.Placed.{lineWith, PlacesValues, Stands, Places}
+use Rattle.jcalproperties.specs.Placed.{lineWith, PlacesValues, FrontStands, Stands, Places}
 use Rattle.jcalproperties.specs.declared.Placed.{Placed}
 use Rattle.jcalproperties.specs.declared.Placed.the-variants.{At, Failed}
 use Rattle.jcalproperties.specs.Shown.{namedType, frontText, WroteProperty}
@@ -148,53 +148,56 @@ module _ (f : Option (List ℕ) → Answer Property) where
   seven-passed false (refused n) e = not-accepted (sym e)
   seven-passed false (accepted type) e = refl
 
-module _ (t : Table) (name value : List ℕ) where
-  module _ (ps : List Param) (fit : Bool) (a : Answer (Option (List ℕ))) (e : a ≡ valueType ps) (k : pick fit (accepted (tt {0})) (refused 7) ≡ paramsTested (nameTwice ps) a) where
-    pub given-refused : not fit ≡ true → readProperty t (lineWith name ps value) ≡ refused 7
-    unfolding readProperty
-    given-refused h = rw (← e) (seven-refused _ (nameTwice ps) a (rw (not-true fit h) at k))
+module _ (name : List ℕ) (ps : List Param) (fit : Bool) (a : Answer (Option (List ℕ))) (e : a ≡ valueType ps) (k : pick fit (accepted (tt {0})) (refused 7) ≡ paramsTested (nameTwice ps) a) where
+  pub given-refused : not fit ≡ true → (t : Table) (v : List ℕ) → readProperty t (lineWith name ps v) ≡ refused 7
+  unfolding readProperty
+  given-refused h t v = rw (← e) (seven-refused _ (nameTwice ps) a (rw (not-true fit h) at k))
 
-    pub given-read : not fit ≡ false → readProperty t (lineWith name ps value) ≡ readAs (find t name) (lower name) (namedType a) (withoutValue ps) value
-    unfolding readProperty
-    given-read h = rw (← e) (seven-passed _ (nameTwice ps) a (rw (not-false fit h) at k))
+  pub given-read : not fit ≡ false → (t : Table) (v : List ℕ) → readProperty t (lineWith name ps v) ≡ readAs (find t name) (lower name) (namedType a) (withoutValue ps) v
+  unfolding readProperty
+  given-read h t v = rw (← e) (seven-passed _ (nameTwice ps) a (rw (not-false fit h) at k))
 
-  pub plain-read : readProperty t (lineWith name [] value) ≡ readAs (find t name) (lower name) none (withoutValue []) value
-  unfolding readProperty nameTwice twice valueType unless then
-  plain-read = refl
+pub plain-read : (name : List ℕ) (t : Table) (v : List ℕ) → readProperty t (lineWith name [] v) ≡ readAs (find t name) (lower name) none (withoutValue []) v
+unfolding readProperty nameTwice twice valueType unless then
+plain-read name t v = refl
 
-  -- 8 and 9, by the row of the name and the type
-  module _ (ps : List Param) (type : Option (List ℕ)) (r : readProperty t (lineWith name ps value) ≡ readAs (find t name) (lower name) type (withoutValue ps) value)
-      (row : Option Row) (e₁ : row ≡ find t name) (code : ℕ) (e₂ : code ≡ codeOf row type) (enc fits : Bool) (e₃ : enc ≡ isEncoded ps) (e₄ : fits ≡ encodingFits code enc) where
-    fits-is : encodingFits (codeOf (find t name) type) (isEncoded (withoutValue ps)) ≡ fits
-    fits-is = rw (encoded-without ps, ← e₁, ← e₂, ← e₃) (sym e₄)
+-- 8, by the row of the name and the type
+module _ (name : List ℕ) (ps : List Param) (type : Option (List ℕ)) (r : (t : Table) (v : List ℕ) → readProperty t (lineWith name ps v) ≡ readAs (find t name) (lower name) type (withoutValue ps) v)
+    (row : Option Row) (code : ℕ) (e₂ : code ≡ codeOf row type) (enc fits : Bool) (e₃ : enc ≡ isEncoded ps) (e₄ : fits ≡ encodingFits code enc) where
+  fits-is : encodingFits (codeOf row type) (isEncoded (withoutValue ps)) ≡ fits
+  fits-is = rw (encoded-without ps, ← e₂, ← e₃) (sym e₄)
 
-    pub eight-refused : not fits ≡ true → readProperty t (lineWith name ps value) ≡ refused 8
-    unfolding readAs unless
-    eight-refused h = r ∙ rw (fits-is, not-true fits h)
+  pub eight-refused : not fits ≡ true → (t : Table) (v : List ℕ) → row ≡ find t name → readProperty t (lineWith name ps v) ≡ refused 8
+  unfolding readAs unless
+  eight-refused h t v e = r t v ∙ rw (← e, fits-is, not-true fits h)
 
-    module _ (h : not fits ≡ false) where
-      eight-passed : readProperty t (lineWith name ps value) ≡ orElse 9 (map? (property (lower name) (withoutValue ps) (typeOf row type)) (valuesOf (lower name) code (manyOf row) value))
-      unfolding readAs unless
-      eight-passed = r ∙ rw (fits-is, not-false fits h, ← e₁, ← e₂)
+  eight-passed : not fits ≡ false → (t : Table) (v : List ℕ) → row ≡ find t name → readProperty t (lineWith name ps v) ≡ orElse 9 (map? (property (lower name) (withoutValue ps) (typeOf row type)) (valuesOf (lower name) code (manyOf row) v))
+  unfolding readAs unless
+  eight-passed h t v e = r t v ∙ rw (← e, fits-is, not-false fits h, ← e₂)
 
-      pub nine-placed : (out : List ℕ) (z : Placed) {p a b : Pen} → Wrote p (frontText name ps) a → Wrote a (printString (typeOf row type)) b
-          → PlacesValues (valuesOf (lower name) code (manyOf row) value) b out z → Places t (lineWith name ps value) p out z
-      unfolding orElse map?
-      nine-placed out (At q) f y v = record {
-        property = property (lower name) (withoutValue ps) (typeOf row type) (v .0);
-        read = eight-passed ∙ rw (v .1);
-        wrote = as-text (behind (behind f y) (v .2)) (append-assoc (frontText name ps) _ _ ∙ sym (property-text name ps (typeOf row type) (v .0)));
-      }
-      nine-placed out (Failed why) f y v = eight-passed ∙ rw (v .0, v .1)
+  pub front-stands : not fits ≡ false → {p a b : Pen} → Wrote p (frontText name ps) a → Wrote a (printString (typeOf row type)) b → FrontStands row name ps code p b
+  front-stands h f y = record { type = type; read = eight-passed h; wrote = behind f y }
+
+-- 9, behind a front that stands
+pub nine-placed : (t : Table) (name value : List ℕ) (ps : List Param) (row : Option Row) → row ≡ find t name → (code : ℕ) {p b : Pen} → FrontStands row name ps code p b
+    → (out : List ℕ) (z : Placed) → PlacesValues (valuesOf (lower name) code (manyOf row) value) b out z → Places t (lineWith name ps value) p out z
+unfolding orElse map?
+nine-placed t name value ps row e code f out (At q) v = record {
+  property = property (lower name) (withoutValue ps) (typeOf row (f .type)) (v .0);
+  read = f .read t value e ∙ rw (v .1);
+  wrote = as-text (behind (f .wrote) (v .2)) (append-assoc (frontText name ps) _ _ ∙ sym (property-text name ps (typeOf row (f .type)) (v .0)));
+}
+nine-placed t name value ps row e code f out (Failed why) v = f .read t value e ∙ rw (v .0, v .1)
 
 -- a property without parameters up to its type
 pub plain-front : (n : List ℕ) → (octets "[" ++ printString (lower n)) ++ octets ",{}," ≡ frontText n []
 unfolding frontText print firstMember membersOf withoutValue
 plain-front n = append-assoc (octets "[") (printString (lower n)) (octets ",{},")
 
-pub no-params : (l : List ℕ) (n c : ℕ) → n ≡ c → paramsIn (take (c - n) (drop n l)) ≡ []
+pub no-params : (s : List ℕ) → length s ≡ 0 → paramsIn s ≡ []
 unfolding paramsIn pieces others
-no-params l n c e = let z : c - n ≡ 0 = omega arith in rw z
+no-params [] e = refl
+no-params (x ∷ s) e = absurd (omega arith)
 
 -- the values that are written or not
 pub values-wrote : (o : Option (List Json)) {p m : Pen} (out : List ℕ) (q : ℕ) → (vs : List Json) × (o ≡ some vs) × Wrote p (valuesJson vs) m → Wrote m (octets "]") (pen out q)

@@ -38,10 +38,10 @@ fn put_quoted(out: &mut [u8], at: usize, name: &[u8]) -> usize
 pub fn put_name(out: &mut [u8], at: usize, name: &[u8]) -> usize
     ensures { λ r. ⌜ Wrote (pen (now (out .entry)) at) (printString (lower (now (name .entry)))) (pen (now (out .exit)) r) ⌝ }
 {
-    if is_name(name) {
+    if is_name(&*name) {
         let a = put(out, at, b'"');
-        let b = put_lower(out, a, name);
+        let b = put_lower(out, a, &*name);
         return put(out, b, b'"');
     }
-    put_quoted(out, at, name)
+    put_quoted(out, at, &*name)
 }

@@ -16,7 +16,7 @@ ghost use Rattle.content.specs.Kinds.{kindOf, Bounded};
 ghost use Rattle.values.specs.Read.{valuesOf};
 ghost use Rattle.converter.specs.Property.{typeOf, codeOf, manyOf, encodingFits, readProperty};
 ghost use Rattle.jcalproperties.specs.Passed.{passed, paramsTested};
-ghost use Rattle.jcalproperties.specs.Placed.{lineWith, PlacesValues, Places};
+ghost use Rattle.jcalproperties.specs.Placed.{Fronts, PlacesValues, Places};
 ghost use Rattle.jcalproperties.specs.Shown.{namedType, frontText, WroteProperty};
 use crate::Placed;
 use crate::Tested;
@@ -37,6 +37,12 @@ use types::find;
 use types::put_type_name;
 use values::sort_of;
 use valuetexts::Attempt;
+
+// The code of the type of a property that is written up to its values, and the place behind; or why it is refused.
+enum Fronted {
+    To(u8, usize),
+    Failed(Refusal),
+}
 
 // The code of a name's default type.
 fn default_code(found: Found) -> u8
@@ -100,9 +106,9 @@ fn put_front(name: &[u8], params: &[u8], out: &mut [u8], at: usize) -> usize
     ensures { λ r. ⌜ Wrote (pen (now (out .entry)) at) (frontText (now (name .entry)) (paramsIn (now (params .entry)))) (pen (now (out .exit)) r) ⌝ }
 {
     let a = put(out, at, b'[');
-    let b = put_name(out, a, name);
+    let b = put_name(out, a, &*name);
     let c = put(out, b, b',');
-    let d = put_params(out, c, params);
+    let d = put_params(out, c, &*params);
     put(out, d, b',')
 }
 
@@ -151,59 +157,59 @@ fn place_values(
     }
 }
 
-// Tests a property without parameters by 8 and 9, and writes it.
-fn place_plain(name: &[u8], value: &[u8], rows: &[u8], out: &mut [u8], at: usize) -> Placed
-    ensures { λ r. ⌜ Places (tableIn (now (rows .entry))) (lineWith (now (name .entry)) [] (now (value .entry))) (pen (now (out .entry)) at) (now (out .exit)) r ⌝ }
+// Tests a property without parameters by 8, and writes it up to its values.
+fn front_plain(found: Found, name: &[u8], out: &mut [u8], at: usize) -> Fronted
+    ensures { λ r. ⌜ Fronts (rowFound found) (now (name .entry)) [] (pen (now (out .entry)) at) (now (out .exit)) r ⌝ }
 {
-    let found = find(rows, name);
     let code = default_code(found);
     if !encoding_fits(code, false) {
-        return Placed::Failed(Refusal::BadEncoding);
+        return Fronted::Failed(Refusal::BadEncoding);
     }
     let a = put(out, at, b'[');
-    let b = put_name(out, a, name);
+    let b = put_name(out, a, &*name);
     let c = put_all(out, b, b",{},");
-    let d = put_default(found, out, c);
-    place_values(found, code, name, value, out, d)
+    Fronted::To(code, put_default(found, out, c))
 }
 
-// Tests a property with parameters by 7, 8 and 9, and writes it.
-fn place_given(
-    name: &[u8],
-    params: &[u8],
-    value: &[u8],
-    rows: &[u8],
-    out: &mut [u8],
-    at: usize,
-) -> Placed
-    ensures { λ r. ⌜ Places (tableIn (now (rows .entry))) (lineWith (now (name .entry)) (paramsIn (now (params .entry))) (now (value .entry))) (pen (now (out .entry)) at) (now (out .exit)) r ⌝ }
+// Tests a property with parameters by 7 and 8, and writes it up to its values.
+fn front_given(found: Found, name: &[u8], params: &[u8], out: &mut [u8], at: usize) -> Fronted
+    ensures { λ r. ⌜ Fronts (rowFound found) (now (name .entry)) (paramsIn (now (params .entry))) (pen (now (out .entry)) at) (now (out .exit)) r ⌝ }
 {
-    let kind = value_type(params);
-    if !params_fit(params, kind) {
-        return Placed::Failed(Refusal::BadParameter);
+    let kind = value_type(&*params);
+    if !params_fit(&*params, kind) {
+        return Fronted::Failed(Refusal::BadParameter);
     }
-    let found = find(rows, name);
-    let code = code_of(found, params, kind);
-    if !encoding_fits(code, is_encoded(params)) {
-        return Placed::Failed(Refusal::BadEncoding);
+    let code = code_of(found, &*params, kind);
+    if !encoding_fits(code, is_encoded(&*params)) {
+        return Fronted::Failed(Refusal::BadEncoding);
     }
-    let a = put_front(name, params, out, at);
-    let b = put_type(found, params, kind, out, a);
-    place_values(found, code, name, value, out, b)
+    let a = put_front(&*name, &*params, out, at);
+    Fronted::To(code, put_type(found, &*params, kind, out, a))
+}
+
+// Tests a property by 7 and 8, and writes it up to its values.
+fn front(found: Found, name: &[u8], params: &[u8], out: &mut [u8], at: usize) -> Fronted
+    ensures { λ r. ⌜ Fronts (rowFound found) (now (name .entry)) (paramsIn (now (params .entry))) (pen (now (out .entry)) at) (now (out .exit)) r ⌝ }
+{
+    if params.len() == 0 {
+        return front_plain(found, &*name, out, at);
+    }
+    front_given(found, &*name, &*params, out, at)
 }
 
 // Tests a property by 7, 8 and 9, and writes it.
 pub fn place_property(line: &[u8], rows: &[u8], out: &mut [u8], at: usize) -> Placed
     ensures { λ r. ⌜ Places (tableIn (now (rows .entry))) (lineOf (now (line .entry))) (pen (now (out .entry)) at) (now (out .exit)) r ⌝ }
 {
-    let parts = parts_of(line);
+    let parts = parts_of(&*line);
     let n = parts.name;
     let colon = parts.colon;
     let v = parts.value;
-    if n == colon {
-        return place_plain(&line[0..n], &line[v..], rows, out, at);
+    let found = find(&*rows, &line[0..n]);
+    match front(found, &line[0..n], &line[n..colon], out, at) {
+        Fronted::To(code, b) => place_values(found, code, &line[0..n], &line[v..], out, b),
+        Fronted::Failed(why) => Placed::Failed(why),
     }
-    place_given(&line[0..n], &line[n..colon], &line[v..], rows, out, at)
 }
 
 // Tests a property by 7, 8 and 9 alone: it is written where there is no room.
