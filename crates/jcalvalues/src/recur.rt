@@ -28,12 +28,12 @@ fn put_item_json(out: &mut [u8], at: usize, sort: ItemSort, s: &[u8]) -> usize
     ensures { λ r. ⌜ Wrote (pen (now (out .entry)) at) (itemJsonShown (sortSaid sort) (now (s .entry))) (pen (now (out .exit)) r) ⌝ }
 {
     match sort {
-        ItemSort::Frequency => put_quoted(out, at, sort, s),
-        ItemSort::Moment => put_short(out, at, extended_moment(s)),
-        ItemSort::Count => put_item(out, at, sort, s),
-        ItemSort::Weekday => put_quoted(out, at, sort, s),
-        ItemSort::Ordinal => put_quoted(out, at, sort, s),
-        ItemSort::Numbers(_) => put_item(out, at, sort, s),
+        ItemSort::Frequency => put_quoted(out, at, sort, &*s),
+        ItemSort::Moment => put_short(out, at, extended_moment(&*s)),
+        ItemSort::Count => put_item(out, at, sort, &*s),
+        ItemSort::Weekday => put_quoted(out, at, sort, &*s),
+        ItemSort::Ordinal => put_quoted(out, at, sort, &*s),
+        ItemSort::Numbers(_) => put_item(out, at, sort, &*s),
     }
 }
 

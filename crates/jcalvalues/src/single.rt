@@ -59,21 +59,21 @@ pub(crate) fn holds_one(sort: Sort, s: &[u8]) -> bool
     ensures { λ r. ⌜ r ≡ isSome (readOne (sortSaid sort) (now (s .entry))) ⌝ }
 {
     match sort {
-        Sort::Plain => all_plain(s),
-        Sort::Binary => is_binary(s),
-        Sort::Boolean => is_boolean(s),
-        Sort::Date => is_basic(Form::Date, s),
-        Sort::DateTime => is_basic(Form::DateTime, s),
-        Sort::Duration => is_duration(s),
-        Sort::Float => is_float(s),
-        Sort::Geo => is_geo(s),
-        Sort::Integer => is_integer(s),
-        Sort::Period => is_period(s),
-        Sort::Recur => is_rule(s),
+        Sort::Plain => all_plain(&*s),
+        Sort::Binary => is_binary(&*s),
+        Sort::Boolean => is_boolean(&*s),
+        Sort::Date => is_basic(Form::Date, &*s),
+        Sort::DateTime => is_basic(Form::DateTime, &*s),
+        Sort::Duration => is_duration(&*s),
+        Sort::Float => is_float(&*s),
+        Sort::Geo => is_geo(&*s),
+        Sort::Integer => is_integer(&*s),
+        Sort::Period => is_period(&*s),
+        Sort::Recur => is_rule(&*s),
         Sort::Text => false,
-        Sort::Status => is_status(s),
-        Sort::Time => is_basic(Form::Time, s),
-        Sort::UtcOffset => is_basic(Form::Offset, s),
+        Sort::Status => is_status(&*s),
+        Sort::Time => is_basic(Form::Time, &*s),
+        Sort::UtcOffset => is_basic(Form::Offset, &*s),
     }
 }
 
@@ -105,16 +105,16 @@ pub(crate) fn put_tested_one(out: &mut [u8], at: usize, sort: Sort, s: &[u8]) ->
     ensures { λ r. ⌜ Tried (isSome (readOne (sortSaid sort) (now (s .entry)))) (oneShown (sortSaid sort) (now (s .entry))) (pen (now (out .entry)) at) (now (out .exit)) r ⌝ }
 {
     match sort {
-        Sort::Plain => put_tested_plain(out, at, s),
-        Sort::Date => put_tested_form(out, at, Form::Date, s),
-        Sort::DateTime => put_tested_form(out, at, Form::DateTime, s),
-        Sort::Time => put_tested_form(out, at, Form::Time, s),
-        Sort::UtcOffset => put_tested_form(out, at, Form::Offset, s),
+        Sort::Plain => put_tested_plain(out, at, &*s),
+        Sort::Date => put_tested_form(out, at, Form::Date, &*s),
+        Sort::DateTime => put_tested_form(out, at, Form::DateTime, &*s),
+        Sort::Time => put_tested_form(out, at, Form::Time, &*s),
+        Sort::UtcOffset => put_tested_form(out, at, Form::Offset, &*s),
         _ => {
-            if !holds_one(sort, s) {
+            if !holds_one(sort, &*s) {
                 return Attempt::Invalid;
             }
-            Attempt::Wrote(put_one(out, at, sort, s))
+            Attempt::Wrote(put_one(out, at, sort, &*s))
         }
     }
 }
