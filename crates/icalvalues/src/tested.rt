@@ -141,12 +141,12 @@ fn write_one(
     requires { ⌜ (length (now t) ≤ length (now text)) × (length (now t) ≤ length (now rule)) ⌝ }
     ensures { λ r. ⌜ ValueAs (sortSaid sort) (now (t .entry)) at (folding (now (out .entry)) p) (now (out .exit)) r ⌝ }
 {
-    let b = tag(t, at);
+    let b = tag(&*t, at);
     match b {
-        STRING => string_at(out, p, t, at, sort),
-        NUMBER => number_at(out, p, t, at, sort),
-        OBJECT => object_at(out, p, t, at, sort, text, rule),
-        _ => other_at(out, p, t, at, sort),
+        STRING => string_at(out, p, &*t, at, sort),
+        NUMBER => number_at(out, p, &*t, at, sort),
+        OBJECT => object_at(out, p, &*t, at, sort, text, rule),
+        _ => other_at(out, p, &*t, at, sort),
     }
 }
 

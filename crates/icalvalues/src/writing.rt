@@ -37,7 +37,7 @@ use values::Sort;
 fn write_octets(out: &mut [u8], p: Folder, t: &[u8], at: usize) -> Folder
     ensures { λ r. ⌜ Folded (folding (now (out .entry)) p) (octetsOf (valueAt (now (t .entry)) at)) (folding (now (out .exit)) r) ⌝ }
 {
-    let s = text_at(t, at);
+    let s = text_at(&*t, at);
     let from = s.from;
     let to = s.to;
     fold_all(out, p, &t[from..to])
@@ -57,7 +57,7 @@ fn write_upper(out: &mut [u8], p: Folder, t: &[u8], at: usize) -> Folder
 fn write_text(out: &mut [u8], p: Folder, t: &[u8], at: usize) -> Folder
     ensures { λ r. ⌜ Folded (folding (now (out .entry)) p) (valueText text (valueAt (now (t .entry)) at)) (folding (now (out .exit)) r) ⌝ }
 {
-    let s = text_at(t, at);
+    let s = text_at(&*t, at);
     let from = s.from;
     let to = s.to;
     fold_text(out, p, &t[from..to])
@@ -77,7 +77,7 @@ pub(crate) fn fold_basic(out: &mut [u8], p: Folder, form: Form, s: &[u8]) -> Fol
 fn write_form(out: &mut [u8], p: Folder, t: &[u8], at: usize, form: Form) -> Folder
     ensures { λ r. ⌜ Folded (folding (now (out .entry)) p) (formText form (upper (octetsOf (valueAt (now (t .entry)) at)))) (folding (now (out .exit)) r) ⌝ }
 {
-    let s = text_at(t, at);
+    let s = text_at(&*t, at);
     let from = s.from;
     let to = s.to;
     fold_basic(out, p, form, &t[from..to])
@@ -95,8 +95,8 @@ fn fold_trimmed(out: &mut [u8], p: Folder, s: &[u8]) -> Folder
 pub(crate) fn fold_integer(out: &mut [u8], p: Folder, s: &[u8]) -> Folder
     ensures { λ r. ⌜ Folded (folding (now (out .entry)) p) (integerText (now (s .entry))) (folding (now (out .exit)) r) ⌝ }
 {
-    let sign = sign_length(s);
-    if is_negative(s) {
+    let sign = sign_length(&*s);
+    if is_negative(&*s) {
         let q = fold_octet(out, p, b'-');
         return fold_trimmed(out, q, &s[sign..]);
     }

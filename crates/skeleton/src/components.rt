@@ -43,25 +43,25 @@ fn check_component(t: &[u8], at: usize, left: usize) -> Nested
     if left == 0 {
         return Nested::Nothing;
     }
-    let h = check_head(t, at);
+    let h = check_head(&*t, at);
     let Checked::Passed(p) = h else {
         return Nested::Nothing;
     };
-    if tag(t, p) != ARRAY {
+    if tag(&*t, p) != ARRAY {
         return Nested::Nothing;
     }
-    let mut i = after(t, p);
+    let mut i = after(&*t, p);
     let mut levels = 0;
     loop {
-        if tag(t, i) == END {
-            let e = after(t, i);
-            if tag(t, e) != END {
+        if tag(&*t, i) == END {
+            let e = after(&*t, i);
+            if tag(&*t, e) != END {
                 return Nested::Nothing;
             }
-            let f = after(t, e);
+            let f = after(&*t, e);
             return Nested::Component(f, levels + 1);
         }
-        let c = check_component(t, i, left - 1);
+        let c = check_component(&*t, i, left - 1);
         match c {
             Nested::Component(e, n) => {
                 i = e;

@@ -81,8 +81,8 @@ returns-4 t c =
 after-requires-3 : (t : ℕ) → lts.Need-after-requires-3 (claims t) (here t) self.Post Inv-loop μ-loop
 after-requires-3 t c κs = search needs
 
-add-t19 : (t : ℕ) → lts.Need-add-t19 (claims t) (here t) self.Post Inv-loop μ-loop
-add-t19 t c = omega (arith, c .before .before .before .before .before .before .loop .inv .below)
+add-t33 : (t : ℕ) → lts.Need-add-t33 (claims t) (here t) self.Post Inv-loop μ-loop
+add-t33 t c = omega (arith, c .before .before .before .before .before .before .loop .inv .below)
 
 returns-5 : (t : ℕ) → lts.Need-returns-5 (claims t) (here t) self.Post Inv-loop μ-loop
 returns-5 t c =
@@ -137,7 +137,7 @@ pub +check-component-spec : {M : Type 1} → statement M
     (tag-requires-3 t)
     (returns-4 t)
     (after-requires-3 t)
-    (add-t19 t)
+    (add-t33 t)
     (returns-5 t)
     (sub-check-component t)
     (check-component-requires t)
