@@ -33,26 +33,23 @@ pub(crate) fn convert_component(
     ensures { λ r. ⌜ Converts (now (t .entry)) at (checkedAll (tableIn (now (rows .entry))) (propertiesOf (componentFrom left (valueAt (now (t .entry)) at))))
         (now (out .entry)) to (linesOf (tableIn (now (rows .entry))) (componentFrom left (valueAt (now (t .entry)) at))) (now (out .exit)) r ⌝ }
 {
-    let a = after(t, at);
-    let x = text_at(t, a);
-    let from = x.from;
-    let end = x.to;
-    let b = x.next;
-    let begun = write_mark(out, to, b"BEGIN:", &t[from..end]);
-    let p = convert_properties(t, b, rows, out, begun, text, rule);
+    let a = after(&*t, at);
+    let name = text_at(&*t, a);
+    let begun = write_mark(out, to, b"BEGIN:", &*t, name);
+    let p = convert_properties(&*t, name.next, &*rows, out, begun, text, rule);
     let Conversion::Passed(c, first) = p else {
         return p;
     };
     let mut q = first;
-    let mut i = after(t, c);
+    let mut i = after(&*t, c);
     loop {
-        if tag(t, i) == END {
-            let e = after(t, i);
-            let f = leave(t, e);
-            let ended = write_mark(out, q, b"END:", &t[from..end]);
+        if tag(&*t, i) == END {
+            let e = after(&*t, i);
+            let f = leave(&*t, e);
+            let ended = write_mark(out, q, b"END:", &*t, name);
             return Conversion::Passed(f, ended);
         }
-        let s = convert_component(t, i, left - 1, rows, out, q, text, rule);
+        let s = convert_component(&*t, i, left - 1, &*rows, out, q, text, rule);
         let Conversion::Passed(e, n) = s else {
             return s;
         };

@@ -113,14 +113,14 @@ fn convert(
         × (length (now tape) ≤ length (now scratch)) × (length (now tape) ≤ length (now rule)) ⌝ }
     ensures { λ r. ⌜ outcome r (now (out .exit)) ≡ answer (toIcal (now (hex .entry)) (now (text .entry))) (now (out .entry)) ⌝ }
 {
-    let r = read_rows(hex, table);
+    let r = read_rows(&*hex, table);
     match r {
         Converted::Refused(_) => refuse(out, Refusal::RowsMalformed),
         Converted::Written(n) => {
-            if !is_utf8(text) {
+            if !is_utf8(&*text) {
                 return refuse(out, Refusal::NotClean);
             }
-            convert_text(text, &table[0..n], out, tape, scratch, rule)
+            convert_text(&*text, &table[0..n], out, tape, scratch, rule)
         }
     }
 }

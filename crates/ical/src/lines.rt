@@ -6,9 +6,12 @@ use content::fold_all;
 use content::fold_octet;
 use content::fold_upper;
 use properties::write_params;
+use tape::Text;
 ghost use mathlib.Core.Path.{_≡_};
 ghost use mathlib.Core.Bool.{true};
 ghost use mathlib.Core.List.{[], _∷_, _++_};
+ghost use Prim.Native.Nat.{_-_, _≤_};
+ghost use lib.ListN.{length, take, drop};
 ghost use Rattle.octets.specs.Classes.{isName, upper};
 ghost use Rattle.octets.specs.Pen.{pen, Wrote};
 ghost use Rattle.tape.specs.Decode.{membersAt};
@@ -17,12 +20,15 @@ ghost use Rattle.content.specs.Folding.{folding, Folded};
 ghost use Rattle.converter.specs.Skeleton.{paramsFrom};
 ghost use Rattle.ical.specs.Writes.{valueText, headText};
 
-// BEGIN or END, and a name.
-pub fn write_mark(out: &mut [u8], at: usize, word: &[u8], name: &[u8]) -> usize
-    ensures { λ r. ⌜ Wrote (pen (now (out .entry)) at) (textOf ((now (word .entry) ++ upper (now (name .entry))) ∷ [])) (pen (now (out .exit)) r) ⌝ }
+// BEGIN or END, and a name that stands on the tape.
+pub fn write_mark(out: &mut [u8], at: usize, word: &[u8], t: &[u8], name: Text) -> usize
+    requires { ⌜ (name .from ≤ name .to) × (name .to ≤ length (now t)) ⌝ }
+    ensures { λ r. ⌜ Wrote (pen (now (out .entry)) at) (textOf ((now (word .entry) ++ upper (take (name .to - name .from) (drop (name .from) (now (t .entry))))) ∷ [])) (pen (now (out .exit)) r) ⌝ }
 {
-    let p = fold_all(out, Folder { at: at, column: 0 }, word);
-    let q = fold_upper(out, p, name);
+    let from = name.from;
+    let to = name.to;
+    let p = fold_all(out, Folder { at: at, column: 0 }, &*word);
+    let q = fold_upper(out, p, &t[from..to]);
     end_line(out, q)
 }
 

@@ -43,13 +43,13 @@ abbrev claims : ℕ → lts.Claims
 claims t = (after.Asked, after.Learnt, text-at.Asked, text-at.Learnt, write-mark.Asked, write-mark.Learnt, convert-properties.Asked, convert-properties.Learnt, tag.Asked, tag.Learnt, leave.Asked, leave.Learnt, below t, self.Post)
 
 abbrev Inv-loop : lts.InvT-loop
-Inv-loop t at left rows out₀ to text₀ rule₀ a from end b begun c first q₀ i₀ word out text rule q i =
+Inv-loop t at left rows out₀ to text₀ rule₀ a name begun c first q₀ i₀ word out text rule q i =
     (length out ≡ length out₀) × (length text ≡ length text₀) × (length rule ≡ length rule₀) × Walking (isComponent (left - 1)) t i₀ i
     × (checkedAll (tableIn rows) (subProperties (left - 1) (listAt t i)) ≡ checkedAll (tableIn rows) (subProperties (left - 1) (listAt t i₀)))
     × Leads (pen out₀ q₀) (textOf (subLines (tableIn rows) (left - 1) (listAt t i₀))) (pen out q) (textOf (subLines (tableIn rows) (left - 1) (listAt t i)))
 
 abbrev μ-loop : lts.MeasureT-loop
-μ-loop t at left rows out₀ to text₀ rule₀ a from end b begun c first q₀ i₀ word out text rule q i = length t - i
+μ-loop t at left rows out₀ to text₀ rule₀ a name begun c first q₀ i₀ word out text rule q i = length t - i
 
 after-requires : (t : ℕ) → lts.Need-after-requires (claims t) (here t) self.Post Inv-loop μ-loop
 after-requires t c κs = search needs
@@ -60,20 +60,11 @@ text-at-requires t c κs = search needs
 slice-aggregate-write-mark : (t : ℕ) → lts.Need-slice-aggregate-write-mark (claims t) (here t) self.Post Inv-loop μ-loop
 slice-aggregate-write-mark t c = search needs
 
-sub-write-mark : (t : ℕ) → lts.Need-sub-write-mark (claims t) (here t) self.Post Inv-loop μ-loop
-sub-write-mark t c = search needs
-
-part-write-mark-start : (t : ℕ) → lts.Need-part-write-mark-start (claims t) (here t) self.Post Inv-loop μ-loop
-part-write-mark-start t c = search needs
-
-part-write-mark-end : (t : ℕ) → lts.Need-part-write-mark-end (claims t) (here t) self.Post Inv-loop μ-loop
-part-write-mark-end t c = search needs
-
 write-mark-requires : (t : ℕ) → lts.Need-write-mark-requires (claims t) (here t) self.Post Inv-loop μ-loop
-write-mark-requires t c κs = search needs
+write-mark-requires t c κs = (c .before .before .text-at .ensures .order, c .before .before .text-at .ensures .within)
 
 convert-properties-requires : (t : ℕ) → lts.Need-convert-properties-requires (claims t) (here t) self.Post Inv-loop μ-loop
-convert-properties-requires t c κs = (properties-there _ (c .before .before .before .before .before .before .before .before .before .before .before .before .before .before .before .before .pre .1 .0) (c .before .before .before .before .before .before .before .before .before .before .after .ensures) (c .before .before .before .before .before .before .before .before .before .text-at .ensures .behind), c .before .before .before .before .before .before .before .before .before .before .before .before .before .before .before .before .pre .1 .1, c .before .before .before .before .before .before .before .before .before .before .before .before .before .before .before .before .pre .1 .2)
+convert-properties-requires t c κs = (properties-there _ (c .before .before .before .before .before .before .before .before .before .before .before .before .before .before .before .pre .1 .0) (c .before .before .before .before .before .before .before .before .before .after .ensures) (c .before .before .before .before .before .before .before .before .text-at .ensures .behind), c .before .before .before .before .before .before .before .before .before .before .before .before .before .before .before .pre .1 .1, c .before .before .before .before .before .before .before .before .before .before .before .before .before .before .before .pre .1 .2)
 
 enum-known-p : (t : ℕ) → lts.Need-enum-known-p (claims t) (here t) self.Post Inv-loop μ-loop
 enum-known-p t c = search needs
@@ -91,7 +82,7 @@ same-length-3 : (t : ℕ) → lts.Need-same-length-3 (claims t) (here t) self.Po
 same-length-3 t c = search needs
 
 returns : (t : ℕ) → lts.Need-returns (claims t) (here t) self.Post Inv-loop μ-loop
-returns t c = rw (c .enum-told .given .1) (component-refused _ (c .before .before .before .before .before .before .before .before .before .before .before .before .before .before .before .before .before .before .before .before .before .before .before .before .before .pre .1 .0) (c .before .before .before .before .before .before .before .before .before .before .before .before .before .before .before .before .before .before .before .after .ensures) (c .before .before .before .before .before .before .before .before .before .before .before .before .before .before .before .before .before .before .text-at .ensures .behind) _ (refuses _ _ _ _ _ _ _ _ (c .before .before .before .before .before .before .before .before .convert-properties .ensures) (c .enum-told .given .1)))
+returns t c = rw (c .enum-told .given .1) (component-refused _ (c .before .before .before .before .before .before .before .before .before .before .before .before .before .before .before .before .before .before .before .before .before .before .before .before .pre .1 .0) (c .before .before .before .before .before .before .before .before .before .before .before .before .before .before .before .before .before .before .after .ensures) (c .before .before .before .before .before .before .before .before .before .before .before .before .before .before .before .before .before .text-at .ensures .behind) _ (refuses _ _ _ _ _ _ _ _ (c .before .before .before .before .before .before .before .before .convert-properties .ensures) (c .enum-told .given .1)))
 
 after-requires-2 : (t : ℕ) → lts.Need-after-requires-2 (claims t) (here t) self.Post Inv-loop μ-loop
 after-requires-2 t c κs = search needs
@@ -99,7 +90,7 @@ after-requires-2 t c κs = search needs
 loop-holds : (t : ℕ) → lts.Need-loop-holds (claims t) (here t) self.Post Inv-loop μ-loop
 loop-holds t c =
     let z = passes _ _ _ _ _ _ _ _ (c .before .before .before .before .before .before .before .before .before .before .convert-properties .ensures) (c .before .before .p .given .1) in
-    (refl, refl, refl, walking-start (isComponent (c .before .before .before .before .before .before .before .before .before .before .before .before .before .before .before .before .before .before .before .before .before .before .before .before .before .before .before .args .left - 1)) (subs-there _ (c .before .before .before .before .before .before .before .before .before .before .before .before .before .before .before .before .before .before .before .before .before .before .before .before .before .before .before .pre .1 .0) (c .before .before .before .before .before .before .before .before .before .before .before .before .before .before .before .before .before .before .before .before .before .after .ensures) (c .before .before .before .before .before .before .before .before .before .before .before .before .before .before .before .before .before .before .before .before .text-at .ensures .behind) (z .behind)) (c .after2 .ensures), refl, leads-start)
+    (refl, refl, refl, walking-start (isComponent (c .before .before .before .before .before .before .before .before .before .before .before .before .before .before .before .before .before .before .before .before .before .before .before .before .before .before .args .left - 1)) (subs-there _ (c .before .before .before .before .before .before .before .before .before .before .before .before .before .before .before .before .before .before .before .before .before .before .before .before .before .before .pre .1 .0) (c .before .before .before .before .before .before .before .before .before .before .before .before .before .before .before .before .before .before .before .before .after .ensures) (c .before .before .before .before .before .before .before .before .before .before .before .before .before .before .before .before .before .before .before .text-at .ensures .behind) (z .behind)) (c .after2 .ensures), refl, leads-start)
 
 tag-requires : (t : ℕ) → lts.Need-tag-requires (claims t) (here t) self.Post Inv-loop μ-loop
 tag-requires t c κs = search needs
@@ -113,43 +104,34 @@ leave-requires t c κs = search needs
 slice-aggregate-write-mark-2 : (t : ℕ) → lts.Need-slice-aggregate-write-mark-2 (claims t) (here t) self.Post Inv-loop μ-loop
 slice-aggregate-write-mark-2 t c = search needs
 
-sub-write-mark-2 : (t : ℕ) → lts.Need-sub-write-mark-2 (claims t) (here t) self.Post Inv-loop μ-loop
-sub-write-mark-2 t c = c .before .before .before .before .before .before .before .before .before .before .before .before .before .before .before .before .before .before .before .before .before .before .before .before .before .before .before .text-at .ensures .order
-
-part-write-mark-start-2 : (t : ℕ) → lts.Need-part-write-mark-start-2 (claims t) (here t) self.Post Inv-loop μ-loop
-part-write-mark-start-2 t c = c .before .before .before .before .before .before .before .before .before .before .before .before .before .before .before .before .before .before .before .before .before .before .before .before .before .before .before .text-at .ensures .order
-
-part-write-mark-end-2 : (t : ℕ) → lts.Need-part-write-mark-end-2 (claims t) (here t) self.Post Inv-loop μ-loop
-part-write-mark-end-2 t c = c .before .before .before .before .before .before .before .before .before .before .before .before .before .before .before .before .before .before .before .before .before .before .before .before .before .before .before .text-at .ensures .within
-
 write-mark-requires-2 : (t : ℕ) → lts.Need-write-mark-requires-2 (claims t) (here t) self.Post Inv-loop μ-loop
-write-mark-requires-2 t c κs = search needs
+write-mark-requires-2 t c κs = (c .before .before .before .before .before .before .before .before .before .before .before .before .before .before .before .before .before .before .before .before .before .before .before .before .before .before .text-at .ensures .order, c .before .before .before .before .before .before .before .before .before .before .before .before .before .before .before .before .before .before .before .before .before .before .before .before .before .before .text-at .ensures .within)
 
 same-length-4 : (t : ℕ) → lts.Need-same-length-4 (claims t) (here t) self.Post Inv-loop μ-loop
-same-length-4 t c = omega (arith, c .before .before .before .before .before .before .before .before .before .before .loop .inv .0)
+same-length-4 t c = omega (arith, c .before .before .before .before .before .before .before .before .before .loop .inv .0)
 
 same-length-5 : (t : ℕ) → lts.Need-same-length-5 (claims t) (here t) self.Post Inv-loop μ-loop
-same-length-5 t c = omega (arith, c .before .before .before .before .before .before .before .before .before .before .loop .inv .1)
+same-length-5 t c = omega (arith, c .before .before .before .before .before .before .before .before .before .loop .inv .1)
 
 same-length-6 : (t : ℕ) → lts.Need-same-length-6 (claims t) (here t) self.Post Inv-loop μ-loop
-same-length-6 t c = omega (arith, c .before .before .before .before .before .before .before .before .before .before .loop .inv .2)
+same-length-6 t c = omega (arith, c .before .before .before .before .before .before .before .before .before .loop .inv .2)
 
 returns-2 : (t : ℕ) → lts.Need-returns-2 (claims t) (here t) self.Post Inv-loop μ-loop
 returns-2 t c =
-    let z = passes _ _ _ _ _ _ _ _ (c .before .before .before .before .before .before .before .before .before .before .before .before .before .before .before .before .before .before .before .before .before .convert-properties .ensures) (c .before .before .before .before .before .before .before .before .before .before .before .before .before .p .given .1) in
+    let z = passes _ _ _ _ _ _ _ _ (c .before .before .before .before .before .before .before .before .before .before .before .before .before .before .before .before .before .before .before .before .convert-properties .ensures) (c .before .before .before .before .before .before .before .before .before .before .before .before .p .given .1) in
     record {
-      faultless = component-checked _ (c .before .before .before .before .before .before .before .before .before .before .before .before .before .before .before .before .before .before .before .before .before .before .before .before .before .before .before .before .before .before .before .before .before .before .before .before .before .before .pre .1 .0) (c .before .before .before .before .before .before .before .before .before .before .before .before .before .before .before .before .before .before .before .before .before .before .before .before .before .before .before .before .before .before .before .before .after .ensures) (c .before .before .before .before .before .before .before .before .before .before .before .before .before .before .before .before .before .before .before .before .before .before .before .before .before .before .before .before .before .before .before .text-at .ensures .behind) (z .behind) _ (c .before .before .before .before .before .before .before .before .before .before .before .after2 .ensures) (z .faultless) ∙ sym (c .before .before .before .before .before .before .before .before .before .before .loop .inv .4) ∙ subs-end _ _ _ _ (sym (c .before .before .before .before .before .before .before .before .before .tag .ensures) ∙ c .before .before .before .before .before .before .before .before .if1 .taken);
-      behind = component-end _ (c .before .before .before .before .before .before .before .before .before .before .before .before .before .before .before .before .before .before .before .before .before .before .before .before .before .before .before .before .before .before .before .before .before .before .before .before .before .before .pre .1 .0) (c .before .before .before .before .before .before .before .before .before .before .before .before .before .before .before .before .before .before .before .before .before .before .before .before .before .before .before .before .before .before .before .before .after .ensures) (c .before .before .before .before .before .before .before .before .before .before .before .before .before .before .before .before .before .before .before .before .before .before .before .before .before .before .before .before .before .before .before .text-at .ensures .behind) (z .behind)
-          (walking-end (c .before .before .before .before .before .before .before .before .before .before .loop .inv .3) (subs-there _ (c .before .before .before .before .before .before .before .before .before .before .before .before .before .before .before .before .before .before .before .before .before .before .before .before .before .before .before .before .before .before .before .before .before .before .before .before .before .before .pre .1 .0) (c .before .before .before .before .before .before .before .before .before .before .before .before .before .before .before .before .before .before .before .before .before .before .before .before .before .before .before .before .before .before .before .before .after .ensures) (c .before .before .before .before .before .before .before .before .before .before .before .before .before .before .before .before .before .before .before .before .before .before .before .before .before .before .before .before .before .before .before .text-at .ensures .behind) (z .behind)) (c .before .before .before .before .before .before .before .before .before .before .before .after2 .ensures) (sym (c .before .before .before .before .before .before .before .before .before .tag .ensures) ∙ c .before .before .before .before .before .before .before .before .if1 .taken) (c .before .before .before .before .before .before .before .after3 .ensures)) (c .before .before .before .before .before .before .leave .ensures);
-      wrote = as-text (lines-then _ _ (c .before .before .before .before .before .before .before .before .before .before .before .before .before .before .before .before .before .before .before .before .before .before .before .before .before .before .before .write-mark .ensures) (lines-then _ _ (z .wrote) (lines-then _ _ (leads-end (c .before .before .before .before .before .before .before .before .before .before .loop .inv .5) (sub-lines-end _ _ _ _ (sym (c .before .before .before .before .before .before .before .before .before .tag .ensures) ∙ c .before .before .before .before .before .before .before .before .if1 .taken))) (c .before .before .write-mark2 .ensures))))
-          (ap textOf (component-lines _ _ (c .before .before .before .before .before .before .before .before .before .before .before .before .before .before .before .before .before .before .before .before .before .before .before .before .before .before .before .before .before .before .before .before .before .before .before .before .before .before .pre .1 .0) (c .before .before .before .before .before .before .before .before .before .before .before .before .before .before .before .before .before .before .before .before .before .before .before .before .before .before .before .before .before .before .before .before .after .ensures) (c .before .before .before .before .before .before .before .before .before .before .before .before .before .before .before .before .before .before .before .before .before .before .before .before .before .before .before .before .before .before .before .text-at .ensures) (z .behind) (c .before .before .before .before .before .before .before .before .before .before .before .after2 .ensures)));
+      faultless = component-checked _ (c .before .before .before .before .before .before .before .before .before .before .before .before .before .before .before .before .before .before .before .before .before .before .before .before .before .before .before .before .before .before .before .before .before .before .before .before .pre .1 .0) (c .before .before .before .before .before .before .before .before .before .before .before .before .before .before .before .before .before .before .before .before .before .before .before .before .before .before .before .before .before .before .after .ensures) (c .before .before .before .before .before .before .before .before .before .before .before .before .before .before .before .before .before .before .before .before .before .before .before .before .before .before .before .before .before .text-at .ensures .behind) (z .behind) _ (c .before .before .before .before .before .before .before .before .before .before .after2 .ensures) (z .faultless) ∙ sym (c .before .before .before .before .before .before .before .before .before .loop .inv .4) ∙ subs-end _ _ _ _ (sym (c .before .before .before .before .before .before .before .before .tag .ensures) ∙ c .before .before .before .before .before .before .before .if1 .taken);
+      behind = component-end _ (c .before .before .before .before .before .before .before .before .before .before .before .before .before .before .before .before .before .before .before .before .before .before .before .before .before .before .before .before .before .before .before .before .before .before .before .before .pre .1 .0) (c .before .before .before .before .before .before .before .before .before .before .before .before .before .before .before .before .before .before .before .before .before .before .before .before .before .before .before .before .before .before .after .ensures) (c .before .before .before .before .before .before .before .before .before .before .before .before .before .before .before .before .before .before .before .before .before .before .before .before .before .before .before .before .before .text-at .ensures .behind) (z .behind)
+          (walking-end (c .before .before .before .before .before .before .before .before .before .loop .inv .3) (subs-there _ (c .before .before .before .before .before .before .before .before .before .before .before .before .before .before .before .before .before .before .before .before .before .before .before .before .before .before .before .before .before .before .before .before .before .before .before .before .pre .1 .0) (c .before .before .before .before .before .before .before .before .before .before .before .before .before .before .before .before .before .before .before .before .before .before .before .before .before .before .before .before .before .before .after .ensures) (c .before .before .before .before .before .before .before .before .before .before .before .before .before .before .before .before .before .before .before .before .before .before .before .before .before .before .before .before .before .text-at .ensures .behind) (z .behind)) (c .before .before .before .before .before .before .before .before .before .before .after2 .ensures) (sym (c .before .before .before .before .before .before .before .before .tag .ensures) ∙ c .before .before .before .before .before .before .before .if1 .taken) (c .before .before .before .before .before .before .after3 .ensures)) (c .before .before .before .before .before .leave .ensures);
+      wrote = as-text (lines-then _ _ (c .before .before .before .before .before .before .before .before .before .before .before .before .before .before .before .before .before .before .before .before .before .before .before .before .before .before .write-mark .ensures) (lines-then _ _ (z .wrote) (lines-then _ _ (leads-end (c .before .before .before .before .before .before .before .before .before .loop .inv .5) (sub-lines-end _ _ _ _ (sym (c .before .before .before .before .before .before .before .before .tag .ensures) ∙ c .before .before .before .before .before .before .before .if1 .taken))) (c .before .before .write-mark2 .ensures))))
+          (ap textOf (component-lines _ _ (c .before .before .before .before .before .before .before .before .before .before .before .before .before .before .before .before .before .before .before .before .before .before .before .before .before .before .before .before .before .before .before .before .before .before .before .before .pre .1 .0) (c .before .before .before .before .before .before .before .before .before .before .before .before .before .before .before .before .before .before .before .before .before .before .before .before .before .before .before .before .before .before .after .ensures) (c .before .before .before .before .before .before .before .before .before .before .before .before .before .before .before .before .before .before .before .before .before .before .before .before .before .before .before .before .before .text-at .ensures) (z .behind) (c .before .before .before .before .before .before .before .before .before .before .after2 .ensures)));
     }
 
 sub-convert-component : (t : ℕ) → lts.Need-sub-convert-component (claims t) (here t) self.Post Inv-loop μ-loop
-sub-convert-component t c = omega (arith, composed _ _ (c .before .before .before .before .before .before .before .before .before .before .before .before .before .before .before .before .before .before .before .before .before .before .before .before .before .before .before .before .before .before .pre .1 .0) .levels)
+sub-convert-component t c = omega (arith, composed _ _ (c .before .before .before .before .before .before .before .before .before .before .before .before .before .before .before .before .before .before .before .before .before .before .before .before .before .before .before .before .before .pre .1 .0) .levels)
 
 convert-component-requires : (t : ℕ) → lts.Need-convert-component-requires (claims t) (here t) self.Post Inv-loop μ-loop
-convert-component-requires t c κs = (omega (arith, composed _ _ (c .before .before .before .before .before .before .before .before .before .before .before .before .before .before .before .before .before .before .before .before .before .before .before .before .before .before .before .before .before .before .before .before .before .pre .1 .0) .levels, c .before .before .before .before .before .before .before .before .before .before .before .before .before .before .before .before .before .before .before .before .before .before .before .before .before .before .before .before .before .before .before .before .before .pre .0), (walking-here (c .before .before .before .before .before .loop .inv .3) (λ e. c .before .before .before .if1 .left (c .before .before .before .before .tag .ensures ∙ e)), omega (arith, c .before .before .before .before .before .loop .inv .1, c .before .before .before .before .before .before .before .before .before .before .before .before .before .before .before .before .before .before .before .before .before .before .before .before .before .before .before .before .before .before .before .before .before .pre .1 .1), omega (arith, c .before .before .before .before .before .loop .inv .2, c .before .before .before .before .before .before .before .before .before .before .before .before .before .before .before .before .before .before .before .before .before .before .before .before .before .before .before .before .before .before .before .before .before .pre .1 .2)))
+convert-component-requires t c κs = (omega (arith, composed _ _ (c .before .before .before .before .before .before .before .before .before .before .before .before .before .before .before .before .before .before .before .before .before .before .before .before .before .before .before .before .before .before .before .before .pre .1 .0) .levels, c .before .before .before .before .before .before .before .before .before .before .before .before .before .before .before .before .before .before .before .before .before .before .before .before .before .before .before .before .before .before .before .before .pre .0), (walking-here (c .before .before .before .before .before .loop .inv .3) (λ e. c .before .before .before .if1 .left (c .before .before .before .before .tag .ensures ∙ e)), omega (arith, c .before .before .before .before .before .loop .inv .1, c .before .before .before .before .before .before .before .before .before .before .before .before .before .before .before .before .before .before .before .before .before .before .before .before .before .before .before .before .before .before .before .before .pre .1 .1), omega (arith, c .before .before .before .before .before .loop .inv .2, c .before .before .before .before .before .before .before .before .before .before .before .before .before .before .before .before .before .before .before .before .before .before .before .before .before .before .before .before .before .before .before .before .pre .1 .2)))
 
 enum-known-s : (t : ℕ) → lts.Need-enum-known-s (claims t) (here t) self.Post Inv-loop μ-loop
 enum-known-s t c = search needs
@@ -169,7 +151,7 @@ same-length-9 t c = omega (arith, c .before .before .before .before .before .bef
 returns-3 : (t : ℕ) → lts.Need-returns-3 (claims t) (here t) self.Post Inv-loop μ-loop
 returns-3 t c =
     let z = passes _ _ _ _ _ _ _ _ (c .before .before .before .before .before .before .before .before .before .before .before .before .before .before .before .before .before .before .before .before .before .before .before .before .before .convert-properties .ensures) (c .before .before .before .before .before .before .before .before .before .before .before .before .before .before .before .before .before .p .given .1) in
-    rw (c .enum-told2 .given .1) (component-checked _ (c .before .before .before .before .before .before .before .before .before .before .before .before .before .before .before .before .before .before .before .before .before .before .before .before .before .before .before .before .before .before .before .before .before .before .before .before .before .before .before .before .before .before .pre .1 .0) (c .before .before .before .before .before .before .before .before .before .before .before .before .before .before .before .before .before .before .before .before .before .before .before .before .before .before .before .before .before .before .before .before .before .before .before .before .after .ensures) (c .before .before .before .before .before .before .before .before .before .before .before .before .before .before .before .before .before .before .before .before .before .before .before .before .before .before .before .before .before .before .before .before .before .before .before .text-at .ensures .behind) (z .behind) _ (c .before .before .before .before .before .before .before .before .before .before .before .before .before .before .before .after2 .ensures) (z .faultless) ∙ sym (c .before .before .before .before .before .before .before .before .before .before .before .before .before .before .loop .inv .4) ∙ subs-off _ _ _ _ (λ e. c .before .before .before .before .before .before .before .before .before .before .before .before .if1 .left (c .before .before .before .before .before .before .before .before .before .before .before .before .before .tag .ensures ∙ e)) (refuses _ _ _ _ _ _ _ _ (c .before .before .before .before .before .before .before .before .convert-component .ensures) (c .enum-told2 .given .1)))
+    rw (c .enum-told2 .given .1) (component-checked _ (c .before .before .before .before .before .before .before .before .before .before .before .before .before .before .before .before .before .before .before .before .before .before .before .before .before .before .before .before .before .before .before .before .before .before .before .before .before .before .before .before .before .pre .1 .0) (c .before .before .before .before .before .before .before .before .before .before .before .before .before .before .before .before .before .before .before .before .before .before .before .before .before .before .before .before .before .before .before .before .before .before .before .after .ensures) (c .before .before .before .before .before .before .before .before .before .before .before .before .before .before .before .before .before .before .before .before .before .before .before .before .before .before .before .before .before .before .before .before .before .before .text-at .ensures .behind) (z .behind) _ (c .before .before .before .before .before .before .before .before .before .before .before .before .before .before .before .after2 .ensures) (z .faultless) ∙ sym (c .before .before .before .before .before .before .before .before .before .before .before .before .before .before .loop .inv .4) ∙ subs-off _ _ _ _ (λ e. c .before .before .before .before .before .before .before .before .before .before .before .before .if1 .left (c .before .before .before .before .before .before .before .before .before .before .before .before .before .tag .ensures ∙ e)) (refuses _ _ _ _ _ _ _ _ (c .before .before .before .before .before .before .before .before .convert-component .ensures) (c .enum-told2 .given .1)))
 
 loop-less : (t : ℕ) → lts.Need-loop-less (claims t) (here t) self.Post Inv-loop μ-loop
 loop-less t c =
@@ -196,9 +178,6 @@ pub +convert-component-spec : {M : Type 1} → statement M
     (after-requires t)
     (text-at-requires t)
     (slice-aggregate-write-mark t)
-    (sub-write-mark t)
-    (part-write-mark-start t)
-    (part-write-mark-end t)
     (write-mark-requires t)
     (convert-properties-requires t)
     (enum-known-p t)
@@ -213,9 +192,6 @@ pub +convert-component-spec : {M : Type 1} → statement M
     (after-requires-3 t)
     (leave-requires t)
     (slice-aggregate-write-mark-2 t)
-    (sub-write-mark-2 t)
-    (part-write-mark-start-2 t)
-    (part-write-mark-end-2 t)
     (write-mark-requires-2 t)
     (same-length-4 t)
     (same-length-5 t)
