@@ -12,19 +12,15 @@ ghost use mathlib.Core.Path.{_≡_};
 ghost use Rattle.octets.specs.Basics.{octets, _and_, all, same};
 ghost use Rattle.octets.specs.Classes.{textOctet};
 ghost use Rattle.content.specs.Parameters.{isBase64, isEncoded, mayReturn};
-ghost use Rattle.tape.specs.Decode.{valueAt, membersAt};
+ghost use Rattle.json.specs.Tape.{tagString};
+ghost use Rattle.tape.specs.Decode.{tagAt, valueAt, membersAt};
 ghost use Rattle.converter.specs.Skeleton.{valuesFrom, paramsFrom};
 
-// No control character but tab and newline in the values of the parameter at `at`.
+// No control character but tab and newline in the values of the parameter at `at`, which is no string.
 fn are_texts(t: &[u8], at: usize) -> bool
+    requires { ⌜ ((tagAt (now t) at ≡ tagString) → ⊥) ⌝ }
     ensures { λ r. ⌜ r ≡ all (all textOctet) (valuesFrom (valueAt (now (t .entry)) at)) ⌝ }
 {
-    if tag(t, at) == STRING {
-        let x = text_at(t, at);
-        let from = x.from;
-        let to = x.to;
-        return all_text(&t[from..to]);
-    }
     let mut i = into_array(t, at);
     loop {
         if tag(t, i) == END {
@@ -56,10 +52,20 @@ pub fn may_return(t: &[u8], at: usize) -> bool
         if same(&t[from..to], b"value") {
             return false;
         }
-        if !are_texts(t, v) {
-            return false;
+        if tag(t, v) == STRING {
+            let x = text_at(t, v);
+            let a = x.from;
+            let b = x.to;
+            if !all_text(&t[a..b]) {
+                return false;
+            }
+            i = x.next;
+        } else {
+            if !are_texts(t, v) {
+                return false;
+            }
+            i = behind(t, v);
         }
-        i = behind(t, v);
     }
 }
 

@@ -9,9 +9,11 @@ use tape::STRING;
 use tape::behind;
 use tape::tag;
 use tape::text_at;
+ghost use mathlib.Core.Path.{_≡_};
 ghost use mathlib.Core.List.{map};
 ghost use Rattle.json.specs.Tree.{octetsOf};
-ghost use Rattle.tape.specs.Decode.{valueAt, listAt, membersAt};
+ghost use Rattle.json.specs.Tape.{tagString};
+ghost use Rattle.tape.specs.Decode.{tagAt, valueAt, listAt, membersAt};
 ghost use Rattle.content.specs.Write.{paramsText};
 ghost use Rattle.content.specs.Folding.{folding, Folded};
 ghost use Rattle.content.proofs.ParamText.{moreValues};
@@ -36,16 +38,11 @@ fn write_more(out: &mut [u8], p: Folder, t: &[u8], at: usize) -> Folder
     }
 }
 
-// Writes the values of the parameter at `at`, commas between them.
+// Writes the values of the parameter at `at`, which is no string, commas between them.
 fn write_param_values(out: &mut [u8], p: Folder, t: &[u8], at: usize) -> Folder
+    requires { ⌜ ((tagAt (now t) at ≡ tagString) → ⊥) ⌝ }
     ensures { λ r. ⌜ Folded (folding (now (out .entry)) p) (paramValuesText (valuesFrom (valueAt (now (t .entry)) at))) (folding (now (out .exit)) r) ⌝ }
 {
-    if tag(t, at) == STRING {
-        let x = text_at(t, at);
-        let from = x.from;
-        let to = x.to;
-        return write_param_value(out, p, &t[from..to]);
-    }
     let a = into_array(t, at);
     if tag(t, a) == END {
         return p;
@@ -73,7 +70,15 @@ pub fn write_params(out: &mut [u8], p: Folder, t: &[u8], at: usize) -> Folder
         let to = k.to;
         let v = k.next;
         q = begin_param(out, q, &t[from..to]);
-        q = write_param_values(out, q, t, v);
-        i = behind(t, v);
+        if tag(t, v) == STRING {
+            let x = text_at(t, v);
+            let a = x.from;
+            let b = x.to;
+            q = write_param_value(out, q, &t[a..b]);
+            i = x.next;
+        } else {
+            q = write_param_values(out, q, t, v);
+            i = behind(t, v);
+        }
     }
 }

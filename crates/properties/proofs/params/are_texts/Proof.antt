@@ -20,8 +20,17 @@ Inv-loop t at i₀ i = all (all textOctet) (map octetsOf (listAt t i)) ≡ all (
 abbrev μ-loop : tie.MeasureT-loop
 μ-loop t at i₀ i = length t - i
 
+into-array-requires : tie.Need-into-array-requires Inv-loop μ-loop
+into-array-requires c κs = search needs
+
+loop-holds : tie.Need-loop-holds Inv-loop μ-loop
+loop-holds c = refl
+
 tag-requires : tie.Need-tag-requires Inv-loop μ-loop
 tag-requires c κs = search needs
+
+returns : tie.Need-returns Inv-loop μ-loop
+returns c = sym (ap (all (all textOctet)) (values-of _ _ (c .before .before .before .before .before .pre) (c .before .before .before .into-array .ensures)) ∙ sym (c .before .before .loop .inv) ∙ ap (all (all textOctet)) (texts-end _ _ (sym (c .before .tag .ensures) ∙ c .if1 .taken)) ∙ texts-none)
 
 text-at-requires : tie.Need-text-at-requires Inv-loop μ-loop
 text-at-requires c κs = search needs
@@ -38,44 +47,14 @@ part-all-text-end c = search needs
 all-text-requires : tie.Need-all-text-requires Inv-loop μ-loop
 all-text-requires c κs = search needs
 
-returns : tie.Need-returns Inv-loop μ-loop
-returns c = c .all-text .ensures ∙ sym (ap (all (all textOctet)) (value-one _ _ (sym (c .before .before .before .before .tag .ensures) ∙ c .before .before .before .if1 .taken) (c .before .before .text-at .ensures)) ∙ texts-one _)
-
-into-array-requires : tie.Need-into-array-requires Inv-loop μ-loop
-into-array-requires c κs = search needs
-
-loop-holds : tie.Need-loop-holds Inv-loop μ-loop
-loop-holds c = refl
-
-tag-requires-2 : tie.Need-tag-requires-2 Inv-loop μ-loop
-tag-requires-2 c κs = search needs
-
 returns-2 : tie.Need-returns-2 Inv-loop μ-loop
-returns-2 c = sym (ap (all (all textOctet)) (values-of _ _ (λ e. c .before .before .before .before .if1 .left (c .before .before .before .before .before .tag .ensures ∙ e)) (c .before .before .before .into-array .ensures)) ∙ sym (c .before .before .loop .inv) ∙ ap (all (all textOctet)) (texts-end _ _ (sym (c .before .tag2 .ensures) ∙ c .if2 .taken)) ∙ texts-none)
-
-text-at-requires-2 : tie.Need-text-at-requires-2 Inv-loop μ-loop
-text-at-requires-2 c κs = search needs
-
-sub-all-text-2 : tie.Need-sub-all-text-2 Inv-loop μ-loop
-sub-all-text-2 c = search needs
-
-part-all-text-start-2 : tie.Need-part-all-text-start-2 Inv-loop μ-loop
-part-all-text-start-2 c = search needs
-
-part-all-text-end-2 : tie.Need-part-all-text-end-2 Inv-loop μ-loop
-part-all-text-end-2 c = search needs
-
-all-text-requires-2 : tie.Need-all-text-requires-2 Inv-loop μ-loop
-all-text-requires-2 c κs = search needs
-
-returns-3 : tie.Need-returns-3 Inv-loop μ-loop
-returns-3 c = sym (ap (all (all textOctet)) (values-of _ _ (λ e. c .before .before .before .before .before .before .before .before .if1 .left (c .before .before .before .before .before .before .before .before .before .tag .ensures ∙ e)) (c .before .before .before .before .before .before .before .into-array .ensures)) ∙ sym (c .before .before .before .before .before .before .loop .inv) ∙ ap (all (all textOctet)) (texts-next _ _ (λ e. c .before .before .before .before .if2 .left (c .before .before .before .before .before .tag2 .ensures ∙ e)) (c .before .before .before .text-at2 .ensures)) ∙ texts-off _ _ (sym (c .before .all-text2 .ensures) ∙ not-true _ (c .if3 .taken)))
+returns-2 c = sym (ap (all (all textOctet)) (values-of _ _ (c .before .before .before .before .before .before .before .before .before .pre) (c .before .before .before .before .before .before .before .into-array .ensures)) ∙ sym (c .before .before .before .before .before .before .loop .inv) ∙ ap (all (all textOctet)) (texts-next _ _ (λ e. c .before .before .before .before .if1 .left (c .before .before .before .before .before .tag .ensures ∙ e)) (c .before .before .before .text-at .ensures)) ∙ texts-off _ _ (sym (c .before .all-text .ensures) ∙ not-true _ (c .if2 .taken)))
 
 loop-less : tie.Need-loop-less Inv-loop μ-loop
-loop-less c = omega (arith, c .before .before .before .text-at2 .ensures .behind .more (λ e. c .before .before .before .before .if2 .left (c .before .before .before .before .before .tag2 .ensures ∙ e)), c .before .before .before .text-at2 .ensures .behind .high)
+loop-less c = omega (arith, c .before .before .before .text-at .ensures .behind .more (λ e. c .before .before .before .before .if1 .left (c .before .before .before .before .before .tag .ensures ∙ e)), c .before .before .before .text-at .ensures .behind .high)
 
 loop-again : tie.Need-loop-again Inv-loop μ-loop
-loop-again c = sym (ap (all (all textOctet)) (texts-next _ _ (λ e. c .before .before .before .before .if2 .left (c .before .before .before .before .before .tag2 .ensures ∙ e)) (c .before .before .before .text-at2 .ensures)) ∙ texts-on _ _ (sym (c .before .all-text2 .ensures) ∙ not-false _ (c .if3 .left))) ∙ c .before .before .before .before .before .before .loop .inv
+loop-again c = sym (ap (all (all textOctet)) (texts-next _ _ (λ e. c .before .before .before .before .if1 .left (c .before .before .before .before .before .tag .ensures ∙ e)) (c .before .before .before .text-at .ensures)) ∙ texts-on _ _ (sym (c .before .all-text .ensures) ∙ not-false _ (c .if2 .left))) ∙ c .before .before .before .before .before .before .loop .inv
 
 pub are-texts-spec : {M : Type 1} → statement M
 are-texts-spec =
@@ -83,22 +62,15 @@ are-texts-spec =
     (tie.spec
     Inv-loop
     μ-loop
+    into-array-requires
+    loop-holds
     tag-requires
+    returns
     text-at-requires
     sub-all-text
     part-all-text-start
     part-all-text-end
     all-text-requires
-    returns
-    into-array-requires
-    loop-holds
-    tag-requires-2
     returns-2
-    text-at-requires-2
-    sub-all-text-2
-    part-all-text-start-2
-    part-all-text-end-2
-    all-text-requires-2
-    returns-3
     loop-less
     loop-again)

@@ -5,10 +5,11 @@ use native.Mathlib.Omega.{arith}
 use borrow.Author.Tests.{not-true, not-false}
 use lib.ListN.{length}
 use Rattle.octets.specs.Basics.{all}
+use Rattle.octets.specs.Classes.{textOctet}
 use Rattle.tape.specs.Decode.{membersAt}
 use Rattle.content.specs.Parameters.{mayReturn}
 use Rattle.converter.specs.Skeleton.{paramsFrom}
-use Rattle.properties.proofs.ParamWalk.{params-end, params-first, params-next, return-none, return-value, return-off, return-on}
+use Rattle.properties.proofs.ParamWalk.{value-one, texts-one, params-end, params-first, params-next, return-none, return-value, return-off, return-on}
 use borrow.Author.Needs.{needs}
 use Rattle.properties.proofs.params.may_return.Statement.{statement}
 use Rattle.properties.proofs.params.may_return.Tie as tie
@@ -49,22 +50,51 @@ same-requires c κs = search needs
 returns-2 : tie.Need-returns-2 Inv-loop μ-loop
 returns-2 c = sym (ap (all mayReturn) (params-first _ _ (λ e. c .before .before .before .before .before .if1 .left (c .before .before .before .before .before .before .tag .ensures ∙ e)) (c .before .before .before .before .text-at .ensures)) ∙ return-value _ _ _ (sym (c .before .same .ensures) ∙ c .if2 .taken)) ∙ c .before .before .before .before .before .before .before .loop .inv
 
-are-texts-requires : tie.Need-are-texts-requires Inv-loop μ-loop
-are-texts-requires c κs = search needs
+tag-requires-2 : tie.Need-tag-requires-2 Inv-loop μ-loop
+tag-requires-2 c κs = search needs
+
+text-at-requires-2 : tie.Need-text-at-requires-2 Inv-loop μ-loop
+text-at-requires-2 c κs = search needs
+
+sub-all-text : tie.Need-sub-all-text Inv-loop μ-loop
+sub-all-text c = search needs
+
+part-all-text-start : tie.Need-part-all-text-start Inv-loop μ-loop
+part-all-text-start c = search needs
+
+part-all-text-end : tie.Need-part-all-text-end Inv-loop μ-loop
+part-all-text-end c = search needs
+
+all-text-requires : tie.Need-all-text-requires Inv-loop μ-loop
+all-text-requires c κs = search needs
 
 returns-3 : tie.Need-returns-3 Inv-loop μ-loop
-returns-3 c = sym (ap (all mayReturn) (params-first _ _ (λ e. c .before .before .before .before .before .before .before .if1 .left (c .before .before .before .before .before .before .before .before .tag .ensures ∙ e)) (c .before .before .before .before .before .before .text-at .ensures)) ∙ return-off _ _ _ (sym (c .before .before .before .same .ensures) ∙ c .before .before .if2 .left) (sym (c .before .are-texts .ensures) ∙ not-true _ (c .if3 .taken))) ∙ c .before .before .before .before .before .before .before .before .before .loop .inv
+returns-3 c = sym (ap (all mayReturn) (params-first _ _ (λ e. c .before .before .before .before .before .before .before .before .before .before .before .if1 .left (c .before .before .before .before .before .before .before .before .before .before .before .before .tag .ensures ∙ e)) (c .before .before .before .before .before .before .before .before .before .before .text-at .ensures)) ∙ return-off _ _ _ (sym (c .before .before .before .before .before .before .before .same .ensures) ∙ c .before .before .before .before .before .before .if2 .left) (ap (all (all textOctet)) (value-one _ _ (sym (c .before .before .before .before .before .tag2 .ensures) ∙ c .before .before .before .before .if3 .taken) (c .before .before .before .text-at2 .ensures)) ∙ texts-one _ ∙ sym (c .before .all-text .ensures) ∙ not-true _ (c .if4 .taken))) ∙ c .before .before .before .before .before .before .before .before .before .before .before .before .before .loop .inv
+
+loop-less : tie.Need-loop-less Inv-loop μ-loop
+loop-less c =
+    let k = c .before .before .before .before .before .before .before .before .before .before .text-at .ensures .behind in
+    omega (arith, k .more (λ e. c .before .before .before .before .before .before .before .before .before .before .before .if1 .left (c .before .before .before .before .before .before .before .before .before .before .before .before .tag .ensures ∙ e)), c .before .before .before .text-at2 .ensures .behind .low (k .high), c .before .before .before .text-at2 .ensures .behind .high)
+
+loop-again : tie.Need-loop-again Inv-loop μ-loop
+loop-again c = sym (ap (all mayReturn) (params-next _ _ (λ e. c .before .before .before .before .before .before .before .before .before .before .before .if1 .left (c .before .before .before .before .before .before .before .before .before .before .before .before .tag .ensures ∙ e)) (c .before .before .before .before .before .before .before .before .before .before .text-at .ensures) (c .before .before .before .text-at2 .ensures .behind)) ∙ return-on _ _ _ (sym (c .before .before .before .before .before .before .before .same .ensures) ∙ c .before .before .before .before .before .before .if2 .left) (ap (all (all textOctet)) (value-one _ _ (sym (c .before .before .before .before .before .tag2 .ensures) ∙ c .before .before .before .before .if3 .taken) (c .before .before .before .text-at2 .ensures)) ∙ texts-one _ ∙ sym (c .before .all-text .ensures) ∙ not-false _ (c .if4 .left))) ∙ c .before .before .before .before .before .before .before .before .before .before .before .before .before .loop .inv
+
+are-texts-requires : tie.Need-are-texts-requires Inv-loop μ-loop
+are-texts-requires c κs = λ e. c .if3 .left (c .before .tag2 .ensures ∙ e)
+
+returns-4 : tie.Need-returns-4 Inv-loop μ-loop
+returns-4 c = sym (ap (all mayReturn) (params-first _ _ (λ e. c .before .before .before .before .before .before .before .before .before .if1 .left (c .before .before .before .before .before .before .before .before .before .before .tag .ensures ∙ e)) (c .before .before .before .before .before .before .before .before .text-at .ensures)) ∙ return-off _ _ _ (sym (c .before .before .before .before .before .same .ensures) ∙ c .before .before .before .before .if2 .left) (sym (c .before .are-texts .ensures) ∙ not-true _ (c .if5 .taken))) ∙ c .before .before .before .before .before .before .before .before .before .before .before .loop .inv
 
 behind-requires : tie.Need-behind-requires Inv-loop μ-loop
 behind-requires c κs = search needs
 
-loop-less : tie.Need-loop-less Inv-loop μ-loop
-loop-less c =
-    let k = c .before .before .before .before .before .before .before .text-at .ensures .behind in
-    omega (arith, k .more (λ e. c .before .before .before .before .before .before .before .before .if1 .left (c .before .before .before .before .before .before .before .before .before .tag .ensures ∙ e)), c .behind .ensures .low (k .high), c .behind .ensures .high)
+loop-less-2 : tie.Need-loop-less-2 Inv-loop μ-loop
+loop-less-2 c =
+    let k = c .before .before .before .before .before .before .before .before .before .text-at .ensures .behind in
+    omega (arith, k .more (λ e. c .before .before .before .before .before .before .before .before .before .before .if1 .left (c .before .before .before .before .before .before .before .before .before .before .before .tag .ensures ∙ e)), c .behind .ensures .low (k .high), c .behind .ensures .high)
 
-loop-again : tie.Need-loop-again Inv-loop μ-loop
-loop-again c = sym (ap (all mayReturn) (params-next _ _ (λ e. c .before .before .before .before .before .before .before .before .if1 .left (c .before .before .before .before .before .before .before .before .before .tag .ensures ∙ e)) (c .before .before .before .before .before .before .before .text-at .ensures) (c .behind .ensures)) ∙ return-on _ _ _ (sym (c .before .before .before .before .same .ensures) ∙ c .before .before .before .if2 .left) (sym (c .before .before .are-texts .ensures) ∙ not-false _ (c .before .if3 .left))) ∙ c .before .before .before .before .before .before .before .before .before .before .loop .inv
+loop-again-2 : tie.Need-loop-again-2 Inv-loop μ-loop
+loop-again-2 c = sym (ap (all mayReturn) (params-next _ _ (λ e. c .before .before .before .before .before .before .before .before .before .before .if1 .left (c .before .before .before .before .before .before .before .before .before .before .before .tag .ensures ∙ e)) (c .before .before .before .before .before .before .before .before .before .text-at .ensures) (c .behind .ensures)) ∙ return-on _ _ _ (sym (c .before .before .before .before .before .before .same .ensures) ∙ c .before .before .before .before .before .if2 .left) (sym (c .before .before .are-texts .ensures) ∙ not-false _ (c .before .if5 .left))) ∙ c .before .before .before .before .before .before .before .before .before .before .before .before .loop .inv
 
 pub may-return-spec : {M : Type 1} → statement M
 may-return-spec =
@@ -82,8 +112,17 @@ may-return-spec =
     slice-aggregate-same
     same-requires
     returns-2
-    are-texts-requires
+    tag-requires-2
+    text-at-requires-2
+    sub-all-text
+    part-all-text-start
+    part-all-text-end
+    all-text-requires
     returns-3
-    behind-requires
     loop-less
-    loop-again)
+    loop-again
+    are-texts-requires
+    returns-4
+    behind-requires
+    loop-less-2
+    loop-again-2)

@@ -6,9 +6,10 @@ use lib.ListN.{length}
 use Rattle.tape.specs.Decode.{membersAt}
 use Rattle.content.specs.Folding.{folding}
 use Rattle.content.specs.Write.{paramsText}
-use Rattle.content.proofs.Folding.{Leads, leads-start, leads-on, leads-end}
+use Rattle.content.proofs.Folding.{Leads, leads-start, leads-on, leads-end, as-folded}
 use Rattle.converter.specs.Skeleton.{paramsFrom}
-use Rattle.properties.proofs.ParamWalk.{params-end, params-next, params-none, params-more}
+use Rattle.properties.specs.ParamValues.{paramValuesText}
+use Rattle.properties.proofs.ParamWalk.{value-one, values-one, params-end, params-next, params-none, params-more}
 use borrow.Author.Needs.{needs}
 use Rattle.properties.proofs.writing.write_params.Statement.{statement}
 use Rattle.properties.proofs.writing.write_params.Tie as tie
@@ -46,21 +47,49 @@ part-begin-param-end c = search needs
 begin-param-requires : tie.Need-begin-param-requires Inv-loop μ-loop
 begin-param-requires c κs = search needs
 
+tag-requires-2 : tie.Need-tag-requires-2 Inv-loop μ-loop
+tag-requires-2 c κs = search needs
+
+text-at-requires-2 : tie.Need-text-at-requires-2 Inv-loop μ-loop
+text-at-requires-2 c κs = search needs
+
+sub-write-param-value : tie.Need-sub-write-param-value Inv-loop μ-loop
+sub-write-param-value c = search needs
+
+part-write-param-value-start : tie.Need-part-write-param-value-start Inv-loop μ-loop
+part-write-param-value-start c = search needs
+
+part-write-param-value-end : tie.Need-part-write-param-value-end Inv-loop μ-loop
+part-write-param-value-end c = search needs
+
+write-param-value-requires : tie.Need-write-param-value-requires Inv-loop μ-loop
+write-param-value-requires c κs = search needs
+
+loop-less : tie.Need-loop-less Inv-loop μ-loop
+loop-less c =
+    let k = c .before .before .before .before .before .before .before .before .before .before .before .before .before .text-at .ensures .behind in
+    omega (arith, k .more (λ e. c .before .before .before .before .before .before .before .before .before .before .before .before .before .before .if1 .left (c .before .before .before .before .before .before .before .before .before .before .before .before .before .before .before .tag .ensures ∙ e)), c .before .before .before .before .before .text-at2 .ensures .behind .low (k .high), c .before .before .before .before .before .text-at2 .ensures .behind .high)
+
+loop-again : tie.Need-loop-again Inv-loop μ-loop
+loop-again c =
+    let e = ap paramsText (params-next _ _ (λ e. c .before .before .before .before .before .before .before .before .before .before .before .before .before .before .if1 .left (c .before .before .before .before .before .before .before .before .before .before .before .before .before .before .before .tag .ensures ∙ e)) (c .before .before .before .before .before .before .before .before .before .before .before .before .before .text-at .ensures) (c .before .before .before .before .before .text-at2 .ensures .behind)) ∙ params-more _ _ _ in
+    (omega (arith, c .before .before .before .before .before .before .before .before .before .before .before .before .before .before .before .before .loop .inv .0), leads-on (leads-on (c .before .before .before .before .before .before .before .before .before .before .before .before .before .before .before .before .loop .inv .1) (c .before .before .before .before .before .before .before .before .before .before .begin-param .ensures) e) (as-folded (c .before .before .write-param-value .ensures) (sym (ap paramValuesText (value-one _ _ (sym (c .before .before .before .before .before .before .before .tag2 .ensures) ∙ c .before .before .before .before .before .before .if2 .taken) (c .before .before .before .before .before .text-at2 .ensures)) ∙ values-one _))) refl)
+
 write-param-values-requires : tie.Need-write-param-values-requires Inv-loop μ-loop
-write-param-values-requires c κs = search needs
+write-param-values-requires c κs = λ e. c .before .if2 .left (c .before .before .tag2 .ensures ∙ e)
 
 behind-requires : tie.Need-behind-requires Inv-loop μ-loop
 behind-requires c κs = search needs
 
-loop-less : tie.Need-loop-less Inv-loop μ-loop
-loop-less c =
-    let k = c .before .before .before .before .before .before .before .before .before .before .text-at .ensures .behind in
-    omega (arith, k .more (λ e. c .before .before .before .before .before .before .before .before .before .before .before .if1 .left (c .before .before .before .before .before .before .before .before .before .before .before .before .tag .ensures ∙ e)), c .behind .ensures .low (k .high), c .behind .ensures .high)
+loop-less-2 : tie.Need-loop-less-2 Inv-loop μ-loop
+loop-less-2 c =
+    let k = c .before .before .before .before .before .before .before .before .before .before .before .before .text-at .ensures .behind in
+    omega (arith, k .more (λ e. c .before .before .before .before .before .before .before .before .before .before .before .before .before .if1 .left (c .before .before .before .before .before .before .before .before .before .before .before .before .before .before .tag .ensures ∙ e)), c .behind .ensures .low (k .high), c .behind .ensures .high)
 
-loop-again : tie.Need-loop-again Inv-loop μ-loop
-loop-again c =
-    let e = ap paramsText (params-next _ _ (λ e. c .before .before .before .before .before .before .before .before .before .before .before .if1 .left (c .before .before .before .before .before .before .before .before .before .before .before .before .tag .ensures ∙ e)) (c .before .before .before .before .before .before .before .before .before .before .text-at .ensures) (c .behind .ensures)) ∙ params-more _ _ _ in
-    (omega arith, leads-on (leads-on (c .before .before .before .before .before .before .before .before .before .before .before .before .before .loop .inv .1) (c .before .before .before .before .before .before .before .begin-param .ensures) e) (c .before .before .before .write-param-values .ensures) refl)
+loop-again-2 : tie.Need-loop-again-2 Inv-loop μ-loop
+loop-again-2 c =
+    let e = ap paramsText (params-next _ _ (λ e. c .before .before .before .before .before .before .before .before .before .before .before .before .before .if1 .left (c .before .before .before .before .before .before .before .before .before .before .before .before .before .before .tag .ensures ∙ e)) (c .before .before .before .before .before .before .before .before .before .before .before .before .text-at .ensures) (c .behind .ensures)) ∙ params-more _ _ _ in
+    (omega (arith, c .before .before .before .before .before .before .before .before .before .before .before .before .before .before .before .loop .inv .0), leads-on (leads-on (c .before .before .before .before .before .before .before .before .before .before .before .before .before .before .before .loop .inv .1) (c .before .before .before .before .before .before .before .before .before .begin-param .ensures) e) (c .before .before .before .write-param-values .ensures) refl)
 
 pub write-params-spec : {M : Type 1} → statement M
 write-params-spec =
@@ -77,7 +106,15 @@ write-params-spec =
     part-begin-param-start
     part-begin-param-end
     begin-param-requires
+    tag-requires-2
+    text-at-requires-2
+    sub-write-param-value
+    part-write-param-value-start
+    part-write-param-value-end
+    write-param-value-requires
+    loop-less
+    loop-again
     write-param-values-requires
     behind-requires
-    loop-less
-    loop-again)
+    loop-less-2
+    loop-again-2)
