@@ -52,9 +52,9 @@ fn past_exponent(text: &[u8], at: usize) -> Found
     requires { ⌜ at ≤ length (now text) ⌝ }
     ensures { λ r. ⌜ FoundAt (now (text .entry)) at (pick (isExponent (getD (now (text .entry)) at 0)) (scan behindE (drop (at + 1) (now (text .entry)))) (ok tt (drop at (now (text .entry))))) r ⌝ }
 {
-    match octets::peek(text, at) {
-        b'e' => past_power(text, at + 1),
-        b'E' => past_power(text, at + 1),
+    match octets::peek(&*text, at) {
+        b'e' => past_power(&*text, at + 1),
+        b'E' => past_power(&*text, at + 1),
         _ => Found::At(at),
     }
 }

@@ -53,7 +53,7 @@ pub fn put_string(out: &mut [u8], at: usize, s: &[u8]) -> usize
     let mut p = octets::put(out, at, b'"');
     let mut i = 0;
     while i < s.len() {
-        let e = past_bare(s, i);
+        let e = past_bare(&*s, i);
         let q = octets::put_all(out, p, &s[i..e]);
         if e == s.len() {
             return octets::put(out, q, b'"');

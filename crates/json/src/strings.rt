@@ -30,19 +30,19 @@ fn hex4(text: &[u8], at: usize) -> usize
     requires { ⌜ at ≤ length (now text) ⌝ }
     ensures { λ r. ⌜ r ≡ codeOf (hex4Of (drop at (now (text .entry)))) ⌝ }
 {
-    let a = digit(text, at);
+    let a = digit(&*text, at);
     if 15 < a {
         return NONE;
     }
-    let b = digit(text, at + 1);
+    let b = digit(&*text, at + 1);
     if 15 < b {
         return NONE;
     }
-    let c = digit(text, at + 2);
+    let c = digit(&*text, at + 2);
     if 15 < c {
         return NONE;
     }
-    let d = digit(text, at + 3);
+    let d = digit(&*text, at + 3);
     if 15 < d {
         return NONE;
     }
@@ -257,16 +257,16 @@ pub(crate) fn string(text: &[u8], at: usize, tape: &mut [u8], to: usize) -> Step
     let mut p = octets::put(tape, to, STRING);
     let mut i = at;
     loop {
-        let e = past_unescaped(text, i);
+        let e = past_unescaped(&*text, i);
         let q = octets::put_all(tape, p, &text[i..e]);
-        let b = octets::peek(text, e);
+        let b = octets::peek(&*text, e);
         if b == b'"' {
             return Step::Read(e + 1, octets::put(tape, q, END));
         }
         if b != b'\\' {
             return Step::NotJson;
         }
-        let v = escape(text, e + 1, tape, q);
+        let v = escape(&*text, e + 1, tape, q);
         let Step::Read(n, m) = v else {
             return v;
         };

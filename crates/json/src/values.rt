@@ -91,14 +91,14 @@ fn value(text: &[u8], at: usize, left: usize, tape: &mut [u8], to: usize) -> Ste
     requires { ⌜ at ≤ length (now text) ⌝ }
     ensures { λ r. ⌜ Agrees ser (now (text .entry)) (at + 1) (pen (now (tape .entry)) to) (now (tape .exit)) (valueOf left (drop at (now (text .entry)))) r ⌝ }
 {
-    match octets::peek(text, at) {
-        b'[' => array(text, at, left, tape, to),
-        b'{' => object(text, at, left, tape, to),
-        b'"' => string(text, at + 1, tape, to),
-        b'n' => literal(text, at + 1, b"ull", tape, to, NULL),
-        b'f' => literal(text, at + 1, b"alse", tape, to, FALSE),
-        b't' => literal(text, at + 1, b"rue", tape, to, TRUE),
-        _ => number(text, at, tape, to),
+    match octets::peek(&*text, at) {
+        b'[' => array(&*text, at, left, tape, to),
+        b'{' => object(&*text, at, left, tape, to),
+        b'"' => string(&*text, at + 1, tape, to),
+        b'n' => literal(&*text, at + 1, b"ull", tape, to, NULL),
+        b'f' => literal(&*text, at + 1, b"alse", tape, to, FALSE),
+        b't' => literal(&*text, at + 1, b"rue", tape, to, TRUE),
+        _ => number(&*text, at, tape, to),
     }
 }
 

@@ -27,8 +27,8 @@ going c = text-run (c .before .before .before .before .before .before .before .l
 escaped : (c : tie.After-known-told Inv-loop μ-loop) → HasRead (λ xs. xs) (now (c .before .before .before .before .before .before .before .before .before .before .before .before .before .before .before .before .before .before .before .before .before .before .before .args .text)) (c .before .before .before .before .before .before .before .before .before .before .before .before .before .before .before .past-unescaped .result + 1) (pen (c .before .before .before .before .before .before .before .before .before .before .before .before .put-all .last .0) (c .before .before .before .before .before .before .before .before .before .before .before .before .put-all .result)) (c .before .before .before .before .before .escape .last .1 .1 .0) (escapeText (drop (c .before .before .before .before .before .before .before .before .before .before .before .before .before .before .before .past-unescaped .result + 1) (now (c .before .before .before .before .before .before .before .before .before .before .before .before .before .before .before .before .before .before .before .before .before .before .before .args .text)))) (c .before .v .given .0 .0) (c .before .v .given .0 .1 .0)
 escaped c = was-read (c .before .before .before .before .before .escape .ensures) (c .before .v .given .1)
 
-add-t22 : tie.Need-add-t22 Inv-loop μ-loop
-add-t22 c = omega (arith, inside-is (now (c .before .before .before .before .before .before .before .before .before .before .before .before .before .before .before .args .text)) _ 34 (sym (c .before .peek .ensures) ∙ c .if1 .taken) (omega arith))
+add-t26 : tie.Need-add-t26 Inv-loop μ-loop
+add-t26 c = omega (arith, inside-is (now (c .before .before .before .before .before .before .before .before .before .before .before .before .before .before .before .args .text)) _ 34 (sym (c .before .peek .ensures) ∙ c .if1 .taken) (omega arith))
 
 returns : tie.Need-returns Inv-loop μ-loop
 returns c = agrees-behind (c .before .before .before .before .before .before .before .before .before .before .before .before .before .before .before .put .ensures) (text-close (going (c .before .before .before .before .before)) (sym (c .before .before .before .before .before .peek .ensures) ∙ c .before .before .before .before .if1 .taken) (omega arith) (c .before .before .put2 .ensures))
@@ -65,7 +65,7 @@ string-spec =
     (λ c. search needs)
     (λ c κs. search needs)
     (λ c κs. search needs)
-    add-t22
+    add-t26
     (λ c κs. search needs)
     (λ c. search needs)
     returns
