@@ -10,7 +10,7 @@ use borrow.Author.Tests.{lt-ltb, le-ltb, eq-eqb}
 use lib.Dec.{eqb}
 use lib.ListN.{length, take, drop, List·getD-eq-default}
 use lib.Seq.{take-take}
-use Rattle.octets.specs.Basics.{octets, same}
+use Rattle.octets.specs.Basics.{same}
 use Rattle.octets.specs.Classes.{upper}
 use Rattle.octets.proofs.Cases.{cases, never}
 use Rattle.octets.proofs.Classes.{same-length}
@@ -37,10 +37,6 @@ pub other-sort : (k : ℕ) → Away k 1 13 → (keyAt k) .sort ≡ frequency
 unfolding keyAt
 other-sort zero a = unfold keys in refl
 other-sort (suc k) a = ap (λ (j : Key). j .sort) (List·getD-eq-default keys (key [] frequency) (rw key-count (away (suc k) 1 13 a (omega arith))))
-
--- the names of the keys between commas
-abbrev pub keyWords : List ℕ
-keyWords = octets "FREQ,UNTIL,COUNT,INTERVAL,BYSECOND,BYMINUTE,BYHOUR,BYDAY,BYMONTHDAY,BYYEARDAY,BYWEEKNO,BYMONTH,BYSETPOS,WKST"
 
 -- a text is among the words that are as long as it, or nowhere
 other-length : (w n : List ℕ) (k : ℕ) → length n ≡ k → eqb k (length w) ≡ false → same w n ≡ false

@@ -2,16 +2,14 @@
 use Prim.Native.Nat.{ℕ, _+_, _≤_, _<_}
 use mathlib.Core.Path.{_≡_, refl, sym, ap, _∙_}
 use mathlib.Core.Bool.{Bool, true, false}
-use mathlib.Core.List.{List, map}
+use mathlib.Core.List.{List}
 use mathlib.Core.Option.{none}
 use Rattle.octets.specs.Basics.{_and_}
 use Rattle.octets.specs.Optional.{holds, given}
-use Rattle.octets.specs.Classes.{between, isLower, upperOctet, isLowerName, upper}
-use Rattle.octets.specs.Pieces.{split, cut, onto}
+use Rattle.octets.specs.Classes.{isLowerName, upper}
 use Rattle.octets.proofs.Cases.{and-assoc, never}
-use Rattle.calendar.specs.Recurrence.{Sort, frequency, moment, count, weekday, ordinal, numbers, several, Key, keys}
-use Rattle.calendar.specs.Walk.{wordsIn, wordPlace, keyPlace, keyAt}
-use Rattle.calendar.proofs.Keys.{keyWords}
+use Rattle.calendar.specs.Recurrence.{Sort, frequency, moment, count, weekday, ordinal, numbers, several}
+use Rattle.calendar.specs.Walk.{keyPlace, keyAt}
 use Rattle.calendar.proofs.Walk.{key-known, key-unknown}
 use Rattle.json.specs.Tree.{Json, num, str, arr, Items, item, member, string?, number?, array?}
 use Rattle.json.specs.Tape.{tagNumber, tagString, tagArray, tagEnd}
@@ -23,15 +21,6 @@ use Rattle.tape.proofs.Walks.{array-inside}
 use Rattle.tape.proofs.Scans.{part, Keyed, members-on}
 use Rattle.values.specs.Recur.{isWord, isInteger, isUntil, allItems, someItems, oneOrMore, kindIs, kindsAre}
 use Rattle.icalrecur.specs.Kinds.{itemIs, memberIs}
-
--- the place of a name among the keys
-key-words : wordsIn keyWords ≡ map (λ (k : Key). k .name) keys
-unfolding wordsIn keys split cut onto upper upperOctet isLower between
-key-words = refl
-
-pub key-place : (n : List ℕ) → wordPlace (wordsIn keyWords) n ≡ keyPlace n
-unfolding keyPlace
-key-place n = ap (λ (ws : List (List ℕ)). wordPlace ws n) key-words
 
 -- a string and a number, whose octets were found
 module _ {t : List ℕ} {i : ℕ} {r : Text} (x : TextAt t i r) where

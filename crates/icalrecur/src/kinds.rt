@@ -1,16 +1,15 @@
 // The JSON kinds that the members of a recurrence object take.
 ghost use mathlib.Core.Path.{_≡_};
 ghost use Rattle.octets.specs.Basics.{all};
-ghost use Rattle.octets.specs.Classes.{upper};
 ghost use Rattle.calendar.specs.Recurrence.{several};
-ghost use Rattle.calendar.specs.Walk.{keyPlace, sortSaid};
+ghost use Rattle.calendar.specs.Walk.{sortSaid};
 ghost use Rattle.json.specs.Tree.{num, str};
 ghost use Rattle.tape.specs.Decode.{valueAt, itemsAt, membersAt};
 ghost use Rattle.values.specs.Recur.{wordOctet, allItems, kindIs, kindsAre};
 ghost use Rattle.icalrecur.specs.Kinds.{itemIs, memberIs};
 use calendar::parts::ItemSort;
+use calendar::parts::key_place;
 use calendar::parts::sort_of;
-use calendar::parts::word_place;
 use calendar::texts::is_extended_moment;
 use octets::is_digit;
 use octets::is_lower;
@@ -29,16 +28,6 @@ use values::simple::is_integer;
 
 // Keys of parts; a name with this place or a later one is none.
 pub const KEYS: usize = 14;
-
-// The place of a name among the keys, letters in either case.
-pub fn key_of(name: &[u8]) -> usize
-    ensures { λ r. ⌜ r ≡ keyPlace (upper (now (name .entry))) ⌝ }
-{
-    word_place(
-        b"FREQ,UNTIL,COUNT,INTERVAL,BYSECOND,BYMINUTE,BYHOUR,BYDAY,BYMONTHDAY,BYYEARDAY,BYWEEKNO,BYMONTH,BYSETPOS,WKST",
-        name,
-    )
-}
 
 fn is_word_octet(c: u8) -> bool
     ensures { λ r. ⌜ r ≡ wordOctet c ⌝ }
@@ -101,8 +90,8 @@ fn number_is(sort: ItemSort, s: &[u8]) -> bool
 fn item_is(t: &[u8], at: usize, sort: ItemSort) -> bool
     ensures { λ r. ⌜ r ≡ itemIs (sortSaid sort) (valueAt (now (t .entry)) at) ⌝ }
 {
-    let b = tag(t, at);
-    let s = text_at(t, at);
+    let b = tag(&*t, at);
+    let s = text_at(&*t, at);
     let from = s.from;
     let to = s.to;
     match b {
@@ -166,7 +155,7 @@ fn member_is(name: &[u8], t: &[u8], at: usize) -> bool
     if !is_lower_name(name) {
         return false;
     }
-    let key = key_of(name);
+    let key = key_place(name);
     if KEYS <= key {
         return false;
     }

@@ -5,8 +5,8 @@ ghost use Rattle.tape.specs.Decode.{valueAt, itemsAt, membersAt};
 ghost use Rattle.values.specs.Recur.{stringText, itemText, memberText};
 ghost use Rattle.icalrecur.specs.Wording.{itemsText, valuesText, objectText};
 use crate::kinds::KEYS;
-use crate::kinds::key_of;
 use calendar::parts::ItemSort;
+use calendar::parts::key_place;
 use calendar::parts::sort_of;
 use calendar::texts::Form;
 use calendar::texts::basic;
@@ -42,8 +42,8 @@ fn put_string(out: &mut [u8], at: usize, sort: ItemSort, s: &[u8]) -> usize
 fn put_item(out: &mut [u8], at: usize, t: &[u8], i: usize, sort: ItemSort) -> usize
     ensures { λ r. ⌜ Wrote (pen (now (out .entry)) at) (itemText (sortSaid sort) (valueAt (now (t .entry)) i)) (pen (now (out .exit)) r) ⌝ }
 {
-    let b = tag(t, i);
-    let s = text_at(t, i);
+    let b = tag(&*t, i);
+    let s = text_at(&*t, i);
     let from = s.from;
     let to = s.to;
     match b {
@@ -89,7 +89,7 @@ fn put_member(out: &mut [u8], at: usize, name: &[u8], t: &[u8], i: usize) -> usi
 {
     let named = put_upper(out, at, name);
     let from = put(out, named, b'=');
-    let key = key_of(name);
+    let key = key_place(name);
     if KEYS <= key {
         return from;
     }
