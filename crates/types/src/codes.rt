@@ -18,7 +18,7 @@ use octets::put_all;
 pub fn code_named(name: &[u8]) -> u8
     ensures { λ r. ⌜ r ≡ codeNamed (lower (now (name .entry))) ⌝ }
 {
-    match find_type(name) {
+    match find_type(&*name) {
         Found::Listed(code, _) => code,
         Found::Unlisted => 0,
     }

@@ -40,7 +40,7 @@ pub fn read_rows(hex: &[u8], rows: &mut [u8]) -> Converted
     if rows.len() < ROOM_FOR_ROWS {
         return refuse(rows, Refusal::NoRoom);
     }
-    match lay_rows(hex, rows) {
+    match lay_rows(&*hex, rows) {
         Laid::Upto(n) => Converted::Written(n),
         Laid::Malformed => refuse(rows, Refusal::RowsMalformed),
     }

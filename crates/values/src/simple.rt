@@ -178,10 +178,10 @@ pub fn is_float(s: &[u8]) -> bool
 pub fn put_float(out: &mut [u8], at: usize, s: &[u8]) -> usize
     ensures { λ r. ⌜ Wrote (pen (now (out .entry)) at) (floatShown (now (s .entry))) (pen (now (out .exit)) r) ⌝ }
 {
-    let sign = sign_length(s);
+    let sign = sign_length(&*s);
     let rest = &s[sign..];
     let zeros = leading_zeros(rest);
-    if peek(s, 0) == b'-' {
+    if peek(&*s, 0) == b'-' {
         let to = put(out, at, b'-');
         return put_all(out, to, &rest[zeros..]);
     }

@@ -33,9 +33,9 @@ pub fn sort_of(name: &[u8], code: u8) -> Sort
     match code {
         1 => Sort::Binary,
         2 => Sort::Boolean,
-        4..=9 => date_to_period(name, code),
+        4..=9 => date_to_period(&*name, code),
         10 => Sort::Recur,
-        11 => text_sort(name),
+        11 => text_sort(&*name),
         12 => Sort::Time,
         14 => Sort::UtcOffset,
         _ => Sort::Plain,

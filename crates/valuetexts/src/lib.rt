@@ -82,10 +82,10 @@ fn past_run(s: &[u8], at: usize) -> usize
     let mut i = at;
     while i < n {
         if n - i < BLOCK {
-            return past_octets(s, i);
+            return past_octets(&*s, i);
         }
         if !all_run(&s[i..i + BLOCK]) {
-            return past_octets(s, i);
+            return past_octets(&*s, i);
         }
         i += BLOCK;
     }
