@@ -92,10 +92,10 @@ fn all_within(s: &[u8], lo: u8, hi: u8) -> bool
 pub fn is_utf8(s: &[u8]) -> bool
     ensures { λ r. ⌜ r ≡ utf8 (now (s .entry)) ⌝ }
 {
-    if all_within(s, 0, 127) {
+    if all_within(&*s, 0, 127) {
         return true;
     }
-    has_characters(s)
+    has_characters(&*s)
 }
 
 // UTF-8, a character at a time.

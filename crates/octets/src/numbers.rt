@@ -104,8 +104,8 @@ fn put_trimmed(out: &mut [u8], at: usize, s: &[u8]) -> usize
 pub fn put_integer_text(out: &mut [u8], at: usize, s: &[u8]) -> usize
     ensures { λ r. ⌜ Wrote (pen (now (out .entry)) at) (integerText (now (s .entry))) (pen (now (out .exit)) r) ⌝ }
 {
-    let sign = sign_length(s);
-    if is_negative(s) {
+    let sign = sign_length(&*s);
+    if is_negative(&*s) {
         let to = put(out, at, b'-');
         return put_trimmed(out, to, &s[sign..]);
     }
