@@ -127,17 +127,17 @@ fn put_component(
     requires { ⌜ levels (componentAt (readProperty (tableIn (now rows))) (nameFrom (now buf) name) (eventsIn (drop (e + 1) (now buf)))) ≤ left ⌝ }
     ensures { λ r. ⌜ Walked (now (buf .entry)) (e + 1) (behindEnd 0 (eventsIn (drop (e + 1) (now (buf .entry))))) (pen (now (out .entry)) at) (print (jcalOf (componentAt (readProperty (tableIn (now (rows .entry)))) (nameFrom (now (buf .entry)) name) (eventsIn (drop (e + 1) (now (buf .entry))))))) (now (out .exit)) r ⌝ }
 {
-    let p = put_head(buf, rows, name, e, out, at);
+    let p = put_head(&*buf, &*rows, name, e, out, at);
     let n = p.next;
     let mut to = p.at;
     let mut i = e + 1;
     let mut first = true;
     while i < buf.len() {
-        let f = line_end(buf, i);
-        match kind_at(buf, i, f) {
+        let f = line_end(&*buf, i);
+        match kind_at(&*buf, i, f) {
             Kind::Opens(inner) => {
                 let item = put_comma(out, to, first);
-                let q = put_component(buf, rows, inner, f, left - 1, out, item);
+                let q = put_component(&*buf, &*rows, inner, f, left - 1, out, item);
                 to = q.at;
                 i = q.next;
                 first = false;

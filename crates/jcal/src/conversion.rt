@@ -71,8 +71,8 @@ fn convert(text: &[u8], hex: &[u8], rows: &mut [u8], buf: &mut [u8], out: &mut [
     requires { ⌜ length (now text) ≤ mostText ⌝ }
     ensures { λ r. ⌜ outcome r (now (out .exit)) ≡ answer (toJcal (now (hex .entry)) (now (text .entry))) (now (out .entry)) ⌝ }
 {
-    match read_rows(hex, rows) {
-        Converted::Written(n) => convert_text(text, &rows[0..n], buf, out),
+    match read_rows(&*hex, rows) {
+        Converted::Written(n) => convert_text(&*text, &rows[0..n], buf, out),
         Converted::Refused(why) => refuse(out, why),
     }
 }

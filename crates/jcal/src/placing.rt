@@ -89,9 +89,9 @@ fn place_body(buf: &[u8], rows: &[u8], from: usize, left: usize, out: &mut [u8],
     let mut first = true;
     let mut subs = false;
     while i < buf.len() {
-        let e = line_end(buf, i);
-        match kind_at(buf, i, e) {
-            Kind::Plain => match place_item(&buf[i..e], rows, first, out, to) {
+        let e = line_end(&*buf, i);
+        match kind_at(&*buf, i, e) {
+            Kind::Plain => match place_item(&buf[i..e], &*rows, first, out, to) {
                 Placed::At(q) => {
                     to = q;
                     first = false;
@@ -100,8 +100,8 @@ fn place_body(buf: &[u8], rows: &[u8], from: usize, left: usize, out: &mut [u8],
                 Placed::Failed(why) => return Laid::Refused(why),
             },
             Kind::Opens(name) => {
-                let item = open_sub(buf, name, e, subs, out, to);
-                match place_body(buf, rows, e + 1, left - 1, out, item) {
+                let item = open_sub(&*buf, name, e, subs, out, to);
+                match place_body(&*buf, &*rows, e + 1, left - 1, out, item) {
                     Laid::Done(next, q) => {
                         to = q;
                         subs = true;

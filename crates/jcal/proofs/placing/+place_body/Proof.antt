@@ -218,8 +218,8 @@ place-body-returns-2 t c =
 place-body-enum-told-2 : (t : ℕ) → place-body-lts.Need-enum-told-2 (claims-place-body t) (place-body-at t) place-body.Post place-body-Inv-loop place-body-μ-loop
 place-body-enum-told-2 t c = search needs
 
-place-body-add-t36 : (t : ℕ) → place-body-lts.Need-add-t36 (claims-place-body t) (place-body-at t) place-body.Post place-body-Inv-loop place-body-μ-loop
-place-body-add-t36 t c =
+place-body-add-t48 : (t : ℕ) → place-body-lts.Need-add-t48 (claims-place-body t) (place-body-at t) place-body.Post place-body-Inv-loop place-body-μ-loop
+place-body-add-t48 t c =
     let at-line-end = c .before .before .before in
     let at-loop = at-line-end .before .before in
     let at-start = at-loop .before .before .before .before in
@@ -312,7 +312,7 @@ pub +place-body-spec : {M : Type 1} → statement M
     (place-body-same-length-2 t)
     (place-body-returns-2 t)
     (place-body-enum-told-2 t)
-    (place-body-add-t36 t)
+    (place-body-add-t48 t)
     (place-body-close-requires t)
     (place-body-same-length-3 t)
     (place-body-returns-3 t)
