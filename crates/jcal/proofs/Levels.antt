@@ -173,10 +173,9 @@ unfolding headText
 component-head f n es = component-text f n es ∙ simp append-assoc
 
 -- an answer that is accepted
-pub accepted-or : (a : Answer Property) → isAccepted a ≡ true → a ≡ accepted (propertyOr a)
-unfolding isAccepted propertyOr
-accepted-or (refused n) h = never h refl
-accepted-or (accepted p) h = refl
+pub not-refused {ℓ} : {P : Type ℓ} {A : Type 0} (a : Answer A) (n : ℕ) → isAccepted a ≡ true → a ≡ refused n → P
+unfolding isAccepted
+not-refused a n h e = never h (rw e)
 
 -- an event in front of those that are accepted
 behind-accepted {ℓ} : {P : Type ℓ} {B : Type 0} (e : Event B) (a : Answer (List (Event B))) (ps : List (Event B)) → behindEvent e a ≡ accepted ps

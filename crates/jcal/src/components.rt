@@ -22,8 +22,9 @@ ghost use Rattle.jcal.specs.Walked.{Walked};
 use crate::events::Kind;
 use crate::events::kind_at;
 use content::line_end;
+use jcalproperties::Placed;
+use jcalproperties::place_property;
 use jcalproperties::put_name;
-use jcalproperties::put_property;
 use octets::Converted;
 use octets::MOST_LEVELS;
 use octets::finish;
@@ -52,7 +53,10 @@ fn put_item(line: &[u8], rows: &[u8], first: bool, out: &mut [u8], at: usize) ->
     ensures { λ r. ⌜ Wrote (pen (now (out .entry)) at) (comma first ++ print (propertyJson (propertyOr (readProperty (tableIn (now (rows .entry))) (lineOf (now (line .entry))))))) (pen (now (out .exit)) r) ⌝ }
 {
     let to = put_comma(out, at, first);
-    put_property(line, rows, out, to)
+    match place_property(line, rows, out, to) {
+        Placed::At(q) => q,
+        Placed::Failed(_) => to,
+    }
 }
 
 // Writes the properties of the component whose lines begin at `from`, and finds the line behind its END.

@@ -16,7 +16,7 @@ use Rattle.octets.specs.Answers.{Answer, refused, accepted, then, orElse, unles
 use Rattle.octets.specs.Pen.{Pen, pen, Wrote}
 use Rattle.octets.proofs.Cases.{cases, both, apart}
 use Rattle.octets.proofs.Classes.{same-is, name-lower as name-lowers}
-use Rattle.octets.proofs.Answers.{not-accepted, accepted-same}
+use Rattle.octets.proofs.Answers.{not-accepted}
 use Rattle.octets.proofs.Pen.{then as behind, as-text}
 use Rattle.octets.proofs.Positions.{upto, from}
 use Rattle.json.specs.Tree.{Json, obj}
@@ -41,7 +41,7 @@ use Rattle.jcalproperties.specs.Passed.{paramsTested}
 use Rattle.jcalproperties.specs.Placed.{lineWith, PlacesValues, FrontStands, Stands, Places}
 use Rattle.jcalproperties.specs.declared.Placed.{Placed}
 use Rattle.jcalproperties.specs.declared.Placed.the-variants.{At, Failed}
-use Rattle.jcalproperties.specs.Shown.{namedType, frontText, WroteProperty}
+use Rattle.jcalproperties.specs.Shown.{namedType, frontText}
 
 -- ENCODING is asked for with VALUE or without it
 not-both-names : (p : Param) → called (octets "value") p ≡ true → encodes p ≡ false
@@ -204,7 +204,7 @@ pub values-wrote : (o : Option (List Json)) {p m : Pen} (out : List ℕ) (q : �
     → (vs : List Json) × (o ≡ some vs) × Wrote p (valuesJson vs ++ octets "]") (pen out q)
 values-wrote o out q v w = (v .0, v .1, behind (v .2) w)
 
--- the answer of a property that is placed as its test, and as its writing
+-- the answer of a property that is placed as its test
 pub stands-passed : (t : Table) (l : Line) {p q : Pen} → Stands t l p q → accepted (tt {0}) ≡ then (readProperty t l) (λ _. accepted tt)
 unfolding then
 stands-passed t l z = rw (z .read)
@@ -212,6 +212,3 @@ stands-passed t l z = rw (z .read)
 pub refused-failed : (t : Table) (l : Line) (n : ℕ) → readProperty t l ≡ refused n → refused n ≡ then (readProperty t l) (λ _. accepted (tt {0}))
 unfolding then
 refused-failed t l n e = rw e
-
-pub stands-wrote : (t : Table) (l : Line) {p q : Pen} → Stands t l p q → WroteProperty t l p q
-stands-wrote t l z = record { property = λ x h. rw (accepted-same (sym h ∙ z .read)) (z .wrote) }

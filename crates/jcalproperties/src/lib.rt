@@ -5,7 +5,6 @@ mod property;
 pub use names::put_name;
 use octets::Refusal;
 pub use property::place_property;
-pub use property::put_property;
 pub use property::test_property;
 
 // What tests answer.

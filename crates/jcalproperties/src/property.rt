@@ -17,7 +17,7 @@ ghost use Rattle.values.specs.Read.{valuesOf};
 ghost use Rattle.converter.specs.Property.{typeOf, codeOf, manyOf, encodingFits, readProperty};
 ghost use Rattle.jcalproperties.specs.Passed.{passed, paramsTested};
 ghost use Rattle.jcalproperties.specs.Placed.{Fronts, PlacesValues, Places};
-ghost use Rattle.jcalproperties.specs.Shown.{namedType, frontText, WroteProperty};
+ghost use Rattle.jcalproperties.specs.Shown.{namedType, frontText};
 use crate::Placed;
 use crate::Tested;
 use crate::names::put_name;
@@ -220,15 +220,5 @@ pub fn test_property(line: &[u8], rows: &[u8]) -> Tested
     match place_property(line, rows, &mut none, 0) {
         Placed::At(_) => Tested::Passed,
         Placed::Failed(why) => Tested::Failed(why),
-    }
-}
-
-// Writes a property that passes its tests.
-pub fn put_property(line: &[u8], rows: &[u8], out: &mut [u8], at: usize) -> usize
-    ensures { λ r. ⌜ WroteProperty (tableIn (now (rows .entry))) (lineOf (now (line .entry))) (pen (now (out .entry)) at) (pen (now (out .exit)) r) ⌝ }
-{
-    match place_property(line, rows, out, at) {
-        Placed::At(q) => q,
-        Placed::Failed(_) => at,
     }
 }
