@@ -7,10 +7,8 @@ use mathlib.Core.Option.{Option, some}
 use Rattle.octets.specs.Pieces.{split, joined}
 use Rattle.octets.specs.Optional.{each}
 use Rattle.octets.specs.Decimal.{integerText}
-use Rattle.octets.specs.Pen.{Pen, Wrote}
 use Rattle.octets.proofs.Cases.{cases}
 use Rattle.octets.proofs.Optional.{missing, when-is, map-is}
-use Rattle.octets.proofs.Pen.{as-text}
 use Rattle.octets.proofs.Pieces.{split-filled}
 use Rattle.calendar.specs.Dates.{dateOf, timeOf, dateTimeOf, offsetOf}
 use Rattle.json.specs.Tree.{Json, num}
@@ -19,7 +17,7 @@ use Rattle.values.specs.Sorts.{Sort, plain, binary, boolean, date, dateTime, du
 use Rattle.values.specs.Simple.{integerOf}
 use Rattle.values.specs.Read.{asNumber, alone, listed, readValues}
 use Rattle.values.specs.Single.{readOne, isText}
-use Rattle.values.specs.Shown.{valuesJson, listShown, oneShown, valuesShown, WroteValues}
+use Rattle.values.specs.Shown.{valuesJson, listShown, oneShown, valuesShown}
 use Rattle.jcalvalues.proofs.Lists.{listed-json}
 use Rattle.jcalvalues.proofs.Holding.{read-alone, read-listed, read-text}
 use Rattle.jcalvalues.proofs.TextsShown.{texts-shown, status-shown}
@@ -70,6 +68,3 @@ module _ (sort : Sort) (s : List ℕ) where
       (λ t. cases (splits sort)
       (λ c. rw (t, c) (list-shown sort (split (code ",") s) vs (split-filled (code ",") s) (unfold listed in (sym (read-listed sort s t c) ∙ h))))
       (λ c. rw (t, c) (alone-shown (readOne sort s) (oneShown sort s) vs (one-shown sort s) (sym (read-alone sort s t c) ∙ h))))
-
-  pub wrote-values : {p q : Pen} {xs : List ℕ} → Wrote p xs q → xs ≡ valuesShown sort s → WroteValues sort s p q
-  wrote-values w e = record { values = λ vs h. as-text w (e ∙ values-shown vs h); any = as-text w e }

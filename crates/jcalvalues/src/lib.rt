@@ -6,4 +6,3 @@ mod single;
 
 pub use raw::holds_values;
 pub use raw::put_tested;
-pub use raw::put_values;

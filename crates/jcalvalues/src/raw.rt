@@ -2,16 +2,15 @@
 ghost use mathlib.Core.Path.{_≡_};
 ghost use Rattle.octets.specs.Basics.{_or_, single};
 ghost use Rattle.octets.specs.Optional.{isSome, guard};
-ghost use Rattle.octets.specs.Pen.{pen, Wrote};
+ghost use Rattle.octets.specs.Pen.{pen};
 ghost use Rattle.values.specs.Read.{readValues, listed};
 ghost use Rattle.values.specs.Single.{readOne};
-ghost use Rattle.values.specs.Shown.{oneShown, WroteValues};
+ghost use Rattle.values.specs.Shown.{oneShown};
 ghost use Rattle.values.specs.Coded.{sortSaid};
 ghost use Rattle.valuetexts.specs.Trying.{Tried};
 ghost use Rattle.jcalvalues.specs.Attempts.{Attempted};
 ghost use Rattle.jcalvalues.specs.Parts.{commaList};
 use crate::single::holds_one;
-use crate::single::put_one;
 use crate::single::put_tested_one;
 use calendar::parts::find;
 use octets::put;
@@ -19,7 +18,6 @@ use values::Sort;
 use valuetexts::Attempt;
 use valuetexts::count_texts;
 use valuetexts::put_tested_texts;
-use valuetexts::put_texts;
 
 // The values between commas stand, and there is one only where there may not be many.
 fn holds_list(sort: Sort, many: bool, raw: &[u8]) -> bool
@@ -57,38 +55,6 @@ pub fn holds_values(sort: Sort, many: bool, raw: &[u8]) -> bool
         return holds_list(sort, many, raw);
     }
     holds_one(sort, raw)
-}
-
-// Writes the values between commas, with a comma between them.
-fn put_list(out: &mut [u8], at: usize, sort: Sort, raw: &[u8]) -> usize
-    ensures { λ r. ⌜ Wrote (pen (now (out .entry)) at) (commaList (oneShown (sortSaid sort)) (now (raw .entry))) (pen (now (out .exit)) r) ⌝ }
-{
-    let mut p = at;
-    let mut i = 0;
-    loop {
-        let rest = &raw[i..];
-        let e = find(rest, b',');
-        p = put_one(out, p, sort, &rest[0..e]);
-        if e >= rest.len() {
-            return p;
-        }
-        p = put(out, p, b',');
-        i = i + e + 1;
-    }
-}
-
-// Writes the values of a raw value that stands, each with a comma before it.
-pub fn put_values(out: &mut [u8], at: usize, sort: Sort, raw: &[u8]) -> usize
-    ensures { λ r. ⌜ WroteValues (sortSaid sort) (now (raw .entry)) (pen (now (out .entry)) at) (pen (now (out .exit)) r) ⌝ }
-{
-    let first = put(out, at, b',');
-    if sort.is_text() {
-        return put_texts(out, first, raw);
-    }
-    if sort.splits() {
-        return put_list(out, first, sort, raw);
-    }
-    put_one(out, first, sort, raw)
 }
 
 // Tests the values between commas, one only where there may not be many, and writes them with a comma between them.

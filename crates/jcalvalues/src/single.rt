@@ -78,7 +78,7 @@ pub(crate) fn holds_one(sort: Sort, s: &[u8]) -> bool
 }
 
 // Writes the value.
-pub(crate) fn put_one(out: &mut [u8], at: usize, sort: Sort, s: &[u8]) -> usize
+fn put_one(out: &mut [u8], at: usize, sort: Sort, s: &[u8]) -> usize
     ensures { λ r. ⌜ Wrote (pen (now (out .entry)) at) (oneShown (sortSaid sort) (now (s .entry))) (pen (now (out .exit)) r) ⌝ }
 {
     match sort {

@@ -1,10 +1,9 @@
 -- Values as they stand in a property's array; and the octets that are written for a raw value, valid or not.
 use Prim.Native.Nat.{ℕ, _+_, _-_}
 use Prim.Native.Char.{code}
-use mathlib.Core.Path.{_≡_}
 use mathlib.Core.Bool.{Bool, true, false, not}
 use mathlib.Core.List.{List, [], _∷_, _++_, map}
-use mathlib.Core.Option.{Option, some}
+use mathlib.Core.Option.{Option}
 use lib.Dec.{eqb, leb, ltb}
 use lib.ListN.{length, take, drop}
 use Rattle.octets.specs.Basics.{octets, pick, _and_, _or_, same}
@@ -12,14 +11,12 @@ use Rattle.octets.specs.Pieces.{split, joined}
 use Rattle.octets.specs.Optional.{given}
 use Rattle.octets.specs.Classes.{upper, lower}
 use Rattle.octets.specs.Decimal.{minus, unsigned, trim, minusIf, integerText}
-use Rattle.octets.specs.Pen.{Pen, Wrote}
 use Rattle.calendar.specs.Dates.{dateOf, timeOf, dateTimeOf, offsetOf, momentOf}
 use Rattle.calendar.specs.Recurrence.{Sort as Kind, frequency, moment, count, weekday, ordinal, numbers}
 use Rattle.calendar.specs.Walk.{before, keyAt, firstPart, itemShown}
 use Rattle.json.specs.Tree.{Json}
 use Rattle.json.specs.Print.{escaped, printString, print}
 use Rattle.values.specs.Sorts.{Sort, plain, binary, boolean, date, dateTime, duration, float, geo, integer, period, recur, text, status, time, utcOffset, splits}
-use Rattle.values.specs.Read.{readValues}
 use Rattle.values.specs.Single.{isText}
 
 -- each value with a comma before it
@@ -138,8 +135,3 @@ oneShown utcOffset s = stringShown (offsetOf (upper s))
 unfoldable pub valuesShown : Sort → List ℕ → List ℕ
 valuesShown sort s =
     code "," ∷ pick (isText sort) (textsShown (code ",") s) (pick (splits sort) (listShown (oneShown sort) (code ",") s) (oneShown sort s))
-
--- the values of a valid one are written; and of any, what `valuesShown` says
-pub record WroteValues (sort : Sort) (raw : List ℕ) (p q : Pen) : Type 0 where
-  pub values : (vs : List Json) → readValues sort raw ≡ some vs → Wrote p (valuesJson vs) q
-  pub any : Wrote p (valuesShown sort raw) q

@@ -4,10 +4,10 @@ ghost use Prim.Native.Nat.{_≤_};
 ghost use lib.ListN.{length};
 use calendar::parts::find;
 use calendar::parts::word_place;
-use jcalvalues::holds_values;
-use jcalvalues::put_values;
+use jcalvalues::put_tested;
 use values::Sort;
 use values::sort_of;
+use valuetexts::Attempt;
 
 // Reads a file, and answers its length; 0 where there is none.
 fn load(path: &[u8], buf: &mut [u8]) -> usize
@@ -51,23 +51,27 @@ fn behind(s: &[u8], e: usize) -> usize
     if e < s.len() { e + 1 } else { s.len() }
 }
 
-// The value is refused, or it gives these values.
-fn gives(sort: Sort, many: bool, raw: &[u8], want: &[u8]) -> bool {
-    if !holds_values(sort, many, raw) {
-        return check::same(want, b"refused");
-    }
-    let mut out = [0u8; 4096];
-    let n = put_values(&mut out, 0, sort, raw);
+// What is written up to n is these values, with a comma before them.
+fn are_values(out: &[u8], n: usize, want: &[u8]) -> bool {
     if n < 1 {
         return false;
     }
-    if n > 4096 {
+    if n > out.len() {
         return false;
     }
     if out[0] != b',' {
         return false;
     }
     check::same(&out[1..n], want)
+}
+
+// The value is refused, or it gives these values.
+fn gives(sort: Sort, many: bool, raw: &[u8], want: &[u8]) -> bool {
+    let mut out = [0u8; 4096];
+    match put_tested(&mut out, 0, sort, many, raw) {
+        Attempt::Wrote(n) => are_values(&out, n, want),
+        Attempt::Invalid => check::same(want, b"refused"),
+    }
 }
 
 // A raw value, and what it must give.

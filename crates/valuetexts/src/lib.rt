@@ -270,13 +270,6 @@ pub fn count_fields(s: &[u8]) -> usize
     count_between(s, b';', b',')
 }
 
-// Writes the texts between the bare commas.
-pub fn put_texts(out: &mut [u8], at: usize, s: &[u8]) -> usize
-    ensures { λ r. ⌜ Wrote (pen (now (out .entry)) at) (commaTexts (now (s .entry))) (pen (now (out .exit)) r) ⌝ }
-{
-    put_between(out, at, s, b',')
-}
-
 // Writes the texts between the bare semicolons.
 pub fn put_fields(out: &mut [u8], at: usize, s: &[u8]) -> usize
     ensures { λ r. ⌜ Wrote (pen (now (out .entry)) at) (semicolonTexts (now (s .entry))) (pen (now (out .exit)) r) ⌝ }
