@@ -191,13 +191,20 @@ fn all_texts(t: &[u8], at: usize) -> bool
 {
     let mut i = at;
     loop {
-        if tag(t, i) == END {
+        let b = tag(t, i);
+        if b == END {
             return true;
         }
-        if !text_stands(t, i) {
+        if b != STRING {
             return false;
         }
-        i = behind(t, i);
+        let s = text_at(t, i);
+        let from = s.from;
+        let to = s.to;
+        if !all_text(&t[from..to]) {
+            return false;
+        }
+        i = s.next;
     }
 }
 

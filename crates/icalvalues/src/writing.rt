@@ -28,7 +28,6 @@ use tape::END;
 use tape::FALSE;
 use tape::TRUE;
 use tape::after;
-use tape::behind;
 use tape::tag;
 use tape::text_at;
 use values::Sort;
@@ -132,8 +131,11 @@ fn write_numbers(out: &mut [u8], p: Folder, t: &[u8], at: usize) -> Folder
     let mut q = p;
     let mut i = at;
     loop {
-        q = write_octets(out, q, t, i);
-        i = behind(t, i);
+        let s = text_at(t, i);
+        let from = s.from;
+        let to = s.to;
+        q = fold_all(out, q, &t[from..to]);
+        i = s.next;
         if tag(t, i) == END {
             return q;
         }
@@ -151,8 +153,11 @@ fn write_texts(out: &mut [u8], p: Folder, t: &[u8], at: usize) -> Folder
     let mut q = p;
     let mut i = at;
     loop {
-        q = write_text(out, q, t, i);
-        i = behind(t, i);
+        let s = text_at(t, i);
+        let from = s.from;
+        let to = s.to;
+        q = fold_text(out, q, &t[from..to]);
+        i = s.next;
         if tag(t, i) == END {
             return q;
         }
@@ -181,16 +186,13 @@ fn write_status(out: &mut [u8], p: Folder, t: &[u8], at: usize) -> Folder
 }
 
 // Writes a period's end: a date-time in the basic form, a duration in uppercase.
-fn write_end(out: &mut [u8], p: Folder, t: &[u8], at: usize) -> Folder
-    ensures { λ r. ⌜ Folded (folding (now (out .entry)) p) (periodEndText (upper (octetsOf (valueAt (now (t .entry)) at)))) (folding (now (out .exit)) r) ⌝ }
+fn write_end(out: &mut [u8], p: Folder, s: &[u8]) -> Folder
+    ensures { λ r. ⌜ Folded (folding (now (out .entry)) p) (periodEndText (upper (now (s .entry)))) (folding (now (out .exit)) r) ⌝ }
 {
-    let s = text_at(t, at);
-    let from = s.from;
-    let to = s.to;
-    if is_extended(Form::DateTime, &t[from..to]) {
-        return fold_basic(out, p, Form::DateTime, &t[from..to]);
+    if is_extended(Form::DateTime, s) {
+        return fold_basic(out, p, Form::DateTime, s);
     }
-    fold_upper(out, p, &t[from..to])
+    fold_upper(out, p, s)
 }
 
 // Writes the ends from `at` on, with a solidus before each.
@@ -203,9 +205,12 @@ fn write_ends(out: &mut [u8], p: Folder, t: &[u8], at: usize) -> Folder
         if tag(t, i) == END {
             return q;
         }
+        let s = text_at(t, i);
+        let from = s.from;
+        let to = s.to;
         q = fold_octet(out, q, b'/');
-        q = write_end(out, q, t, i);
-        i = behind(t, i);
+        q = write_end(out, q, &t[from..to]);
+        i = s.next;
     }
 }
 
@@ -219,9 +224,11 @@ fn write_period(out: &mut [u8], p: Folder, t: &[u8], at: usize) -> Folder
     if tag(t, a) == END {
         return p;
     }
-    let b = behind(t, a);
-    let q = write_form(out, p, t, a, Form::DateTime);
-    write_ends(out, q, t, b)
+    let s = text_at(t, a);
+    let from = s.from;
+    let to = s.to;
+    let q = fold_basic(out, p, Form::DateTime, &t[from..to]);
+    write_ends(out, q, t, s.next)
 }
 
 // Writes one value that is no object.

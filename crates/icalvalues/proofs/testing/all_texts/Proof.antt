@@ -9,6 +9,7 @@ use Rattle.octets.specs.Basics.{all}
 use Rattle.tape.specs.Decode.{listAt}
 use Rattle.values.specs.Texts.{textIs}
 use Rattle.values.specs.Write.{isString}
+use Rattle.icalvalues.proofs.Places.{string-is, no-string-is}
 use Rattle.icalvalues.proofs.Listed.{listed-end, listed-stop, listed-on}
 use Rattle.icalvalues.proofs.testing.all_texts.Tie as tie
 use Rattle.icalvalues.proofs.testing.all_texts.Statement.{statement}
@@ -26,27 +27,18 @@ returns : tie.Need-returns Inv-loop μ-loop
 returns c = sym (listed-end _ _ _ (sym (c .before .tag .ensures) ∙ c .if1 .taken)) ∙ c .before .before .loop .inv
 
 returns-2 : tie.Need-returns-2 Inv-loop μ-loop
-returns-2 c =
-    let at-text-stands = c .before in
-    let at-if1 = at-text-stands .before in
-    let at-tag = at-if1 .before in
-    let at-loop = at-tag .before in
-    sym (listed-stop _ _ _ (λ z. at-if1 .if1 .left (at-tag .tag .ensures ∙ z)) (sym (at-text-stands .text-stands .ensures) ∙ not-true _ (c .if2 .taken))) ∙ at-loop .loop .inv
+returns-2 c = sym (listed-stop _ _ _ (λ z. c .before .if1 .left (c .before .before .tag .ensures ∙ z)) (sym (no-string-is textIs _ _ (λ z. c .if2 .taken (c .before .before .tag .ensures ∙ z))))) ∙ c .before .before .before .loop .inv
+
+returns-3 : tie.Need-returns-3 Inv-loop μ-loop
+unfolding textIs
+returns-3 c = sym (listed-stop _ _ _ (λ z. c .before .before .before .before .before .if1 .left (c .before .before .before .before .before .before .tag .ensures ∙ z)) (sym (string-is textIs _ _ (c .before .before .before .text-at .ensures) (sym (c .before .before .before .before .before .before .tag .ensures) ∙ c .before .before .before .before .if2 .left)) ∙ sym (c .before .all-text .ensures) ∙ not-true _ (c .if3 .taken))) ∙ c .before .before .before .before .before .before .before .loop .inv
 
 loop-less : tie.Need-loop-less Inv-loop μ-loop
-loop-less c =
-    let at-if1 = c .before .before .before in
-    let at-tag = at-if1 .before in
-    omega (arith, c .behind .ensures .more (λ z. at-if1 .if1 .left (at-tag .tag .ensures ∙ z)), c .behind .ensures .high)
+loop-less c = omega (arith, c .before .before .before .text-at .ensures .behind .more (λ z. c .before .before .before .before .before .if1 .left (c .before .before .before .before .before .before .tag .ensures ∙ z)), c .before .before .before .text-at .ensures .behind .high)
 
 loop-again : tie.Need-loop-again Inv-loop μ-loop
-loop-again c =
-    let at-if2 = c .before in
-    let at-text-stands = at-if2 .before in
-    let at-if1 = at-text-stands .before in
-    let at-tag = at-if1 .before in
-    let at-loop = at-tag .before in
-    sym (listed-on _ _ _ (λ z. at-if1 .if1 .left (at-tag .tag .ensures ∙ z)) (c .behind .ensures) (sym (at-text-stands .text-stands .ensures) ∙ not-false _ (at-if2 .if2 .left))) ∙ at-loop .loop .inv
+unfolding textIs
+loop-again c = sym (listed-on _ _ _ (λ z. c .before .before .before .before .before .if1 .left (c .before .before .before .before .before .before .tag .ensures ∙ z)) (c .before .before .before .text-at .ensures .behind) (sym (string-is textIs _ _ (c .before .before .before .text-at .ensures) (sym (c .before .before .before .before .before .before .tag .ensures) ∙ c .before .before .before .before .if2 .left)) ∙ sym (c .before .all-text .ensures) ∙ not-false _ (c .if3 .left))) ∙ c .before .before .before .before .before .before .before .loop .inv
 
 pub all-texts-spec : {M : Type 1} → statement M
 all-texts-spec =
@@ -57,8 +49,12 @@ all-texts-spec =
     loop-holds
     (λ c κs. search needs)
     returns
-    (λ c κs. search needs)
     returns-2
     (λ c κs. search needs)
+    (λ c. search needs)
+    (λ c. search needs)
+    (λ c. search needs)
+    (λ c κs. search needs)
+    returns-3
     loop-less
     loop-again)

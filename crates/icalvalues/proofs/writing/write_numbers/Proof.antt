@@ -26,33 +26,16 @@ loop-holds : tie.Need-loop-holds Inv-loop μ-loop
 loop-holds c = (λ e. c .if1 .left (c .before .tag .ensures ∙ e), refl, leads-start)
 
 same-length : tie.Need-same-length Inv-loop μ-loop
-same-length c =
-    let at-loop = c .before .before .before .before .before .before .before in
-    omega (arith, at-loop .loop .inv .1)
+same-length c = omega (arith, c .before .before .before .before .before .before .before .before .loop .inv .1)
 
 returns-2 : tie.Need-returns-2 Inv-loop μ-loop
-returns-2 c =
-    let at-tag2 = c .before in
-    let at-behind = at-tag2 .before in
-    let at-write-octets = at-behind .before .before .before in
-    let at-loop = at-write-octets .before .before in
-    leads-last (at-loop .loop .inv .2) (at-write-octets .write-octets .ensures) (joined-last _ _ _ _ (at-loop .loop .inv .0) (at-behind .behind .ensures) (sym (at-tag2 .tag2 .ensures) ∙ c .if2 .taken))
+returns-2 c = leads-last (c .before .before .before .before .before .before .before .before .loop .inv .2) (as-folded (c .before .before .before .before .fold-all .ensures) (c .before .before .before .before .before .before .before .text-at .ensures .part)) (joined-last _ _ _ _ (c .before .before .before .before .before .before .before .before .loop .inv .0) (c .before .before .before .before .before .before .before .text-at .ensures .behind) (sym (c .before .tag2 .ensures) ∙ c .if2 .taken))
 
 loop-less : tie.Need-loop-less Inv-loop μ-loop
-loop-less c =
-    let at-behind = c .before .before .before .before .before .before in
-    let at-loop = at-behind .before .before .before .before .before in
-    omega (arith, at-behind .behind .ensures .more (at-loop .loop .inv .0), at-behind .behind .ensures .high)
+loop-less c = omega (arith, c .before .before .before .before .before .before .before .before .before .before .before .text-at .ensures .behind .more (c .before .before .before .before .before .before .before .before .before .before .before .before .loop .inv .0), c .before .before .before .before .before .before .before .before .before .before .before .text-at .ensures .behind .high)
 
 loop-again : tie.Need-loop-again Inv-loop μ-loop
-loop-again c =
-    let at-fold-octet = c .before .before in
-    let at-if2 = at-fold-octet .before .before in
-    let at-tag2 = at-if2 .before in
-    let at-behind = at-tag2 .before in
-    let at-write-octets = at-behind .before .before .before in
-    let at-loop = at-write-octets .before .before in
-    (λ e. at-if2 .if2 .left (at-tag2 .tag2 .ensures ∙ e), omega (arith, at-loop .loop .inv .1), leads-on (leads-on (at-loop .loop .inv .2) (at-write-octets .write-octets .ensures) (joined-more _ _ _ _ (at-loop .loop .inv .0) (at-behind .behind .ensures) (λ e. at-if2 .if2 .left (at-tag2 .tag2 .ensures ∙ e)))) (at-fold-octet .fold-octet .ensures) refl)
+loop-again c = (λ e. c .before .before .before .before .if2 .left (c .before .before .before .before .before .tag2 .ensures ∙ e), omega (arith, c .before .before .before .before .before .before .before .before .before .before .before .before .loop .inv .1), leads-on (leads-on (c .before .before .before .before .before .before .before .before .before .before .before .before .loop .inv .2) (as-folded (c .before .before .before .before .before .before .before .before .fold-all .ensures) (c .before .before .before .before .before .before .before .before .before .before .before .text-at .ensures .part)) (joined-more _ _ _ _ (c .before .before .before .before .before .before .before .before .before .before .before .before .loop .inv .0) (c .before .before .before .before .before .before .before .before .before .before .before .text-at .ensures .behind) (λ e. c .before .before .before .before .if2 .left (c .before .before .before .before .before .tag2 .ensures ∙ e)))) (c .before .before .fold-octet .ensures) refl)
 
 pub write-numbers-spec : {M : Type 1} → statement M
 write-numbers-spec =
@@ -64,6 +47,9 @@ write-numbers-spec =
     returns
     loop-holds
     (λ c κs. search needs)
+    (λ c. search needs)
+    (λ c. search needs)
+    (λ c. search needs)
     (λ c κs. search needs)
     (λ c κs. search needs)
     same-length

@@ -1,6 +1,6 @@
 -- `icalvalues::writing::write_texts` meets its contract.
 use Prim.Native.Nat.{_-_}
-use mathlib.Core.Path.{_≡_, refl, sym, _∙_}
+use mathlib.Core.Path.{_≡_, refl, sym, ap, _∙_}
 use native.Mathlib.Omega.{arith}
 use borrow.Author.Needs.{needs}
 use lib.ListN.{length}
@@ -8,6 +8,7 @@ use Rattle.json.specs.Tape.{tagEnd}
 use Rattle.tape.specs.Decode.{tagAt, listAt}
 use Rattle.content.specs.Folding.{folding}
 use Rattle.content.proofs.Folding.{none, as-folded, Leads, leads-start, leads-on, leads-last}
+use Rattle.values.specs.Texts.{textText}
 use Rattle.values.specs.Write.{valueText}
 use Rattle.icalvalues.specs.Written.{statusText}
 use Rattle.icalvalues.proofs.Listed.{joined-none, joined-last, joined-more}
@@ -28,35 +29,18 @@ loop-holds : tie.Need-loop-holds Inv-loop μ-loop
 loop-holds c = (λ e. c .if1 .left (c .before .tag .ensures ∙ e), refl, leads-start)
 
 same-length : tie.Need-same-length Inv-loop μ-loop
-same-length c =
-    let at-loop = c .before .before .before .before .before .before .before in
-    omega (arith, at-loop .loop .inv .1)
+same-length c = omega (arith, c .before .before .before .before .before .before .before .before .loop .inv .1)
 
 returns-2 : tie.Need-returns-2 Inv-loop μ-loop
 unfolding valueText
-returns-2 c =
-    let at-tag2 = c .before in
-    let at-behind = at-tag2 .before in
-    let at-write-text = at-behind .before .before .before in
-    let at-loop = at-write-text .before .before in
-    leads-last (at-loop .loop .inv .2) (at-write-text .write-text .ensures) (joined-last _ _ _ _ (at-loop .loop .inv .0) (at-behind .behind .ensures) (sym (at-tag2 .tag2 .ensures) ∙ c .if2 .taken))
+returns-2 c = leads-last (c .before .before .before .before .before .before .before .before .loop .inv .2) (as-folded (c .before .before .before .before .fold-text .ensures) (ap textText (c .before .before .before .before .before .before .before .text-at .ensures .part))) (joined-last _ _ _ _ (c .before .before .before .before .before .before .before .before .loop .inv .0) (c .before .before .before .before .before .before .before .text-at .ensures .behind) (sym (c .before .tag2 .ensures) ∙ c .if2 .taken))
 
 loop-less : tie.Need-loop-less Inv-loop μ-loop
-loop-less c =
-    let at-behind = c .before .before .before .before .before .before in
-    let at-loop = at-behind .before .before .before .before .before in
-    omega (arith, at-behind .behind .ensures .more (at-loop .loop .inv .0), at-behind .behind .ensures .high)
+loop-less c = omega (arith, c .before .before .before .before .before .before .before .before .before .before .before .text-at .ensures .behind .more (c .before .before .before .before .before .before .before .before .before .before .before .before .loop .inv .0), c .before .before .before .before .before .before .before .before .before .before .before .text-at .ensures .behind .high)
 
 loop-again : tie.Need-loop-again Inv-loop μ-loop
 unfolding valueText
-loop-again c =
-    let at-fold-octet = c .before .before in
-    let at-if2 = at-fold-octet .before .before in
-    let at-tag2 = at-if2 .before in
-    let at-behind = at-tag2 .before in
-    let at-write-text = at-behind .before .before .before in
-    let at-loop = at-write-text .before .before in
-    (λ e. at-if2 .if2 .left (at-tag2 .tag2 .ensures ∙ e), omega (arith, at-loop .loop .inv .1), leads-on (leads-on (at-loop .loop .inv .2) (at-write-text .write-text .ensures) (joined-more _ _ _ _ (at-loop .loop .inv .0) (at-behind .behind .ensures) (λ e. at-if2 .if2 .left (at-tag2 .tag2 .ensures ∙ e)))) (at-fold-octet .fold-octet .ensures) refl)
+loop-again c = (λ e. c .before .before .before .before .if2 .left (c .before .before .before .before .before .tag2 .ensures ∙ e), omega (arith, c .before .before .before .before .before .before .before .before .before .before .before .before .loop .inv .1), leads-on (leads-on (c .before .before .before .before .before .before .before .before .before .before .before .before .loop .inv .2) (as-folded (c .before .before .before .before .before .before .before .before .fold-text .ensures) (ap textText (c .before .before .before .before .before .before .before .before .before .before .before .text-at .ensures .part))) (joined-more _ _ _ _ (c .before .before .before .before .before .before .before .before .before .before .before .before .loop .inv .0) (c .before .before .before .before .before .before .before .before .before .before .before .text-at .ensures .behind) (λ e. c .before .before .before .before .if2 .left (c .before .before .before .before .before .tag2 .ensures ∙ e)))) (c .before .before .fold-octet .ensures) refl)
 
 pub write-texts-spec : {M : Type 1} → statement M
 write-texts-spec =
@@ -68,6 +52,9 @@ write-texts-spec =
     returns
     loop-holds
     (λ c κs. search needs)
+    (λ c. search needs)
+    (λ c. search needs)
+    (λ c. search needs)
     (λ c κs. search needs)
     (λ c κs. search needs)
     same-length
