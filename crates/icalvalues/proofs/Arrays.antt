@@ -17,7 +17,7 @@ use Rattle.json.specs.Tree.{Json, null, octetsOf, elements}
 use Rattle.json.specs.Tape.{tagArray, tagEnd}
 use Rattle.tape.specs.Decode.{tagAt, valueAt, listAt}
 use Rattle.tape.specs.Promise.{After, Next}
-use Rattle.tape.proofs.Values.{no-array, no-elements, list-head, list-tail, list-end, list-next}
+use Rattle.tape.proofs.Values.{no-array, no-elements, list-head, list-tail, list-end, list-first, list-next}
 use Rattle.tape.proofs.Walks.{array-some, elements-inside}
 use Rattle.values.specs.Sorts.{geo, period, status}
 use Rattle.values.specs.Texts.{textIs}
@@ -36,38 +36,40 @@ module _ (p : List Json → Bool) (t : List ℕ) (i : ℕ) where
   array-is x q = rw (array-some x q)
 
 -- exactly two
-two-other : (p q : Json → Bool) (js : List Json) → ((min 3 (length js) ≡ 2) → ⊥) → false ≡ isTwo p q js
-unfolding isTwo
-two-other p q [] n = refl
-two-other p q (a ∷ []) n = refl
-two-other p q (a ∷ b ∷ []) n = absurd (n refl)
-two-other p q (a ∷ b ∷ c ∷ js) n = refl
+module _ (p q : Json → Bool) where
+  head-off : (js : List Json) → p (getD js 0 null) ≡ false → false ≡ isTwo p q js
+  unfolding isTwo
+  head-off [] h = refl
+  head-off (a ∷ []) h = refl
+  head-off (a ∷ b ∷ []) h = rw h
+  head-off (a ∷ b ∷ c ∷ js) h = refl
 
-two-are : (p q : Json → Bool) (js : List Json) → min 3 (length js) ≡ 2 → (p (getD js 0 null) and q (getD js 1 null)) ≡ isTwo p q js
-unfolding isTwo
-two-are p q [] e = absurd (omega arith)
-two-are p q (a ∷ []) e = absurd (omega arith)
-two-are p q (a ∷ b ∷ []) e = refl
-two-are p q (a ∷ b ∷ c ∷ js) e = absurd (omega arith)
+  and-off : (b : Bool) → false ≡ (b and false)
+  and-off true = refl
+  and-off false = refl
 
-module _ (p q : Json → Bool) (t : List ℕ) (a n : ℕ) (k : n ≡ min 3 (length (listAt t a))) where
-  pub not-two : ((n ≡ 2) → ⊥) → false ≡ isTwo p q (listAt t a)
-  not-two m = two-other p q (listAt t a) (λ e. m (k ∙ e))
+  next-off : (js : List Json) → q (getD js 1 null) ≡ false → false ≡ isTwo p q js
+  unfolding isTwo
+  next-off [] h = refl
+  next-off (a ∷ []) h = refl
+  next-off (a ∷ b ∷ []) h = rw h (and-off (p a))
+  next-off (a ∷ b ∷ c ∷ js) h = refl
 
-  module _ (e : n ≡ 2) {b : ℕ} (x : Next t a b) where
-    two-values : (p (valueAt t a) and q (valueAt t b)) ≡ isTwo p q (listAt t a)
-    two-values =
-        let h : getD (listAt t a) 0 null ≡ valueAt t a = list-head t a in
-        let g : getD (listAt t a) 1 null ≡ valueAt t b = list-tail x 0 ∙ list-head t b in
-        rw (← h, ← g) (two-are p q (listAt t a) (sym k ∙ e))
+  pub first-other : (t : List ℕ) (a : ℕ) → p (valueAt t a) ≡ false → false ≡ isTwo p q (listAt t a)
+  first-other t a h = head-off (listAt t a) (ap p (list-head t a) ∙ h)
 
-    pub second-is : p (valueAt t a) ≡ true → q (valueAt t b) ≡ isTwo p q (listAt t a)
-    second-is h = rw h at two-values
+  module _ {t : List ℕ} {a b : ℕ} (x : Next t a b) where
+    pub second-other : q (valueAt t b) ≡ false → false ≡ isTwo p q (listAt t a)
+    second-other h = next-off (listAt t a) (ap q (list-tail x 0 ∙ list-head t b) ∙ h)
 
-  pub first-other : n ≡ 2 → p (valueAt t a) ≡ false → false ≡ isTwo p q (listAt t a)
-  first-other e h =
-      let g : getD (listAt t a) 0 null ≡ valueAt t a = list-head t a in
-      rw (g, h) at (two-are p q (listAt t a) (sym k ∙ e))
+    module _ (n : (tagAt t a ≡ tagEnd) → ⊥) (m : (tagAt t b ≡ tagEnd) → ⊥) {c : ℕ} (y : Next t b c) where
+      pub more-than-two : ((tagAt t c ≡ tagEnd) → ⊥) → false ≡ isTwo p q (listAt t a)
+      unfolding isTwo
+      more-than-two z = rw (list-next x n, list-next y m, list-first t c z)
+
+      pub second-is : tagAt t c ≡ tagEnd → p (valueAt t a) ≡ true → q (valueAt t b) ≡ isTwo p q (listAt t a)
+      unfolding isTwo
+      second-is z h = rw (list-next x n, list-next y m, list-end t c z, h)
 
 -- two or three, all alike
 three-other : (p : Json → Bool) (js : List Json) → ((min 4 (length js) ≡ 2) → ⊥) → ((min 4 (length js) ≡ 3) → ⊥) → false ≡ isTwoOrThree p js

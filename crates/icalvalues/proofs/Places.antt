@@ -4,11 +4,12 @@ use mathlib.Core.Path.{_≡_}
 use mathlib.Core.Bool.{Bool, true, false}
 use mathlib.Core.List.{List, []}
 use mathlib.Core.Option.{Option}
+use native.Mathlib.Omega.{arith}
 use Rattle.octets.specs.Basics.{octets}
 use Rattle.octets.specs.Optional.{isSome, holds, given}
 use Rattle.octets.specs.Classes.{upper}
 use Rattle.json.specs.Tree.{boolean?}
-use Rattle.json.specs.Tape.{tagFalse, tagTrue, tagNumber, tagString}
+use Rattle.json.specs.Tape.{tagFalse, tagTrue, tagNumber, tagString, tagEnd}
 use Rattle.tape.specs.Decode.{tagAt, valueAt}
 use Rattle.tape.specs.Promise.{TextAt}
 use Rattle.tape.specs.declared.Text.{Text}
@@ -17,6 +18,14 @@ use Rattle.tape.proofs.Scans.{part}
 use Rattle.values.specs.Sorts.{boolean}
 use Rattle.values.specs.Simple.{booleanText}
 use Rattle.values.specs.Write.{isString, isLettered, isNumber, valueText}
+
+-- where a string or a number stands, no group ends
+module _ (t : List ℕ) (i : ℕ) where
+  pub string-there : tagAt t i ≡ tagString → (tagAt t i ≡ tagEnd) → ⊥
+  string-there q e = omega arith
+
+  pub number-there : tagAt t i ≡ tagNumber → (tagAt t i ≡ tagEnd) → ⊥
+  number-there q e = omega arith
 
 -- a string
 module _ (p : List ℕ → Bool) (t : List ℕ) (i : ℕ) where

@@ -4,7 +4,7 @@ ghost use Rattle.octets.specs.Basics.{all};
 ghost use Rattle.octets.specs.Classes.{plainOctet};
 ghost use Rattle.octets.specs.Optional.{isSome};
 ghost use Rattle.calendar.specs.Texts.{formIs};
-ghost use Rattle.calendar.specs.Durations.{durationIs, periodEndIs};
+ghost use Rattle.calendar.specs.Durations.{durationIs};
 ghost use Rattle.json.specs.Tree.{boolean?};
 ghost use Rattle.json.specs.Tape.{tagObject};
 ghost use Rattle.tape.specs.Decode.{tagAt, valueAt, listAt};
@@ -26,7 +26,6 @@ use tape::NUMBER;
 use tape::STRING;
 use tape::TRUE;
 use tape::after;
-use tape::behind;
 use tape::count;
 use tape::tag;
 use tape::text_at;
@@ -100,19 +99,6 @@ fn duration_at(t: &[u8], at: usize) -> bool
     is_duration(&t[from..to])
 }
 
-// A period's end.
-fn end_at(t: &[u8], at: usize) -> bool
-    ensures { λ r. ⌜ r ≡ isLettered periodEndIs (valueAt (now (t .entry)) at) ⌝ }
-{
-    if tag(t, at) != STRING {
-        return false;
-    }
-    let s = text_at(t, at);
-    let from = s.from;
-    let to = s.to;
-    is_extended_period_end(&t[from..to])
-}
-
 // A number that is a float.
 fn float_at(t: &[u8], at: usize) -> bool
     ensures { λ r. ⌜ r ≡ isNumber floatOf (valueAt (now (t .entry)) at) ⌝ }
@@ -157,14 +143,26 @@ fn geo_at(t: &[u8], at: usize) -> bool
         return false;
     }
     let a = after(t, at);
-    if count(t, a, 3) != 2 {
+    if tag(t, a) != NUMBER {
         return false;
     }
-    if !float_at(t, a) {
+    let x = text_at(t, a);
+    let b = x.next;
+    if tag(t, b) != NUMBER {
         return false;
     }
-    let b = behind(t, a);
-    float_at(t, b)
+    let y = text_at(t, b);
+    if tag(t, y.next) != END {
+        return false;
+    }
+    let x_from = x.from;
+    let x_to = x.to;
+    if !is_float(&t[x_from..x_to]) {
+        return false;
+    }
+    let y_from = y.from;
+    let y_to = y.to;
+    is_float(&t[y_from..y_to])
 }
 
 // A period: an array of a start, and an end or a duration.
@@ -175,14 +173,26 @@ fn period_at(t: &[u8], at: usize) -> bool
         return false;
     }
     let a = after(t, at);
-    if count(t, a, 3) != 2 {
+    if tag(t, a) != STRING {
         return false;
     }
-    if !form_at(t, a, Form::DateTime) {
+    let x = text_at(t, a);
+    let b = x.next;
+    if tag(t, b) != STRING {
         return false;
     }
-    let b = behind(t, a);
-    end_at(t, b)
+    let y = text_at(t, b);
+    if tag(t, y.next) != END {
+        return false;
+    }
+    let x_from = x.from;
+    let x_to = x.to;
+    if !is_extended(Form::DateTime, &t[x_from..x_to]) {
+        return false;
+    }
+    let y_from = y.from;
+    let y_to = y.to;
+    is_extended_period_end(&t[y_from..y_to])
 }
 
 // The values from `at` to the end of their group are all texts.
