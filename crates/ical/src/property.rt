@@ -98,8 +98,7 @@ fn convert_property(
     let c = kind.from;
     let d = kind.to;
     let k = ruling_of(rows, &t[a..b], &t[c..d]);
-    let encoded = is_encoded(t, params);
-    if !encoding_fits(k.code, encoded) {
+    if !encoding_fits(k.code, is_encoded(t, params)) {
         return Conversion::Refused(Refusal::BadEncoding);
     }
     let start = Folder { at: to, column: 0 };
