@@ -54,9 +54,12 @@ place-from i k (w ∷ ws) n l = cases (eqb k (length w))
     (λ e. rw (q, e) (place-from (suc i) k ws n l ∙ later i (wordPlace ws n))))
     (λ q. rw (q, other-length w n k l q) (place-from (suc i) k ws n l ∙ later i (wordPlace ws n)))
 
+pub word-by : (ws : List (List ℕ)) (k : ℕ) (n : List ℕ) → length n ≡ k → placeFrom 0 k ws (upper n) ≡ wordPlace ws (upper n)
+word-by ws k n l = place-from 0 k ws (upper n) (upper-length n ∙ l) ∙ zero-add (wordPlace ws (upper n))
+
 pub place-by : (k : ℕ) (n : List ℕ) → length n ≡ k → placeFrom 0 k keyNames (upper n) ≡ keyPlace (upper n)
 unfolding keyPlace
-place-by k n l = place-from 0 k keyNames (upper n) (upper-length n ∙ l) ∙ zero-add (wordPlace keyNames (upper n))
+place-by k n l = word-by keyNames k n l
 
 -- the part that a text begins with: `to` and n are where the scans ended, and k is the name's place
 module _ (s : List ℕ) (to n k : ℕ) (ends : to ≡ length (before (code ";") s)) (named : n ≡ length (before (code "=") (take (to - 0) (drop 0 s)))) where

@@ -9,7 +9,6 @@ use borrow.Author.Tests.{le-leb, lt-leb, leb-true, leb-false, eqb-true}
 use lib.Dec.{eqb, leb, ltb}
 use lib.ListN.{length, getD, take, drop}
 use Rattle.octets.specs.Basics.{octets, pick, _and_, _or_, all, any, filled, same, among}
-use Rattle.octets.specs.Pieces.{split, cut, onto}
 use Rattle.octets.specs.Optional.{isSome}
 use Rattle.octets.specs.Classes.{between, isDigit, isUpper, isLower, upperOctet, upper}
 use Rattle.octets.specs.Decimal.{digits, valueOf, isSign, hasSign, unsigned}
@@ -21,7 +20,7 @@ use Rattle.octets.proofs.Positions.{from, upto, part-length}
 use Rattle.calendar.specs.Recurrence.{frequencies, weekdays, wordOf, untilOf, countOf, numberOf, ordinalOf, dayOf}
 use Rattle.calendar.specs.Dates.{momentOf}
 use Rattle.calendar.specs.Moments.{momentFrom, readMoment}
-use Rattle.calendar.specs.Walk.{wordsIn, wordPlace}
+use Rattle.calendar.specs.Walk.{wordPlace}
 use Rattle.calendar.proofs.Options.{some-when, some-then, some-map, some-both}
 use Rattle.calendar.proofs.Pieces.{uncased, upper-length, upper-take, upper-drop}
 use Rattle.calendar.proofs.Words.{place-among}
@@ -144,10 +143,6 @@ until-stands s = some-when (isSome (momentOf (upper s))) (upper s) ∙ sym (some
 pub word-stands : (ws : List (List ℕ)) (n : List ℕ) → isSome (wordOf ws n) ≡ ltb (wordPlace ws n) (length ws)
 unfolding wordOf
 word-stands ws n = some-when (among n ws) n ∙ sym (place-among n ws)
-
-pub frequency-words : wordsIn (octets "SECONDLY,MINUTELY,HOURLY,DAILY,WEEKLY,MONTHLY,YEARLY") ≡ frequencies
-unfolding wordsIn frequencies split cut onto upper upperOctet isLower between
-frequency-words = refl
 
 pub frequency-stands : (n : List ℕ) → isSome (wordOf frequencies n) ≡ ltb (wordPlace frequencies n) 7
 frequency-stands n = word-stands frequencies n ∙ ap (ltb (wordPlace frequencies n)) (unfold frequencies in refl)

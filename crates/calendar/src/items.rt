@@ -18,7 +18,7 @@ use crate::moments::read_moment;
 use crate::parts::Bounds;
 use crate::parts::ItemSort;
 use crate::parts::find;
-use crate::parts::word_place;
+use crate::parts::frequency_place;
 use octets::MOST_INTEGER;
 use octets::all_digits;
 use octets::is_sign;
@@ -80,10 +80,11 @@ fn day_from(s: &[u8]) -> usize
     if s.len() < 2 { 0 } else { s.len() - 2 }
 }
 
+// A frequency, letters in either case.
 fn is_frequency(s: &[u8]) -> bool
     ensures { λ r. ⌜ r ≡ isSome (wordOf frequencies (upper (now (s .entry)))) ⌝ }
 {
-    word_place(b"SECONDLY,MINUTELY,HOURLY,DAILY,WEEKLY,MONTHLY,YEARLY", s) < 7
+    frequency_place(&*s) < 7
 }
 
 // The octet is one of two.

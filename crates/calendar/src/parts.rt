@@ -3,7 +3,7 @@ ghost use mathlib.Core.Path.{_≡_};
 ghost use lib.ListN.{length};
 ghost use Rattle.octets.specs.Basics.{pick};
 ghost use Rattle.octets.specs.Classes.{upper, sameName};
-ghost use Rattle.calendar.specs.Recurrence.{numbers};
+ghost use Rattle.calendar.specs.Recurrence.{numbers, frequencies};
 ghost use Rattle.calendar.specs.Walk.{before, wordsIn, wordPlace, keyNames, placeFrom, keyPlace, keyAt, sortSaid, firstPart};
 use octets::same_name;
 
@@ -109,6 +109,26 @@ fn long_key_place(name: &[u8]) -> usize
     let by_minute = chosen(name, b"BYMINUTE", 5, by_week);
     let by_second = chosen(name, b"BYSECOND", 4, by_minute);
     chosen(name, b"INTERVAL", 3, by_second)
+}
+
+// The place of a name among the frequencies (7: none), without case.
+pub fn frequency_place(name: &[u8]) -> usize
+    ensures { λ r. ⌜ r ≡ wordPlace frequencies (upper (now (name .entry))) ⌝ }
+{
+    match name.len() {
+        5 => chosen(&*name, b"DAILY", 3, 7),
+        6 => {
+            let yearly = chosen(&*name, b"YEARLY", 6, 7);
+            let weekly = chosen(&*name, b"WEEKLY", 4, yearly);
+            chosen(&*name, b"HOURLY", 2, weekly)
+        }
+        7 => chosen(&*name, b"MONTHLY", 5, 7),
+        8 => {
+            let minutely = chosen(&*name, b"MINUTELY", 1, 7);
+            chosen(&*name, b"SECONDLY", 0, minutely)
+        }
+        _ => 7,
+    }
 }
 
 // The part that a text begins with.

@@ -11,6 +11,7 @@ use crate::moments::Moment;
 use crate::moments::MomentRead;
 use crate::moments::read_moment;
 use crate::parts::first_part;
+use crate::parts::frequency_place;
 use crate::parts::sort_of;
 use crate::parts::word_place;
 use octets::MOST_INTEGER;
@@ -77,10 +78,11 @@ struct Head {
     wkst: Weekday,
 }
 
+// The frequency that a name says; a name that is none is read as YEARLY.
 fn frequency_of(s: &[u8]) -> Frequency
     ensures { λ r. ⌜ r ≡ frequencyOf (upper (now (s .entry))) ⌝ }
 {
-    match word_place(b"SECONDLY,MINUTELY,HOURLY,DAILY,WEEKLY,MONTHLY", s) {
+    match frequency_place(&*s) {
         0 => Frequency::Secondly,
         1 => Frequency::Minutely,
         2 => Frequency::Hourly,
