@@ -6,7 +6,7 @@ ghost use Prim.Native.Nat.{_≤_};
 ghost use lib.ListN.{length};
 ghost use Rattle.octets.specs.Basics.{_and_, all};
 ghost use Rattle.octets.specs.Classes.{plainOctet, textOctet};
-ghost use Rattle.content.specs.Folding.{folding};
+ghost use Rattle.content.specs.Folding.{folding, Folded};
 ghost use Rattle.values.specs.Texts.{escapedOctet, textIs, textText};
 ghost use Rattle.icalvalues.specs.Bare.{bareOctet, Bare};
 ghost use Rattle.icalvalues.specs.Valued.{FoldedIf};
@@ -83,15 +83,23 @@ fn bare_end(s: &[u8], i: usize) -> usize
     r
 }
 
+// Writes a backslash and an octet.
+fn fold_pair(out: &mut [u8], p: Folder, c: u8) -> Folder
+    ensures { λ r. ⌜ Folded (folding (now (out .entry)) p) (92 ∷ c ∷ []) (folding (now (out .exit)) r) ⌝ }
+{
+    let q = fold_octet(out, p, b'\\');
+    fold_octet(out, q, c)
+}
+
 // Writes an octet of a text, escaped where it must be.
 fn fold_escaped(out: &mut [u8], p: Folder, c: u8) -> Folds
     ensures { λ r. ⌜ FoldedIf (textOctet c) (escapedOctet c) (folding (now (out .entry)) p) (now (out .exit)) r ⌝ }
 {
     match c {
-        b'\\' => Folds::To(fold_all(out, p, b"\\\\")),
-        b';' => Folds::To(fold_all(out, p, b"\\;")),
-        b',' => Folds::To(fold_all(out, p, b"\\,")),
-        b'\n' => Folds::To(fold_all(out, p, b"\\n")),
+        b'\\' => Folds::To(fold_pair(out, p, b'\\')),
+        b';' => Folds::To(fold_pair(out, p, b';')),
+        b',' => Folds::To(fold_pair(out, p, b',')),
+        b'\n' => Folds::To(fold_pair(out, p, b'n')),
         _ => fold_plain(out, p, c),
     }
 }
