@@ -1,27 +1,28 @@
 -- The turns of the loop that reads a recurrence rule: each reads the part at `at`, and refuses the text, goes on, or ends.
 use Prim.Native.Nat.{ℕ, _+_, _-_, _≤_, _<_}
-use mathlib.Core.Path.{_≡_, refl, sym, _∙_}
-use mathlib.Core.Bool.{Bool, true, false}
+use mathlib.Core.Path.{_≡_, refl, sym, ap, _∙_}
+use mathlib.Core.Bool.{Bool, true, false, not}
 use mathlib.Core.List.{List, [], _∷_}
 use mathlib.Core.Option.{Option, none, some}
 use native.Mathlib.Omega.{arith}
-use borrow.Author.Tests.{ltb-true, ltb-false, lt-ltb, le-ltb, ne-eqb}
+use borrow.Author.Tests.{ltb-true, ltb-false, lt-ltb, le-ltb, ne-eqb, not-true}
 use lib.Dec.{ltb}
-use lib.ListN.{length, getD, take, drop, set, length-drop}
+use lib.ListN.{length, getD, take, drop, set, replicate, length-drop}
 use lib.Seq.{drop-drop}
 use Rattle.octets.specs.Optional.{map?, both?, isSome, guard}
 use Rattle.octets.specs.Classes.{upper}
-use Rattle.octets.proofs.Cases.{cases, never, or-false-right}
+use Rattle.octets.proofs.Cases.{cases, never, both, or-false-right}
 use Rattle.octets.proofs.Positions.{from}
-use Rattle.calendar.specs.Recurrence.{Key, Part, part, keyedPart, isRule, partsOf}
+use Rattle.calendar.specs.Recurrence.{Key, keys, Part, part, keyedPart, isRule, partsOf}
 use Rattle.calendar.specs.Walk.{keyAt, firstPart}
 use Rattle.calendar.specs.Rules.{ruleFrom, readRule}
-use Rattle.calendar.specs.Reading.{valuesStand, withValue, barred, ruleRead}
+use Rattle.calendar.specs.Reading.{valuesStand, withValue, barred, mayFollow, ruleRead}
 use Rattle.calendar.specs.declared.parts.PartAt.{PartAt}
 use Rattle.calendar.specs.declared.rules.Head.{Head}
-use Rattle.calendar.proofs.Options.{map-is, some-map}
+use Rattle.calendar.proofs.Options.{some-when, map-is, some-map}
+use Rattle.calendar.proofs.Keys.{key-count}
 use Rattle.calendar.proofs.Walk.{readParts, partFound, first-more, first-last, first-from, first-to}
-use Rattle.calendar.proofs.Gathering.{Gathered, gathered-more, gathered-lost, gathered-barred, gathered-all}
+use Rattle.calendar.proofs.Gathering.{Gathered, gathered-none, gathered-more, gathered-lost, gathered-barred, gathered-all}
 
 -- the values of a part stand where the part can be read
 keyed-stands : (v : List ℕ) (k : Key) → isSome (keyedPart (upper v) k) ≡ valuesStand (k .sort) v
@@ -50,6 +51,40 @@ the-rule : (s : List ℕ) → map? ruleFrom (guard isRule (readParts (upper s)))
 unfolding readRule partsOf readParts
 the-rule s = refl
 
+-- there is a rule where there are its parts
+rule-stands : (s : List ℕ) → isSome (readRule s) ≡ isSome (partsOf (upper s))
+unfolding readRule
+rule-stands s = some-map ruleFrom (partsOf (upper s))
+
+-- as the code tests whether a part may follow
+module _ (seen : List Bool) (k : ℕ) (v : List ℕ) where
+  pub follow-unknown : 14 ≤ k → false ≡ mayFollow seen k v
+  unfolding mayFollow
+  follow-unknown h = rw (key-count, le-ltb k 14 h)
+
+  pub follow-barred : k < 14 → barred seen k ≡ true → false ≡ mayFollow seen k v
+  unfolding mayFollow
+  follow-barred h e = rw (key-count, lt-ltb k 14 h, e)
+
+  pub follow-free : k < 14 → barred seen k ≡ false → valuesStand ((keyAt k) .sort) v ≡ mayFollow seen k v
+  unfolding mayFollow
+  follow-free h e = rw (key-count, lt-ltb k 14 h, e)
+
+  pub follows : mayFollow seen k v ≡ true → (k < 14) × (barred seen k ≡ false) × (valuesStand ((keyAt k) .sort) v ≡ true)
+  unfolding mayFollow
+  follows e =
+      let a = both (ltb k (length keys)) _ e in
+      let b = both (not (barred seen k)) _ (a .1) in
+      (ltb-true k 14 (rw key-count at (a .0)), not-true (barred seen k) (b .0), b .1)
+
+-- The parts before `at` are read, whatever they say.
+pub record Passed (s : List ℕ) (at : ℕ) (seen : List Bool) : Type 0 where
+  pub head : Head
+  pub gathered : Gathered (readParts (upper s)) (readParts (upper (drop at s))) seen head
+
+pub passed-none : (s : List ℕ) → Passed s 0 (replicate 14 false)
+passed-none s = record { head = _; gathered = gathered-none (readParts (upper s)) }
+
 module _ (s : List ℕ) (at : ℕ) (q : PartAt) (is : q ≡ firstPart (take (length s - at) (drop at s))) where
   here : firstPart (drop at s) ≡ q
   here = sym (rw (from s at) at is)
@@ -71,6 +106,9 @@ module _ (s : List ℕ) (at : ℕ) (q : PartAt) (is : q ≡ firstPart (take (len
   last : length (take (length s - at) (drop at s)) ≤ q .to → readParts (upper (drop at s)) ≡ both? _∷_ (partFound (drop at s) q) (some [])
   last h = rw here at (first-last (drop at s) (rw (from s at, ← here) at h))
 
+  abbrev value : List ℕ
+  value = take (q .to - q .from) (drop (q .from) (take (length s - at) (drop at s)))
+
   module _ (seen : List Bool) (head : Head) (g : Gathered (readParts (upper s)) (readParts (upper (drop at s))) seen head) where
     lost : partFound (drop at s) q ≡ none → none ≡ readRule s
     unfolding both?
@@ -78,42 +116,58 @@ module _ (s : List ℕ) (at : ℕ) (q : PartAt) (is : q ≡ firstPart (take (len
         (λ h. gathered-lost (rw (more (ltb-true (q .to) _ h), e) at g))
         (λ h. gathered-lost (rw (last (ltb-false (q .to) _ h), e) at g)))
 
-    pub turn-unknown : 14 ≤ q .key → none ≡ readRule s
+    turn-unknown : 14 ≤ q .key → none ≡ readRule s
     turn-unknown h = lost (rw (le-ltb (q .key) 14 h))
 
     module _ (h : q .key < 14) where
-      found : partFound (drop at s) q ≡ keyedPart (upper (take (q .to - q .from) (drop (q .from) (take (length s - at) (drop at s))))) (keyAt (q .key))
+      found : partFound (drop at s) q ≡ keyedPart (upper value) (keyAt (q .key))
       found = rw (lt-ltb (q .key) 14 h, from s at)
 
       named : (p : Part) → partFound (drop at s) q ≡ some p → p .name ≡ (keyAt (q .key)) .name
       named p e = keyed-name _ (keyAt (q .key)) p (sym found ∙ e)
 
-      pub turn-barred : barred seen (q .key) ≡ true → none ≡ readRule s
+      turn-barred : barred seen (q .key) ≡ true → none ≡ readRule s
       turn-barred stop = no-rule s (cases (ltb (q .to) (length (take (length s - at) (drop at s))))
           (λ l. gathered-barred (partFound (drop at s) q) _ (q .key) h (rw (more (ltb-true (q .to) _ l)) at g) named stop)
           (λ l. gathered-barred (partFound (drop at s) q) _ (q .key) h (rw (last (ltb-false (q .to) _ l)) at g) named stop))
 
-      pub turn-wrong : valuesStand ((keyAt (q .key)) .sort) (take (q .to - q .from) (drop (q .from) (take (length s - at) (drop at s)))) ≡ false → none ≡ readRule s
+      turn-wrong : valuesStand ((keyAt (q .key)) .sort) value ≡ false → none ≡ readRule s
       turn-wrong e = lost (found ∙ none-is _ (keyed-stands _ (keyAt (q .key)) ∙ e))
 
-      module _ (free : barred seen (q .key) ≡ false)
-          (stand : valuesStand ((keyAt (q .key)) .sort) (take (q .to - q .from) (drop (q .from) (take (length s - at) (drop at s)))) ≡ true) where
-        abbrev value : List ℕ
-        value = take (q .to - q .from) (drop (q .from) (take (length s - at) (drop at s)))
+    pub turn-refused : mayFollow seen (q .key) value ≡ false → none ≡ readRule s
+    turn-refused e = cases (ltb (q .key) 14)
+        (λ k. let h = ltb-true (q .key) 14 k in
+        cases (barred seen (q .key)) (turn-barred h) (λ b. turn-wrong h (follow-free seen (q .key) value h b ∙ e)))
+        (λ k. turn-unknown (ltb-false (q .key) 14 k))
 
-        read : (p : Part) × (keyedPart (upper value) (keyAt (q .key)) ≡ some p)
-        read = some-is _ (keyed-stands value (keyAt (q .key)) ∙ stand)
+    module _ (ok : mayFollow seen (q .key) value ≡ true) where
+      step : (left : Option (List Part)) → readParts (upper (drop at s)) ≡ both? _∷_ (partFound (drop at s) q) left
+          → Gathered (readParts (upper s)) left (set seen (q .key) true) (withValue head (q .key) value)
+      step left e =
+          let f = follows seen (q .key) value ok in
+          let r = some-is (keyedPart (upper value) (keyAt (q .key))) (keyed-stands value (keyAt (q .key)) ∙ f .2) in
+          gathered-more left (r .0) (q .key) value (f .0) (rw (e, found (f .0), r .1) at g) (r .1) (f .1)
 
-        step : (left : Option (List Part)) → readParts (upper (drop at s)) ≡ both? _∷_ (partFound (drop at s) q) left
-            → Gathered (readParts (upper s)) left (set seen (q .key) true) (withValue head (q .key) value)
-        step left e = gathered-more left (read .0) (q .key) value h (rw (e, found, read .1) at g) (read .1) free
+      pub rule-on : q .to < length (take (length s - at) (drop at s))
+          → Gathered (readParts (upper s)) (readParts (upper (drop (at + q .to + 1) s))) (set seen (q .key) true) (withValue head (q .key) value)
+      rule-on l = step _ (more l)
 
-        pub rule-on : q .to < length (take (length s - at) (drop at s))
-            → Gathered (readParts (upper s)) (readParts (upper (drop (at + q .to + 1) s))) (set seen (q .key) true) (withValue head (q .key) value)
-        rule-on l = step _ (more l)
+      pub rule-end : length (take (length s - at) (drop at s)) ≤ q .to → ruleRead (withValue head (q .key) value) (set seen (q .key) true) ≡ readRule s
+      rule-end l = sym (gathered-all (step _ (last l))) ∙ the-rule s
 
-        pub rule-end : length (take (length s - at) (drop at s)) ≤ q .to → ruleRead (withValue head (q .key) value) (set seen (q .key) true) ≡ readRule s
-        rule-end l = sym (gathered-all (step _ (last l))) ∙ the-rule s
+  -- a loop that only tests the parts
+  module _ (seen : List Bool) (p : Passed s at seen) where
+    pub test-refused : mayFollow seen (q .key) value ≡ false → false ≡ isSome (partsOf (upper s))
+    unfolding isSome
+    test-refused e = ap isSome (turn-refused seen (p .head) (p .gathered) e) ∙ rule-stands s
+
+    module _ (ok : mayFollow seen (q .key) value ≡ true) where
+      pub test-on : q .to < length (take (length s - at) (drop at s)) → Passed s (at + q .to + 1) (set seen (q .key) true)
+      test-on l = record { head = withValue (p .head) (q .key) value; gathered = rule-on seen (p .head) (p .gathered) ok l }
+
+      pub test-end : length (take (length s - at) (drop at s)) ≤ q .to → getD (set seen (q .key) true) 0 false ≡ isSome (partsOf (upper s))
+      unfolding ruleRead
+      test-end l = sym (some-when (getD (set seen (q .key) true) 0 false) _) ∙ ap isSome (rule-end seen (p .head) (p .gathered) ok l) ∙ rule-stands s
 
 -- as the code tests what may follow
 module _ (seen : List Bool) (k : ℕ) where
@@ -133,8 +187,3 @@ module _ (seen : List Bool) (k : ℕ) where
     pub barred-not : (k ≡ 1 → ⊥) → (k ≡ 2 → ⊥) → false ≡ barred seen k
     unfolding barred
     barred-not m n = rw (e, ne-eqb k 1 m, ne-eqb k 2 n)
-
--- there is a rule where there are its parts
-pub rule-stands : (s : List ℕ) → isSome (readRule s) ≡ isSome (partsOf (upper s))
-unfolding readRule
-rule-stands s = some-map ruleFrom (partsOf (upper s))

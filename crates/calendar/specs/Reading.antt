@@ -1,18 +1,19 @@
 -- A recurrence rule while its parts are read, as the code has it: what the parts so far say, and which there were, in the order of `keys`.
 use Prim.Native.Nat.{ℕ, _+_, min}
 use Prim.Native.Char.{code}
-use mathlib.Core.Bool.{Bool, false}
+use mathlib.Core.Bool.{Bool, false, not}
 use mathlib.Core.List.{List, []}
 use mathlib.Core.Option.{Option}
-use lib.Dec.{eqb}
-use lib.ListN.{getD}
+use lib.Dec.{eqb, ltb}
+use lib.ListN.{length, getD}
 use Rattle.octets.specs.Basics.{octets, pick, _and_, _or_, single}
 use Rattle.octets.specs.Optional.{isSome, when, guard, given, each}
 use Rattle.octets.specs.Classes.{upper}
 use Rattle.octets.specs.Decimal.{valueOf}
 use Rattle.octets.specs.Limits.{mostInteger}
 use Rattle.octets.specs.Pieces.{split}
-use Rattle.calendar.specs.Recurrence.{Sort, itemOf, several, Part}
+use Rattle.calendar.specs.Recurrence.{Sort, keys, itemOf, several, Part}
+use Rattle.calendar.specs.Walk.{keyAt}
 use Rattle.calendar.specs.Moments.{readMoment}
 use Rattle.calendar.specs.Rules.{valueNamed, frequencyOf, weekdayOf, endOf}
 use Rattle.calendar.specs.declared.rules.Weekday.the-variants.{Monday}
@@ -55,6 +56,10 @@ withValue h k v = record {
 -- a part with the key at a place may not follow: it was there, or it is one of COUNT and UNTIL, and the other was
 unfoldable pub barred : List Bool → ℕ → Bool
 barred seen k = getD seen k false or (eqb k 1 and getD seen 2 false) or (eqb k 2 and getD seen 1 false)
+
+-- a part with the key at a place and the values v may follow: there is such a key, it is not barred, and its values stand
+unfoldable pub mayFollow : List Bool → ℕ → List ℕ → Bool
+mayFollow seen k v = ltb k (length keys) and not (barred seen k) and valuesStand ((keyAt k) .sort) v
 
 unfoldable pub bySeen : List Bool → ByParts
 bySeen seen = record {

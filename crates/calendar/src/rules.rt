@@ -5,7 +5,7 @@ ghost use Rattle.octets.specs.Optional.{isSome};
 ghost use Rattle.octets.specs.Classes.{upper};
 ghost use Rattle.calendar.specs.Recurrence.{partsOf};
 ghost use Rattle.calendar.specs.Rules.{frequencyOf, weekdayOf, readRule, ruleSaid};
-ghost use Rattle.calendar.specs.Reading.{counted, lastOf, withValue, barred, bySeen, ruleRead};
+ghost use Rattle.calendar.specs.Reading.{counted, lastOf, withValue, barred, mayFollow, bySeen, ruleRead};
 use crate::items::values_stand;
 use crate::moments::Moment;
 use crate::moments::MomentRead;
@@ -179,6 +179,19 @@ fn is_barred(seen: [bool; 14], key: usize) -> bool
     }
 }
 
+// A part with the key at a place (14: none) and these values may follow the parts that were seen.
+fn may_follow(seen: [bool; 14], key: usize, v: &[u8]) -> bool
+    ensures { λ r. ⌜ r ≡ mayFollow seen key (now (v .entry)) ⌝ }
+{
+    if key >= 14 {
+        return false;
+    }
+    if is_barred(seen, key) {
+        return false;
+    }
+    values_stand(sort_of(key), &*v)
+}
+
 fn by_seen(seen: [bool; 14]) -> ByParts
     ensures { λ r. ⌜ r ≡ bySeen seen ⌝ }
 {
@@ -233,13 +246,7 @@ pub fn read_rule(s: &[u8]) -> RuleRead
         let key = part.key;
         let from = part.from;
         let to = part.to;
-        if key >= 14 {
-            return RuleRead::NoRule;
-        }
-        if is_barred(seen, key) {
-            return RuleRead::NoRule;
-        }
-        if !values_stand(sort_of(key), &rest[from..to]) {
+        if !may_follow(seen, key, &rest[from..to]) {
             return RuleRead::NoRule;
         }
         seen[key] = true;
@@ -255,8 +262,21 @@ pub fn read_rule(s: &[u8]) -> RuleRead
 pub fn is_rule(s: &[u8]) -> bool
     ensures { λ r. ⌜ r ≡ isSome (partsOf (upper (now (s .entry)))) ⌝ }
 {
-    match read_rule(s) {
-        RuleRead::Is(_) => true,
-        RuleRead::NoRule => false,
+    let mut seen = [false; 14];
+    let mut at = 0;
+    loop {
+        let rest = &s[at..];
+        let part = first_part(rest);
+        let key = part.key;
+        let from = part.from;
+        let to = part.to;
+        if !may_follow(seen, key, &rest[from..to]) {
+            return false;
+        }
+        seen[key] = true;
+        if to >= rest.len() {
+            return seen[0];
+        }
+        at = at + to + 1;
     }
 }

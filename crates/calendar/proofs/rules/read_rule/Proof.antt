@@ -11,7 +11,7 @@ use Rattle.calendar.specs.Reading.{ruleRead}
 use Rattle.calendar.specs.Rules.{ruleSaid}
 use Rattle.calendar.proofs.Walk.{readParts}
 use Rattle.calendar.proofs.Gathering.{Gathered, gathered-none}
-use Rattle.calendar.proofs.Turns.{part-ends, part-begins, part-inside, turn-unknown, turn-barred, turn-wrong, rule-on, rule-end}
+use Rattle.calendar.proofs.Turns.{follows, part-ends, part-begins, part-inside, turn-refused, rule-on, rule-end}
 use Rattle.calendar.specs.declared.rules.Head.{Head}
 use Rattle.calendar.proofs.rules.read_rule.Statement.{statement}
 use Rattle.calendar.proofs.rules.read_rule.Tie as tie
@@ -37,50 +37,36 @@ part-rest-end c = search needs
 first-part-requires : tie.Need-first-part-requires Inv-loop μ-loop
 first-part-requires c κs = search needs
 
-returns : tie.Need-returns Inv-loop μ-loop
-unfolding ruleSaid
-returns c = turn-unknown (c .before .before .before .before .before .args .s .now) (c .before .before .before .loop .at) (c .before .first-part .result) (c .before .first-part .ensures) (c .before .before .before .loop .seen) (c .before .before .before .loop .head) (c .before .before .before .loop .inv .1) (c .if1 .taken)
+sub-may-follow : tie.Need-sub-may-follow Inv-loop μ-loop
+sub-may-follow c = part-begins (c .before .before .before .before .args .s .now) (c .before .before .loop .at) (c .first-part .result) (c .first-part .ensures)
 
-is-barred-requires : tie.Need-is-barred-requires Inv-loop μ-loop
-is-barred-requires c κs = c .if1 .left
+part-may-follow-start : tie.Need-part-may-follow-start Inv-loop μ-loop
+part-may-follow-start c = part-begins (c .before .before .before .before .args .s .now) (c .before .before .loop .at) (c .first-part .result) (c .first-part .ensures)
 
-returns-2 : tie.Need-returns-2 Inv-loop μ-loop
-unfolding ruleSaid
-returns-2 c = turn-barred (c .before .before .before .before .before .before .before .args .s .now) (c .before .before .before .before .before .loop .at) (c .before .before .before .first-part .result) (c .before .before .before .first-part .ensures) (c .before .before .before .before .before .loop .seen) (c .before .before .before .before .before .loop .head) (c .before .before .before .before .before .loop .inv .1) (c .before .before .if1 .left) (sym (c .before .is-barred .ensures) ∙ c .if2 .taken)
-
-sort-of-requires : tie.Need-sort-of-requires Inv-loop μ-loop
-sort-of-requires c κs = search needs
-
-sub-values-stand : tie.Need-sub-values-stand Inv-loop μ-loop
-sub-values-stand c = part-begins (c .before .before .before .before .before .before .before .before .args .s .now) (c .before .before .before .before .before .before .loop .at) (c .before .before .before .before .first-part .result) (c .before .before .before .before .first-part .ensures)
-
-part-values-stand-start : tie.Need-part-values-stand-start Inv-loop μ-loop
-part-values-stand-start c = part-begins (c .before .before .before .before .before .before .before .before .args .s .now) (c .before .before .before .before .before .before .loop .at) (c .before .before .before .before .first-part .result) (c .before .before .before .before .first-part .ensures)
-
-part-values-stand-end : tie.Need-part-values-stand-end Inv-loop μ-loop
-part-values-stand-end c =
-    let e = part-ends (c .before .before .before .before .before .before .before .before .args .s .now) (c .before .before .before .before .before .before .loop .at) (c .before .before .before .before .first-part .result) (c .before .before .before .before .first-part .ensures) in
+part-may-follow-end : tie.Need-part-may-follow-end Inv-loop μ-loop
+part-may-follow-end c =
+    let e = part-ends (c .before .before .before .before .args .s .now) (c .before .before .loop .at) (c .first-part .result) (c .first-part .ensures) in
     rw (length-take, length-drop) (omega arith)
 
-values-stand-requires : tie.Need-values-stand-requires Inv-loop μ-loop
-values-stand-requires c κs = search needs
+may-follow-requires : tie.Need-may-follow-requires Inv-loop μ-loop
+may-follow-requires c κs = search needs
 
-returns-3 : tie.Need-returns-3 Inv-loop μ-loop
+returns : tie.Need-returns Inv-loop μ-loop
 unfolding ruleSaid
-returns-3 c = turn-wrong (c .before .before .before .before .before .before .before .before .before .before .before .args .s .now) (c .before .before .before .before .before .before .before .before .before .loop .at) (c .before .before .before .before .before .before .before .first-part .result) (c .before .before .before .before .before .before .before .first-part .ensures) (c .before .before .before .before .before .before .before .before .before .loop .seen) (c .before .before .before .before .before .before .before .before .before .loop .head) (c .before .before .before .before .before .before .before .before .before .loop .inv .1) (c .before .before .before .before .before .before .if1 .left) (rw (c .before .before .before .sort-of .ensures) at (sym (c .before .values-stand .ensures) ∙ not-true (c .before .values-stand .result) (c .if3 .taken)))
+returns c = turn-refused (c .before .before .before .before .before .before .before .args .s .now) (c .before .before .before .before .before .loop .at) (c .before .before .before .first-part .result) (c .before .before .before .first-part .ensures) (c .before .before .before .before .before .loop .seen) (c .before .before .before .before .before .loop .head) (c .before .before .before .before .before .loop .inv .1) (sym (c .before .may-follow .ensures) ∙ not-true (c .before .may-follow .result) (c .if1 .taken))
 
 array-write-seen : tie.Need-array-write-seen Inv-loop μ-loop
-array-write-seen c = search needs
+array-write-seen c = follows _ _ _ (sym (c .before .may-follow .ensures) ∙ not-false (c .before .may-follow .result) (c .if1 .left)) .0
 
 sub-with-value : tie.Need-sub-with-value Inv-loop μ-loop
-sub-with-value c = part-begins (c .before .before .before .before .before .before .before .before .before .before .before .args .s .now) (c .before .before .before .before .before .before .before .before .before .loop .at) (c .before .before .before .before .before .before .before .first-part .result) (c .before .before .before .before .before .before .before .first-part .ensures)
+sub-with-value c = part-begins (c .before .before .before .before .before .before .before .args .s .now) (c .before .before .before .before .before .loop .at) (c .before .before .before .first-part .result) (c .before .before .before .first-part .ensures)
 
 part-with-value-start : tie.Need-part-with-value-start Inv-loop μ-loop
-part-with-value-start c = part-begins (c .before .before .before .before .before .before .before .before .before .before .before .args .s .now) (c .before .before .before .before .before .before .before .before .before .loop .at) (c .before .before .before .before .before .before .before .first-part .result) (c .before .before .before .before .before .before .before .first-part .ensures)
+part-with-value-start c = part-begins (c .before .before .before .before .before .before .before .args .s .now) (c .before .before .before .before .before .loop .at) (c .before .before .before .first-part .result) (c .before .before .before .first-part .ensures)
 
 part-with-value-end : tie.Need-part-with-value-end Inv-loop μ-loop
 part-with-value-end c =
-    let e = part-ends (c .before .before .before .before .before .before .before .before .before .before .before .args .s .now) (c .before .before .before .before .before .before .before .before .before .loop .at) (c .before .before .before .before .before .before .before .first-part .result) (c .before .before .before .before .before .before .before .first-part .ensures) in
+    let e = part-ends (c .before .before .before .before .before .before .before .args .s .now) (c .before .before .before .before .before .loop .at) (c .before .before .before .first-part .result) (c .before .before .before .first-part .ensures) in
     rw (length-take, length-drop) (omega arith)
 
 with-value-requires : tie.Need-with-value-requires Inv-loop μ-loop
@@ -89,30 +75,30 @@ with-value-requires c κs = search needs
 rule-of-requires : tie.Need-rule-of-requires Inv-loop μ-loop
 rule-of-requires c κs = search needs
 
-returns-4 : tie.Need-returns-4 Inv-loop μ-loop
-returns-4 c =
-    c .rule-of .ensures ∙ ap (λ (x : Head). ruleRead x (set (c .before .before .before .before .before .before .before .before .before .before .before .before .before .loop .seen) (c .before .before .before .before .before .before .before .before .before .before .before .first-part .result .key) true)) (c .before .before .with-value .ensures)
-    ∙ rule-end (c .before .before .before .before .before .before .before .before .before .before .before .before .before .before .before .args .s .now) (c .before .before .before .before .before .before .before .before .before .before .before .before .before .loop .at) (c .before .before .before .before .before .before .before .before .before .before .before .first-part .result) (c .before .before .before .before .before .before .before .before .before .before .before .first-part .ensures) (c .before .before .before .before .before .before .before .before .before .before .before .before .before .loop .seen) (c .before .before .before .before .before .before .before .before .before .before .before .before .before .loop .head) (c .before .before .before .before .before .before .before .before .before .before .before .before .before .loop .inv .1) (c .before .before .before .before .before .before .before .before .before .before .if1 .left) (sym (c .before .before .before .before .before .before .before .before .before .is-barred .ensures) ∙ c .before .before .before .before .before .before .before .before .if2 .left) (rw (c .before .before .before .before .before .before .before .sort-of .ensures) at (sym (c .before .before .before .before .before .values-stand .ensures) ∙ not-false (c .before .before .before .before .before .values-stand .result) (c .before .before .before .before .if3 .left))) (c .before .if4 .taken)
+returns-2 : tie.Need-returns-2 Inv-loop μ-loop
+returns-2 c =
+    c .rule-of .ensures ∙ ap (λ (x : Head). ruleRead x (set (c .before .before .before .before .before .before .before .before .before .loop .seen) (c .before .before .before .before .before .before .before .first-part .result .key) true)) (c .before .before .with-value .ensures)
+    ∙ rule-end (c .before .before .before .before .before .before .before .before .before .before .before .args .s .now) (c .before .before .before .before .before .before .before .before .before .loop .at) (c .before .before .before .before .before .before .before .first-part .result) (c .before .before .before .before .before .before .before .first-part .ensures) (c .before .before .before .before .before .before .before .before .before .loop .seen) (c .before .before .before .before .before .before .before .before .before .loop .head) (c .before .before .before .before .before .before .before .before .before .loop .inv .1) (sym (c .before .before .before .before .before .may-follow .ensures) ∙ not-false (c .before .before .before .before .before .may-follow .result) (c .before .before .before .before .if1 .left)) (c .before .if2 .taken)
 
 add-at : tie.Need-add-at Inv-loop μ-loop
 add-at c =
-    let e = part-inside (c .before .before .before .before .before .before .before .before .before .before .before .before .before .before .args .s .now) (c .before .before .before .before .before .before .before .before .before .before .before .before .loop .at) (c .before .before .before .before .before .before .before .before .before .before .first-part .result) (c .before .before .before .before .before .before .before .before .before .before .first-part .ensures) (c .if4 .left) in
+    let e = part-inside (c .before .before .before .before .before .before .before .before .before .before .args .s .now) (c .before .before .before .before .before .before .before .before .loop .at) (c .before .before .before .before .before .before .first-part .result) (c .before .before .before .before .before .before .first-part .ensures) (c .if2 .left) in
     omega arith
 
 add-at-2 : tie.Need-add-at-2 Inv-loop μ-loop
 add-at-2 c =
-    let e = part-inside (c .before .before .before .before .before .before .before .before .before .before .before .before .before .before .args .s .now) (c .before .before .before .before .before .before .before .before .before .before .before .before .loop .at) (c .before .before .before .before .before .before .before .before .before .before .first-part .result) (c .before .before .before .before .before .before .before .before .before .before .first-part .ensures) (c .if4 .left) in
+    let e = part-inside (c .before .before .before .before .before .before .before .before .before .before .args .s .now) (c .before .before .before .before .before .before .before .before .loop .at) (c .before .before .before .before .before .before .first-part .result) (c .before .before .before .before .before .before .first-part .ensures) (c .if2 .left) in
     omega arith
 
 loop-less : tie.Need-loop-less Inv-loop μ-loop
 loop-less c =
-    let e = part-inside (c .before .before .before .before .before .before .before .before .before .before .before .before .before .before .args .s .now) (c .before .before .before .before .before .before .before .before .before .before .before .before .loop .at) (c .before .before .before .before .before .before .before .before .before .before .first-part .result) (c .before .before .before .before .before .before .before .before .before .before .first-part .ensures) (c .if4 .left) in
+    let e = part-inside (c .before .before .before .before .before .before .before .before .before .before .args .s .now) (c .before .before .before .before .before .before .before .before .loop .at) (c .before .before .before .before .before .before .first-part .result) (c .before .before .before .before .before .before .first-part .ensures) (c .if2 .left) in
     omega arith
 
 loop-again : tie.Need-loop-again Inv-loop μ-loop
 loop-again c =
-    let e = part-inside (c .before .before .before .before .before .before .before .before .before .before .before .before .before .before .args .s .now) (c .before .before .before .before .before .before .before .before .before .before .before .before .loop .at) (c .before .before .before .before .before .before .before .before .before .before .first-part .result) (c .before .before .before .before .before .before .before .before .before .before .first-part .ensures) (c .if4 .left) in
-    (omega arith, rw (c .before .with-value .ensures) (rule-on (c .before .before .before .before .before .before .before .before .before .before .before .before .before .before .args .s .now) (c .before .before .before .before .before .before .before .before .before .before .before .before .loop .at) (c .before .before .before .before .before .before .before .before .before .before .first-part .result) (c .before .before .before .before .before .before .before .before .before .before .first-part .ensures) (c .before .before .before .before .before .before .before .before .before .before .before .before .loop .seen) (c .before .before .before .before .before .before .before .before .before .before .before .before .loop .head) (c .before .before .before .before .before .before .before .before .before .before .before .before .loop .inv .1) (c .before .before .before .before .before .before .before .before .before .if1 .left) (sym (c .before .before .before .before .before .before .before .before .is-barred .ensures) ∙ c .before .before .before .before .before .before .before .if2 .left) (rw (c .before .before .before .before .before .before .sort-of .ensures) at (sym (c .before .before .before .before .values-stand .ensures) ∙ not-false (c .before .before .before .before .values-stand .result) (c .before .before .before .if3 .left))) (c .if4 .left)))
+    let e = part-inside (c .before .before .before .before .before .before .before .before .before .before .args .s .now) (c .before .before .before .before .before .before .before .before .loop .at) (c .before .before .before .before .before .before .first-part .result) (c .before .before .before .before .before .before .first-part .ensures) (c .if2 .left) in
+    (omega arith, rw (c .before .with-value .ensures) (rule-on (c .before .before .before .before .before .before .before .before .before .before .args .s .now) (c .before .before .before .before .before .before .before .before .loop .at) (c .before .before .before .before .before .before .first-part .result) (c .before .before .before .before .before .before .first-part .ensures) (c .before .before .before .before .before .before .before .before .loop .seen) (c .before .before .before .before .before .before .before .before .loop .head) (c .before .before .before .before .before .before .before .before .loop .inv .1) (sym (c .before .before .before .before .may-follow .ensures) ∙ not-false (c .before .before .before .before .may-follow .result) (c .before .before .before .if1 .left)) (c .if2 .left)))
 
 pub read-rule-spec : {M : Type 1} → statement M
 read-rule-spec =
@@ -125,22 +111,18 @@ read-rule-spec =
     part-rest-start
     part-rest-end
     first-part-requires
+    sub-may-follow
+    part-may-follow-start
+    part-may-follow-end
+    may-follow-requires
     returns
-    is-barred-requires
-    returns-2
-    sort-of-requires
-    sub-values-stand
-    part-values-stand-start
-    part-values-stand-end
-    values-stand-requires
-    returns-3
     array-write-seen
     sub-with-value
     part-with-value-start
     part-with-value-end
     with-value-requires
     rule-of-requires
-    returns-4
+    returns-2
     add-at
     add-at-2
     loop-less
