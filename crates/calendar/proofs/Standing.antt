@@ -153,7 +153,7 @@ unfolding among any weekdays
 weekday-length n h =
     rw (same-length n (octets "SU") h, same-length n (octets "MO") h, same-length n (octets "TU") h, same-length n (octets "WE") h, same-length n (octets "TH") h, same-length n (octets "FR") h, same-length n (octets "SA") h)
 
-two-letters : (s : List ℕ) → length s ≡ 2 → upper s ≡ upperOctet (getD s 0 0) ∷ upperOctet (getD s 1 0) ∷ []
+pub two-letters : (s : List ℕ) → length s ≡ 2 → upper s ≡ upperOctet (getD s 0 0) ∷ upperOctet (getD s 1 0) ∷ []
 unfolding upper
 two-letters [] e = absurd (omega arith)
 two-letters (a ∷ []) e = absurd (omega arith)

@@ -1,6 +1,9 @@
 // Recurrence rules.
 ghost use mathlib.Core.Path.{_≡_};
 ghost use Prim.Native.Nat.{_<_};
+ghost use mathlib.Core.List.{[], _∷_};
+ghost use lib.Dec.{eqb};
+ghost use Rattle.octets.specs.Basics.{pick};
 ghost use Rattle.octets.specs.Optional.{isSome};
 ghost use Rattle.octets.specs.Classes.{upper};
 ghost use Rattle.calendar.specs.Recurrence.{partsOf};
@@ -13,8 +16,8 @@ use crate::moments::read_moment;
 use crate::parts::first_part;
 use crate::parts::frequency_place;
 use crate::parts::sort_of;
-use crate::parts::word_place;
 use octets::MOST_INTEGER;
+use octets::upper_octet;
 use octets::value_of;
 
 pub enum Frequency {
@@ -93,18 +96,41 @@ fn frequency_of(s: &[u8]) -> Frequency
     }
 }
 
+// A weekday where the octet is this letter, or else another.
+fn weekday_if(c: u8, letter: u8, day: Weekday, other: Weekday) -> Weekday
+    ensures { λ r. ⌜ r ≡ pick (eqb c letter) day other ⌝ }
+{
+    if c == letter {
+        return day;
+    }
+    other
+}
+
+// The weekday that two capital letters say; any that say none are read as Saturday.
+fn weekday_named(a: u8, b: u8) -> Weekday
+    ensures { λ r. ⌜ r ≡ weekdayOf (a ∷ b ∷ []) ⌝ }
+{
+    match a {
+        b'S' => weekday_if(b, b'U', Weekday::Sunday, Weekday::Saturday),
+        b'M' => weekday_if(b, b'O', Weekday::Monday, Weekday::Saturday),
+        b'T' => {
+            let thursday = weekday_if(b, b'H', Weekday::Thursday, Weekday::Saturday);
+            weekday_if(b, b'U', Weekday::Tuesday, thursday)
+        }
+        b'W' => weekday_if(b, b'E', Weekday::Wednesday, Weekday::Saturday),
+        b'F' => weekday_if(b, b'R', Weekday::Friday, Weekday::Saturday),
+        _ => Weekday::Saturday,
+    }
+}
+
+// The weekday that a name says, letters in either case.
 fn weekday_of(s: &[u8]) -> Weekday
     ensures { λ r. ⌜ r ≡ weekdayOf (upper (now (s .entry))) ⌝ }
 {
-    match word_place(b"SU,MO,TU,WE,TH,FR", s) {
-        0 => Weekday::Sunday,
-        1 => Weekday::Monday,
-        2 => Weekday::Tuesday,
-        3 => Weekday::Wednesday,
-        4 => Weekday::Thursday,
-        5 => Weekday::Friday,
-        _ => Weekday::Saturday,
+    if s.len() != 2 {
+        return Weekday::Saturday;
     }
+    weekday_named(upper_octet(s[0]), upper_octet(s[1]))
 }
 
 fn count_of(s: &[u8]) -> u32

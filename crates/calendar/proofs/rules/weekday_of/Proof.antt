@@ -1,54 +1,38 @@
--- `calendar::rules::weekday_of` meets its contract.
-use Prim.Native.Nat.{ℕ}
-use mathlib.Core.Path.{sym, ap, _∙_}
-use native.Mathlib.Omega.{arith}
+-- `calendar::rules::weekday_of` meets its contract: a weekday has two letters.
 use borrow.Author.Needs.{needs}
-use lib.ListN.{getD}
-use Rattle.octets.specs.Classes.{upper}
-use lib.ListN.{List·getD-eq-default}
-use Rattle.calendar.specs.declared.rules.Weekday.the-variants.{Saturday}
-use Rattle.calendar.proofs.Keys.{away}
-use Rattle.calendar.proofs.Choices.{weekdayChoices, weekday-at}
+use Rattle.calendar.proofs.Choices.{day-missing, day-there}
 use Rattle.calendar.proofs.rules.weekday_of.Statement.{statement}
 use Rattle.calendar.proofs.rules.weekday_of.Tie as tie
 
-slice-aggregate-word-place : tie.Need-slice-aggregate-word-place
-slice-aggregate-word-place c = search needs
-
-word-place-requires : tie.Need-word-place-requires
-word-place-requires c κs = search needs
-
 returns : tie.Need-returns
-returns c = ap (λ (i : ℕ). getD weekdayChoices i Saturday) (sym (c .match .keys1)) ∙ weekday-at (upper (c .before .before .before .before .args .s .now)) (c .before .word-place .result) (c .before .word-place .ensures)
+returns c = day-missing _ (c .if1 .taken)
+
+shared-slice-read-upper-octet : tie.Need-shared-slice-read-upper-octet
+shared-slice-read-upper-octet c = search needs
+
+upper-octet-requires : tie.Need-upper-octet-requires
+upper-octet-requires c κs = search needs
+
+shared-slice-read-upper-octet-2 : tie.Need-shared-slice-read-upper-octet-2
+shared-slice-read-upper-octet-2 c = search needs
+
+upper-octet-requires-2 : tie.Need-upper-octet-requires-2
+upper-octet-requires-2 c κs = search needs
+
+weekday-named-requires : tie.Need-weekday-named-requires
+weekday-named-requires c κs = search needs
 
 returns-2 : tie.Need-returns-2
-returns-2 c = ap (λ (i : ℕ). getD weekdayChoices i Saturday) (sym (c .match .keys2)) ∙ weekday-at (upper (c .before .before .before .before .args .s .now)) (c .before .word-place .result) (c .before .word-place .ensures)
-
-returns-3 : tie.Need-returns-3
-returns-3 c = ap (λ (i : ℕ). getD weekdayChoices i Saturday) (sym (c .match .keys3)) ∙ weekday-at (upper (c .before .before .before .before .args .s .now)) (c .before .word-place .result) (c .before .word-place .ensures)
-
-returns-4 : tie.Need-returns-4
-returns-4 c = ap (λ (i : ℕ). getD weekdayChoices i Saturday) (sym (c .match .keys4)) ∙ weekday-at (upper (c .before .before .before .before .args .s .now)) (c .before .word-place .result) (c .before .word-place .ensures)
-
-returns-5 : tie.Need-returns-5
-returns-5 c = ap (λ (i : ℕ). getD weekdayChoices i Saturday) (sym (c .match .keys5)) ∙ weekday-at (upper (c .before .before .before .before .args .s .now)) (c .before .word-place .result) (c .before .word-place .ensures)
-
-returns-6 : tie.Need-returns-6
-returns-6 c = ap (λ (i : ℕ). getD weekdayChoices i Saturday) (sym (c .match .keys6)) ∙ weekday-at (upper (c .before .before .before .before .args .s .now)) (c .before .word-place .result) (c .before .word-place .ensures)
-
-returns-7 : tie.Need-returns-7
-returns-7 c = sym (List·getD-eq-default weekdayChoices Saturday (away (c .before .word-place .result) 0 6 (c .match .rest) (omega arith))) ∙ weekday-at (upper (c .before .before .before .before .args .s .now)) (c .before .word-place .result) (c .before .word-place .ensures)
+returns-2 c = day-there _ _ _ _ (c .before .before .before .before .before .if1 .left) (c .before .before .before .upper-octet .ensures) (c .before .upper-octet2 .ensures) (c .weekday-named .ensures)
 
 pub weekday-of-spec : {M : Type 1} → statement M
 weekday-of-spec =
     tie.close
     (tie.spec
-    slice-aggregate-word-place
-    word-place-requires
     returns
-    returns-2
-    returns-3
-    returns-4
-    returns-5
-    returns-6
-    returns-7)
+    shared-slice-read-upper-octet
+    upper-octet-requires
+    shared-slice-read-upper-octet-2
+    upper-octet-requires-2
+    weekday-named-requires
+    returns-2)
