@@ -1,8 +1,8 @@
 -- The text of a recurrence object, piece by piece: a value, the values of an array, a member, the members.
-use Prim.Native.Nat.{ℕ, _≤_, _<_}
+use Prim.Native.Nat.{ℕ, _<_}
 use Prim.Native.Char.{code}
-use mathlib.Core.Path.{_≡_, refl, sym, ap}
-use mathlib.Core.List.{List, [], _∷_, _++_}
+use mathlib.Core.Path.{_≡_, refl, sym, ap, _∙_}
+use mathlib.Core.List.{List, [], _∷_, _++_, append-assoc}
 use mathlib.Core.Option.{none}
 use Rattle.octets.specs.Optional.{given}
 use Rattle.octets.specs.Classes.{upper}
@@ -10,13 +10,13 @@ use Rattle.octets.specs.Decimal.{integerText}
 use Rattle.octets.specs.Pieces.{joined}
 use Rattle.calendar.specs.Recurrence.{Sort}
 use Rattle.calendar.specs.Walk.{keyPlace, keyAt}
-use Rattle.calendar.proofs.Walk.{key-known, key-unknown}
+use Rattle.calendar.proofs.Walk.{key-known}
 use Rattle.json.specs.Tree.{Json, num, str, arr, Items, noItems, item, member, string?, number?, array?}
-use Rattle.json.specs.Tape.{tagNumber, tagString, tagArray, tagEnd}
+use Rattle.json.specs.Tape.{tagArray, tagEnd}
 use Rattle.tape.specs.Decode.{others, paired, tagAt, valueAt, itemsAt, membersAt}
 use Rattle.tape.specs.Promise.{After, Next}
 use Rattle.tape.specs.declared.Text.{Text}
-use Rattle.tape.proofs.Values.{no-string, no-number, no-array, items-first, items-end, items-next, members-end}
+use Rattle.tape.proofs.Values.{no-array, items-first, items-end, items-next, members-end}
 use Rattle.tape.proofs.Walks.{array-inside}
 use Rattle.tape.proofs.Scans.{part, Keyed, members-on}
 use Rattle.values.specs.Recur.{stringText, itemText, itemTexts, valueTexts, memberText, memberTexts}
@@ -31,32 +31,20 @@ pub number-wording : (sort : Sort) (s : List ℕ) → itemText sort (num s) ≡ 
 unfolding itemText given string? number?
 number-wording sort s = refl
 
-item-none : (sort : Sort) (j : Json) → string? j ≡ none → number? j ≡ none → itemText sort j ≡ []
-unfolding itemText given
-item-none sort j s n = rw (n, s)
-
-pub no-wording : (sort : Sort) (t : List ℕ) (i : ℕ) → ((tagAt t i ≡ tagString) → ⊥) → ((tagAt t i ≡ tagNumber) → ⊥) → itemText sort (valueAt t i) ≡ []
-no-wording sort t i s n = item-none sort (valueAt t i) (no-string t i s) (no-number t i n)
-
 -- pieces with a separator between them
 join-more : (sep : ℕ) (l m : List ℕ) (ls : List (List ℕ)) → joined sep (l ∷ m ∷ ls) ≡ l ++ sep ∷ joined sep (m ∷ ls)
 unfolding joined
 join-more sep l m ls = refl
 
 -- the values of an array
-module _ (sort : Sort) (t : List ℕ) (i : ℕ) where
-  pub items-none : tagAt t i ≡ tagEnd → [] ≡ itemsText sort (itemsAt t i)
+module _ (sort : Sort) {t : List ℕ} {i e : ℕ} (x : Next t i e) (n : (tagAt t i ≡ tagEnd) → ⊥) where
+  pub items-last : tagAt t e ≡ tagEnd → itemsText sort (itemsAt t i) ≡ itemText sort (valueAt t i)
   unfolding itemTexts joined
-  items-none z = rw (items-end t i z)
+  items-last z = rw (items-next x n, items-end t e z)
 
-  module _ {e : ℕ} (x : Next t i e) (n : (tagAt t i ≡ tagEnd) → ⊥) where
-    pub items-last : tagAt t e ≡ tagEnd → itemsText sort (itemsAt t i) ≡ itemText sort (valueAt t i)
-    unfolding itemTexts joined
-    items-last z = rw (items-next x n, items-end t e z)
-
-    pub items-more : ((tagAt t e ≡ tagEnd) → ⊥) → itemsText sort (itemsAt t i) ≡ itemText sort (valueAt t i) ++ code "," ∷ itemsText sort (itemsAt t e)
-    unfolding itemTexts
-    items-more m = rw (items-next x n, items-first t e m) (join-more (code ",") _ _ _)
+  pub items-more : ((tagAt t e ≡ tagEnd) → ⊥) → itemsText sort (itemsAt t i) ≡ itemText sort (valueAt t i) ++ code "," ∷ itemsText sort (itemsAt t e)
+  unfolding itemTexts
+  items-more m = rw (items-next x n, items-first t e m) (join-more (code ",") _ _ _)
 
 -- what a part has
 plain-values : (sort : Sort) (j : Json) → array? j ≡ none → itemText sort j ≡ valuesText sort j
@@ -75,14 +63,9 @@ module _ (sort : Sort) (t : List ℕ) (i : ℕ) where
   values-array {a} x q = rw (array-inside x q) (sym (array-values sort (itemsAt t a)))
 
 -- a member
-module _ (k : List ℕ) (j : Json) where
-  pub member-bare : 14 ≤ keyPlace (upper k) → upper k ++ code "=" ∷ [] ≡ memberText k j
-  unfolding memberText given joined
-  member-bare h = rw (key-unknown (upper k) h)
-
-  pub member-keyed : {sort : Sort} → sort ≡ (keyAt (keyPlace (upper k))) .sort → keyPlace (upper k) < 14 → upper k ++ code "=" ∷ valuesText sort j ≡ memberText k j
-  unfolding memberText given
-  member-keyed s h = rw (key-known (upper k) h, s)
+pub member-keyed : (k : List ℕ) (j : Json) {sort : Sort} → sort ≡ (keyAt (keyPlace (upper k))) .sort → keyPlace (upper k) < 14 → (upper k ++ code "=" ∷ []) ++ valuesText sort j ≡ memberText k j
+unfolding memberText given
+member-keyed k j s h = append-assoc (upper k) (code "=" ∷ []) _ ∙ rw (key-known (upper k) h, s)
 
 -- the members
 join-members : (k : List ℕ) (v j : Json) (js : Items) → objectText (member k v (paired (item j js))) ≡ memberText k v ++ code ";" ∷ objectText (paired (item j js))

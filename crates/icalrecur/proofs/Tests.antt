@@ -11,12 +11,12 @@ use Rattle.octets.proofs.Cases.{and-assoc, never}
 use Rattle.calendar.specs.Recurrence.{Sort, frequency, moment, count, weekday, ordinal, numbers, several}
 use Rattle.calendar.specs.Walk.{keyPlace, keyAt}
 use Rattle.calendar.proofs.Walk.{key-known, key-unknown}
-use Rattle.json.specs.Tree.{Json, num, str, arr, Items, item, member, string?, number?, array?}
+use Rattle.json.specs.Tree.{Json, num, str, arr, Items, item, Members, member, string?, number?, array?}
 use Rattle.json.specs.Tape.{tagNumber, tagString, tagArray, tagEnd}
 use Rattle.tape.specs.Decode.{tagAt, valueAt, itemsAt, membersAt}
 use Rattle.tape.specs.Promise.{After, Next, TextAt}
 use Rattle.tape.specs.declared.Text.{Text}
-use Rattle.tape.proofs.Values.{array-is, string-is, number-is, string-text, number-text, no-string, no-number, no-array, items-first, items-end, items-next, members-end}
+use Rattle.tape.proofs.Values.{array-is, string-is, number-is, string-text, number-text, no-string, no-number, no-array, items-first, items-end, items-next, members-end, members-first}
 use Rattle.tape.proofs.Walks.{array-inside}
 use Rattle.tape.proofs.Scans.{part, Keyed, members-on}
 use Rattle.values.specs.Recur.{isWord, isInteger, isUntil, allItems, someItems, oneOrMore, kindIs, kindsAre}
@@ -58,6 +58,19 @@ module _ (p : Json → Bool) (t : List ℕ) (i : ℕ) where
   unfolding allItems
   all-stop n h = rw (items-first t i n, h)
 
+-- one or more of them
+some-filled : (p : Json → Bool) (j : Json) (js : Items) → someItems p (item j js) ≡ allItems p (item j js)
+unfolding someItems allItems
+some-filled p j js = refl
+
+module _ (p : Json → Bool) (t : List ℕ) (i : ℕ) where
+  pub some-end : tagAt t i ≡ tagEnd → someItems p (itemsAt t i) ≡ false
+  unfolding someItems
+  some-end e = rw (items-end t i e)
+
+  pub some-all : ((tagAt t i ≡ tagEnd) → ⊥) → allItems p (itemsAt t i) ≡ someItems p (itemsAt t i)
+  some-all n = rw (items-first t i n) (sym (some-filled p _ _))
+
 -- what a part has
 kind-plain : (sort : Sort) (j : Json) → array? j ≡ none → itemIs sort j ≡ kindIs sort j
 unfolding kindIs itemIs oneOrMore given
@@ -86,10 +99,6 @@ kind-many weekday js h = never h refl
 kind-many ordinal js h = refl
 kind-many (numbers signed most lo hi) js h = refl
 
-some-filled : (p : Json → Bool) (j : Json) (js : Items) → someItems p (item j js) ≡ allItems p (item j js)
-unfolding someItems allItems
-some-filled p j js = refl
-
 module _ (sort : Sort) (t : List ℕ) (i : ℕ) where
   pub plain-kind : ((tagAt t i ≡ tagArray) → ⊥) → itemIs sort (valueAt t i) ≡ kindIs sort (valueAt t i)
   plain-kind n = kind-plain sort (valueAt t i) (no-array t i n)
@@ -97,13 +106,8 @@ module _ (sort : Sort) (t : List ℕ) (i : ℕ) where
   pub one-kind : tagAt t i ≡ tagArray → several sort ≡ false → kindIs sort (valueAt t i) ≡ false
   one-kind q h = rw (array-is t i q) (kind-one sort (itemsAt t (i + 1)) h)
 
-  module _ {a : ℕ} (x : After t i a) (q : tagAt t i ≡ tagArray) where
-    pub empty-kind : several sort ≡ true → tagAt t a ≡ tagEnd → kindIs sort (valueAt t i) ≡ false
-    unfolding someItems
-    empty-kind h z = rw (array-inside x q, kind-many sort (itemsAt t a) h, items-end t a z)
-
-    pub many-kind : several sort ≡ true → ((tagAt t a ≡ tagEnd) → ⊥) → kindIs sort (valueAt t i) ≡ allItems (itemIs sort) (itemsAt t a)
-    many-kind h n = rw (array-inside x q, kind-many sort (itemsAt t a) h, items-first t a n) (some-filled (itemIs sort) _ _)
+  pub many-kind : {a : ℕ} → After t i a → tagAt t i ≡ tagArray → several sort ≡ true → someItems (itemIs sort) (itemsAt t a) ≡ kindIs sort (valueAt t i)
+  many-kind {a} x q h = rw (array-inside x q) (sym (kind-many sort (itemsAt t a) h))
 
 -- a member, by the place of its name among the keys
 module _ (k : List ℕ) (j : Json) where
@@ -115,21 +119,20 @@ module _ (k : List ℕ) (j : Json) where
   unfolding memberIs holds
   member-unknown h e = rw (e, key-unknown (upper k) h)
 
-  pub member-known : {sort : Sort} → sort ≡ (keyAt (keyPlace (upper k))) .sort → keyPlace (upper k) < 14 → isLowerName k ≡ true → memberIs k j ≡ kindIs sort j
+  pub member-known : {sort : Sort} → sort ≡ (keyAt (keyPlace (upper k))) .sort → keyPlace (upper k) < 14 → isLowerName k ≡ true → kindIs sort j ≡ memberIs k j
   unfolding memberIs holds
   member-known s h e = rw (e, key-known (upper k) h, s)
 
 -- the members of the object
-module _ {t : List ℕ} {i e : ℕ} {r : Text} (m : Keyed t i r e) where
-  kinds-on : kindsAre (membersAt t i) ≡ (memberIs (part t r) (valueAt t (r .next)) and kindsAre (membersAt t e))
-  unfolding kindsAre memberIs
-  kinds-on = rw (members-on m) (sym (and-assoc (isLowerName (part t r)) _ (kindsAre (membersAt t e))))
+kinds-front : (k : List ℕ) (j : Json) (ms : Members) → kindsAre (member k j ms) ≡ (memberIs k j and kindsAre ms)
+unfolding kindsAre memberIs
+kinds-front k j ms = sym (and-assoc (isLowerName k) _ (kindsAre ms))
 
-  pub member-stops : memberIs (part t r) (valueAt t (r .next)) ≡ false → kindsAre (membersAt t i) ≡ false
-  member-stops h = kinds-on ∙ rw h
+pub member-stops : {t : List ℕ} {i : ℕ} {r : Text} → ((tagAt t i ≡ tagEnd) → ⊥) → TextAt t i r → memberIs (part t r) (valueAt t (r .next)) ≡ false → kindsAre (membersAt t i) ≡ false
+member-stops n x h = rw (members-first n (x .behind), ← (x .part)) (kinds-front _ _ _ ∙ rw h)
 
-  pub member-stands : memberIs (part t r) (valueAt t (r .next)) ≡ true → kindsAre (membersAt t i) ≡ kindsAre (membersAt t e)
-  member-stands h = kinds-on ∙ rw h
+pub member-stands : {t : List ℕ} {i e : ℕ} {r : Text} → Keyed t i r e → memberIs (part t r) (valueAt t (r .next)) ≡ true → kindsAre (membersAt t i) ≡ kindsAre (membersAt t e)
+member-stands m h = rw (members-on m) (kinds-front _ _ _ ∙ rw h)
 
 pub kinds-end : (t : List ℕ) (i : ℕ) → tagAt t i ≡ tagEnd → kindsAre (membersAt t i) ≡ true
 unfolding kindsAre

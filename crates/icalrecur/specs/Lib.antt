@@ -1,4 +1,5 @@
 pub mod Kinds
 pub mod Wording
+pub mod Laying
 pub mod Room
 pub mod Ruled

@@ -4,8 +4,8 @@ ghost use Rattle.content.specs.Folding.{folding};
 ghost use Rattle.icalrecur.specs.Room.{hasRoom};
 ghost use Rattle.icalrecur.specs.Ruled.{RuledAs};
 use crate::Ruled;
-use crate::kinds::members_are;
-use crate::wording::put_members;
+use crate::wording::Laid;
+use crate::wording::lay_members;
 use calendar::rules::is_rule;
 use calendar::writing::put_rule;
 use content::Folder;
@@ -37,13 +37,14 @@ pub fn write_rule(
         return Ruled::NoRule;
     }
     let i = after(t, at);
-    if !members_are(t, i) {
-        return Ruled::NoRule;
+    match lay_members(text, 0, &*t, i) {
+        Laid::Invalid => Ruled::NoRule,
+        Laid::To(n, _) => {
+            if !is_rule(&text[0..n]) {
+                return Ruled::NoRule;
+            }
+            let m = put_rule(rule, 0, &text[0..n]);
+            Ruled::Wrote(fold_all(out, p, &rule[0..m]))
+        }
     }
-    let n = put_members(text, 0, t, i);
-    if !is_rule(&text[0..n]) {
-        return Ruled::NoRule;
-    }
-    let m = put_rule(rule, 0, &text[0..n]);
-    Ruled::Wrote(fold_all(out, p, &rule[0..m]))
 }
