@@ -78,39 +78,67 @@ fn convert_tape(
     }
 }
 
+// Converts what is on a short tape.
+fn convert_short_tape(t: &[u8], rows: &[u8], out: &mut [u8]) -> Converted
+    requires { ⌜ length (now t) ≤ 8192 ⌝ }
+    ensures { λ r. ⌜ outcome r (now (out .exit)) ≡ answer (tapeText (tableIn (now (rows .entry))) (now (t .entry))) (now (out .entry)) ⌝ }
+{
+    let mut text = [0u8; SHORT_TEXT];
+    let mut rule = [0u8; SHORT_TEXT];
+    convert_tape(t, rows, out, &mut text, &mut rule)
+}
+
+// Converts what is on a tape that is no longer than a text.
+fn convert_long_tape(t: &[u8], rows: &[u8], out: &mut [u8]) -> Converted
+    requires { ⌜ length (now t) ≤ mostText ⌝ }
+    ensures { λ r. ⌜ outcome r (now (out .exit)) ≡ answer (tapeText (tableIn (now (rows .entry))) (now (t .entry))) (now (out .entry)) ⌝ }
+{
+    let mut text = [0u8; MOST_TEXT];
+    let mut rule = [0u8; MOST_TEXT];
+    convert_tape(t, rows, out, &mut text, &mut rule)
+}
+
+// Converts what is on any tape.
+fn convert_longest_tape(t: &[u8], rows: &[u8], out: &mut [u8]) -> Converted
+    requires { ⌜ length (now t) ≤ mostTape mostText ⌝ }
+    ensures { λ r. ⌜ outcome r (now (out .exit)) ≡ answer (tapeText (tableIn (now (rows .entry))) (now (t .entry))) (now (out .entry)) ⌝ }
+{
+    let mut text = [0u8; MOST_TAPE];
+    let mut rule = [0u8; MOST_TAPE];
+    convert_tape(t, rows, out, &mut text, &mut rule)
+}
+
+// Converts what is on a tape, in memory to match: it is zeroed on each call.
+fn convert_laid(t: &[u8], rows: &[u8], out: &mut [u8]) -> Converted
+    requires { ⌜ length (now t) ≤ mostTape mostText ⌝ }
+    ensures { λ r. ⌜ outcome r (now (out .exit)) ≡ answer (tapeText (tableIn (now (rows .entry))) (now (t .entry))) (now (out .entry)) ⌝ }
+{
+    if t.len() <= SHORT_TEXT {
+        return convert_short_tape(t, rows, out);
+    }
+    if t.len() <= MOST_TEXT {
+        return convert_long_tape(t, rows, out);
+    }
+    convert_longest_tape(t, rows, out)
+}
+
 // Numbers 6 and 11, and then what is on the tape.
-fn convert_text(
-    text: &[u8],
-    rows: &[u8],
-    out: &mut [u8],
-    tape: &mut [u8],
-    scratch: &mut [u8],
-    rule: &mut [u8],
-) -> Converted
-    requires { ⌜ (utf8 (now text) ≡ true) × (mostTape (length (now text)) ≤ length (now tape)) × (length (now tape) ≤ length (now scratch)) × (length (now tape) ≤ length (now rule)) ⌝ }
+fn convert_text(text: &[u8], rows: &[u8], out: &mut [u8], tape: &mut [u8]) -> Converted
+    requires { ⌜ (utf8 (now text) ≡ true) × (mostTape (length (now text)) ≤ length (now tape)) × (length (now tape) ≤ mostTape mostText) ⌝ }
     ensures { λ r. ⌜ outcome r (now (out .exit)) ≡ answer (parsedText (tableIn (now (rows .entry))) (now (text .entry))) (now (out .entry)) ⌝ }
 {
     let p = parse(text, tape);
     match p {
-        Parsed::Tape(n) => convert_tape(&tape[0..n], rows, out, scratch, rule),
+        Parsed::Tape(n) => convert_laid(&tape[0..n], rows, out),
         Parsed::TooDeep => refuse(out, Refusal::TooDeep),
         Parsed::NotJson => refuse(out, Refusal::NotJson),
         Parsed::NoRoom => refuse(out, Refusal::NoRoom),
     }
 }
 
-// Numbers 2 and 3, and then the text; all but `out` is memory to work in.
-fn convert(
-    text: &[u8],
-    hex: &[u8],
-    out: &mut [u8],
-    table: &mut [u8],
-    tape: &mut [u8],
-    scratch: &mut [u8],
-    rule: &mut [u8],
-) -> Converted
-    requires { ⌜ (length (now text) ≤ mostText) × (roomForRows ≤ length (now table)) × (mostTape (length (now text)) ≤ length (now tape))
-        × (length (now tape) ≤ length (now scratch)) × (length (now tape) ≤ length (now rule)) ⌝ }
+// Numbers 2 and 3, and then the text; `table` and `tape` are memory to work in.
+fn convert(text: &[u8], hex: &[u8], out: &mut [u8], table: &mut [u8], tape: &mut [u8]) -> Converted
+    requires { ⌜ (length (now text) ≤ mostText) × (roomForRows ≤ length (now table)) × (mostTape (length (now text)) ≤ length (now tape)) × (length (now tape) ≤ mostTape mostText) ⌝ }
     ensures { λ r. ⌜ outcome r (now (out .exit)) ≡ answer (toIcal (now (hex .entry)) (now (text .entry))) (now (out .entry)) ⌝ }
 {
     let r = read_rows(&*hex, table);
@@ -120,7 +148,7 @@ fn convert(
             if !is_utf8(&*text) {
                 return refuse(out, Refusal::NotClean);
             }
-            convert_text(&*text, &table[0..n], out, tape, scratch, rule)
+            convert_text(&*text, &table[0..n], out, tape)
         }
     }
 }
@@ -132,17 +160,7 @@ fn convert_short(text: &[u8], rows: &[u8], out: &mut [u8]) -> Converted
 {
     let mut table = [0u8; ROOM_FOR_ROWS];
     let mut tape = [0u8; SHORT_TAPE];
-    let mut scratch = [0u8; SHORT_TAPE];
-    let mut rule = [0u8; SHORT_TAPE];
-    convert(
-        text,
-        rows,
-        out,
-        &mut table,
-        &mut tape,
-        &mut scratch,
-        &mut rule,
-    )
+    convert(text, rows, out, &mut table, &mut tape)
 }
 
 // Converts a long text.
@@ -152,17 +170,7 @@ fn convert_long(text: &[u8], rows: &[u8], out: &mut [u8]) -> Converted
 {
     let mut table = [0u8; ROOM_FOR_ROWS];
     let mut tape = [0u8; MOST_TAPE];
-    let mut scratch = [0u8; MOST_TAPE];
-    let mut rule = [0u8; MOST_TAPE];
-    convert(
-        text,
-        rows,
-        out,
-        &mut table,
-        &mut tape,
-        &mut scratch,
-        &mut rule,
-    )
+    convert(text, rows, out, &mut table, &mut tape)
 }
 
 // Converts jCal to iCalendar, with the added rows of rows.hex.

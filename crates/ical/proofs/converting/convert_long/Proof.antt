@@ -1,6 +1,7 @@
 -- `ical::converting::convert_long` meets its contract.
 use native.Mathlib.Omega.{arith}
 use lib.ListN.{length}
+use Rattle.octets.specs.Limits.{mostText}
 use Rattle.octets.proofs.Limits.{most-text}
 use Rattle.types.proofs.Reading.{room-is}
 use Rattle.ical.proofs.OnTape.{tape-is}
@@ -14,20 +15,14 @@ slice-aggregate-convert c = search needs
 slice-aggregate-convert-2 : tie.Need-slice-aggregate-convert-2
 slice-aggregate-convert-2 c = search needs
 
-slice-aggregate-convert-3 : tie.Need-slice-aggregate-convert-3
-slice-aggregate-convert-3 c = search needs
-
-slice-aggregate-convert-4 : tie.Need-slice-aggregate-convert-4
-slice-aggregate-convert-4 c = search needs
-
 convert-requires : tie.Need-convert-requires
-convert-requires c κs = (omega (arith, most-text), omega (arith, room-is), omega (arith, most-text, tape-is (length (c .before .before .before .before .before .before .before .before .args .text .now))), omega arith, omega arith)
+convert-requires c κs = (omega (arith, most-text), omega (arith, room-is), omega (arith, most-text, tape-is (length (c .before .before .before .before .before .before .args .text .now))), omega (arith, most-text, tape-is mostText))
 
 same-length : tie.Need-same-length
 same-length c = search needs
 
 returns : tie.Need-returns
-returns c = c .before .before .before .before .before .before .convert .ensures
+returns c = c .before .before .before .before .convert .ensures
 
 pub convert-long-spec : {M : Type 1} → statement M
 convert-long-spec =
@@ -35,8 +30,6 @@ convert-long-spec =
     (tie.spec
     slice-aggregate-convert
     slice-aggregate-convert-2
-    slice-aggregate-convert-3
-    slice-aggregate-convert-4
     convert-requires
     same-length
     returns)

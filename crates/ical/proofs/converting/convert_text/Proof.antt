@@ -14,19 +14,17 @@ parse-requires c κs = search needs
 enum-known-p : tie.Need-enum-known-p
 enum-known-p c = search needs
 
-sub-convert-tape : tie.Need-sub-convert-tape
-sub-convert-tape c = search needs
+sub-convert-laid : tie.Need-sub-convert-laid
+sub-convert-laid c = search needs
 
-part-convert-tape-start : tie.Need-part-convert-tape-start
-part-convert-tape-start c = search needs
+part-convert-laid-start : tie.Need-part-convert-laid-start
+part-convert-laid-start c = search needs
 
-part-convert-tape-end : tie.Need-part-convert-tape-end
-part-convert-tape-end c = omega (arith, tape-told _ _ (c .before .before .before .before .before .before .parse .ensures) (c .before .before .p .given .1) .room)
+part-convert-laid-end : tie.Need-part-convert-laid-end
+part-convert-laid-end c = omega (arith, tape-told _ _ (c .before .before .before .before .before .before .parse .ensures) (c .before .before .p .given .1) .room)
 
-convert-tape-requires : tie.Need-convert-tape-requires
-convert-tape-requires c κs =
-    let w = tape-told _ _ (c .before .before .before .before .before .before .before .before .before .before .parse .ensures) (c .before .before .before .before .before .before .p .given .1) in
-    (laid-within w (c .before .before .before .before .before .before .before .before .before .before .before .before .before .before .before .before .before .before .pre .2), laid-within w (c .before .before .before .before .before .before .before .before .before .before .before .before .before .before .before .before .before .before .pre .3))
+convert-laid-requires : tie.Need-convert-laid-requires
+convert-laid-requires c κs = laid-within (tape-told _ _ (c .before .before .before .before .before .before .before .before .parse .ensures) (c .before .before .before .before .p .given .1)) (c .before .before .before .before .before .before .before .before .before .before .before .before .before .before .pre .2)
 
 enum-told : tie.Need-enum-told
 enum-told c = search needs
@@ -52,14 +50,17 @@ same-length c = search needs
 same-length-2 : tie.Need-same-length-2
 same-length-2 c = search needs
 
+returns : tie.Need-returns
+returns c = c .before .before .convert-laid .ensures ∙ ap (λ a. answer a (c .before .before .before .before .before .before .before .before .before .before .before .before .before .before .before .before .before .args .out .now)) (parsed-text _ _ _ _ _ (c .before .before .before .before .before .before .before .before .before .before .before .before .before .before .before .before .before .pre .0) (tape-told _ _ (c .before .before .before .before .before .before .before .before .before .before .before .parse .ensures) (c .before .before .before .before .before .before .before .p .given .1)))
+
 same-length-3 : tie.Need-same-length-3
 same-length-3 c = search needs
 
 same-length-4 : tie.Need-same-length-4
 same-length-4 c = search needs
 
-returns : tie.Need-returns
-returns c = c .before .before .before .before .before .before .convert-tape .ensures ∙ ap (λ a. answer a (c .before .before .before .before .before .before .before .before .before .before .before .before .before .before .before .before .before .before .before .before .before .before .before .before .before .args .out .now)) (parsed-text _ _ _ _ _ (c .before .before .before .before .before .before .before .before .before .before .before .before .before .before .before .before .before .before .before .before .before .before .before .before .before .pre .0) (tape-told _ _ (c .before .before .before .before .before .before .before .before .before .before .before .before .before .before .before .before .before .parse .ensures) (c .before .before .before .before .before .before .before .before .before .before .before .before .before .p .given .1)))
+returns-2 : tie.Need-returns-2
+returns-2 c = c .before .before .refuse .ensures ∙ ap (λ a. answer a (c .before .before .before .before .before .before .before .before .before .before .before .before .before .before .args .out .now)) (sym (parsed-deep _ _ (deep-told _ _ (c .before .before .before .before .before .before .before .before .parse .ensures) (c .before .before .before .before .enum-told .given .1))))
 
 same-length-5 : tie.Need-same-length-5
 same-length-5 c = search needs
@@ -67,8 +68,8 @@ same-length-5 c = search needs
 same-length-6 : tie.Need-same-length-6
 same-length-6 c = search needs
 
-returns-2 : tie.Need-returns-2
-returns-2 c = c .before .before .refuse .ensures ∙ ap (λ a. answer a (c .before .before .before .before .before .before .before .before .before .before .before .before .before .before .before .before .args .out .now)) (sym (parsed-deep _ _ (deep-told _ _ (c .before .before .before .before .before .before .before .before .parse .ensures) (c .before .before .before .before .enum-told .given .1))))
+returns-3 : tie.Need-returns-3
+returns-3 c = c .before .before .refuse2 .ensures ∙ ap (λ a. answer a (c .before .before .before .before .before .before .before .before .before .before .before .before .before .before .args .out .now)) (sym (parsed-bad _ _ (bad-told _ _ (c .before .before .before .before .before .before .before .before .parse .ensures) (c .before .before .before .before .enum-told2 .given .1))))
 
 same-length-7 : tie.Need-same-length-7
 same-length-7 c = search needs
@@ -76,17 +77,8 @@ same-length-7 c = search needs
 same-length-8 : tie.Need-same-length-8
 same-length-8 c = search needs
 
-returns-3 : tie.Need-returns-3
-returns-3 c = c .before .before .refuse2 .ensures ∙ ap (λ a. answer a (c .before .before .before .before .before .before .before .before .before .before .before .before .before .before .before .before .args .out .now)) (sym (parsed-bad _ _ (bad-told _ _ (c .before .before .before .before .before .before .before .before .parse .ensures) (c .before .before .before .before .enum-told2 .given .1))))
-
-same-length-9 : tie.Need-same-length-9
-same-length-9 c = search needs
-
-same-length-10 : tie.Need-same-length-10
-same-length-10 c = search needs
-
 returns-4 : tie.Need-returns-4
-returns-4 c = absurd (not-short _ _ (c .before .before .before .before .before .before .before .before .before .before .before .before .before .before .before .before .pre .1) (c .before .before .before .before .before .before .before .before .parse .ensures) (c .before .before .before .before .enum-told3 .given .1))
+returns-4 c = absurd (not-short _ _ (c .before .before .before .before .before .before .before .before .before .before .before .before .before .before .pre .1) (c .before .before .before .before .before .before .before .before .parse .ensures) (c .before .before .before .before .enum-told3 .given .1))
 
 pub convert-text-spec : {M : Type 1} → statement M
 convert-text-spec =
@@ -94,10 +86,10 @@ convert-text-spec =
     (tie.spec
     parse-requires
     enum-known-p
-    sub-convert-tape
-    part-convert-tape-start
-    part-convert-tape-end
-    convert-tape-requires
+    sub-convert-laid
+    part-convert-laid-start
+    part-convert-laid-end
+    convert-laid-requires
     enum-told
     refuse-requires
     enum-told-2
@@ -106,15 +98,13 @@ convert-text-spec =
     refuse-requires-3
     same-length
     same-length-2
+    returns
     same-length-3
     same-length-4
-    returns
+    returns-2
     same-length-5
     same-length-6
-    returns-2
+    returns-3
     same-length-7
     same-length-8
-    returns-3
-    same-length-9
-    same-length-10
     returns-4)
