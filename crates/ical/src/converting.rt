@@ -36,6 +36,10 @@ const SHORT_TEXT: usize = 8192;
 
 const SHORT_TAPE: usize = 2 * SHORT_TEXT + 2;
 
+const MIDDLE_TEXT: usize = 24576;
+
+const MIDDLE_TAPE: usize = 2 * MIDDLE_TEXT + 2;
+
 // Numbers 12 and 6, then what is on the tape.
 fn convert_sound(
     t: &[u8],
@@ -88,6 +92,16 @@ fn convert_short_tape(t: &[u8], rows: &[u8], out: &mut [u8]) -> Converted
     convert_tape(t, rows, out, &mut text, &mut rule)
 }
 
+// Converts what is on a tape of middle length.
+fn convert_middle_tape(t: &[u8], rows: &[u8], out: &mut [u8]) -> Converted
+    requires { ⌜ length (now t) ≤ 24576 ⌝ }
+    ensures { λ r. ⌜ outcome r (now (out .exit)) ≡ answer (tapeText (tableIn (now (rows .entry))) (now (t .entry))) (now (out .entry)) ⌝ }
+{
+    let mut text = [0u8; MIDDLE_TEXT];
+    let mut rule = [0u8; MIDDLE_TEXT];
+    convert_tape(t, rows, out, &mut text, &mut rule)
+}
+
 // Converts what is on a tape that is no longer than a text.
 fn convert_long_tape(t: &[u8], rows: &[u8], out: &mut [u8]) -> Converted
     requires { ⌜ length (now t) ≤ mostText ⌝ }
@@ -115,6 +129,9 @@ fn convert_laid(t: &[u8], rows: &[u8], out: &mut [u8]) -> Converted
 {
     if t.len() <= SHORT_TEXT {
         return convert_short_tape(t, rows, out);
+    }
+    if t.len() <= MIDDLE_TEXT {
+        return convert_middle_tape(t, rows, out);
     }
     if t.len() <= MOST_TEXT {
         return convert_long_tape(t, rows, out);
@@ -163,6 +180,16 @@ fn convert_short(text: &[u8], rows: &[u8], out: &mut [u8]) -> Converted
     convert(text, rows, out, &mut table, &mut tape)
 }
 
+// Converts a text of middle length.
+fn convert_middle(text: &[u8], rows: &[u8], out: &mut [u8]) -> Converted
+    requires { ⌜ length (now text) ≤ 24576 ⌝ }
+    ensures { λ r. ⌜ outcome r (now (out .exit)) ≡ answer (toIcal (now (rows .entry)) (now (text .entry))) (now (out .entry)) ⌝ }
+{
+    let mut table = [0u8; ROOM_FOR_ROWS];
+    let mut tape = [0u8; MIDDLE_TAPE];
+    convert(text, rows, out, &mut table, &mut tape)
+}
+
 // Converts a long text.
 fn convert_long(text: &[u8], rows: &[u8], out: &mut [u8]) -> Converted
     requires { ⌜ length (now text) ≤ mostText ⌝ }
@@ -180,8 +207,11 @@ pub fn to_ical(text: &[u8], rows: &[u8], out: &mut [u8]) -> Converted
     if MOST_TEXT < text.len() {
         return refuse(out, Refusal::TextTooLong);
     }
-    if SHORT_TEXT < text.len() {
+    if MIDDLE_TEXT < text.len() {
         return convert_long(text, rows, out);
+    }
+    if SHORT_TEXT < text.len() {
+        return convert_middle(text, rows, out);
     }
     convert_short(text, rows, out)
 }

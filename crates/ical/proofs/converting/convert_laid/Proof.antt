@@ -14,8 +14,8 @@ same-length c = search needs
 returns : tie.Need-returns
 returns c = search needs
 
-convert-long-tape-requires : tie.Need-convert-long-tape-requires
-convert-long-tape-requires c κs = omega (arith, most-text)
+convert-middle-tape-requires : tie.Need-convert-middle-tape-requires
+convert-middle-tape-requires c κs = search needs
 
 same-length-2 : tie.Need-same-length-2
 same-length-2 c = search needs
@@ -23,14 +23,23 @@ same-length-2 c = search needs
 returns-2 : tie.Need-returns-2
 returns-2 c = search needs
 
-convert-longest-tape-requires : tie.Need-convert-longest-tape-requires
-convert-longest-tape-requires c κs = search needs
+convert-long-tape-requires : tie.Need-convert-long-tape-requires
+convert-long-tape-requires c κs = omega (arith, most-text)
 
 same-length-3 : tie.Need-same-length-3
 same-length-3 c = search needs
 
 returns-3 : tie.Need-returns-3
 returns-3 c = search needs
+
+convert-longest-tape-requires : tie.Need-convert-longest-tape-requires
+convert-longest-tape-requires c κs = search needs
+
+same-length-4 : tie.Need-same-length-4
+same-length-4 c = search needs
+
+returns-4 : tie.Need-returns-4
+returns-4 c = search needs
 
 pub convert-laid-spec : {M : Type 1} → statement M
 convert-laid-spec =
@@ -39,9 +48,12 @@ convert-laid-spec =
     convert-short-tape-requires
     same-length
     returns
-    convert-long-tape-requires
+    convert-middle-tape-requires
     same-length-2
     returns-2
-    convert-longest-tape-requires
+    convert-long-tape-requires
     same-length-3
-    returns-3)
+    returns-3
+    convert-longest-tape-requires
+    same-length-4
+    returns-4)

@@ -26,14 +26,23 @@ same-length-2 c = search needs
 returns-2 : tie.Need-returns-2
 returns-2 c = c .before .before .convert-long .ensures
 
-convert-short-requires : tie.Need-convert-short-requires
-convert-short-requires c κs = omega arith
+convert-middle-requires : tie.Need-convert-middle-requires
+convert-middle-requires c κs = omega arith
 
 same-length-3 : tie.Need-same-length-3
 same-length-3 c = search needs
 
 returns-3 : tie.Need-returns-3
-returns-3 c = c .before .before .convert-short .ensures
+returns-3 c = c .before .before .convert-middle .ensures
+
+convert-short-requires : tie.Need-convert-short-requires
+convert-short-requires c κs = omega arith
+
+same-length-4 : tie.Need-same-length-4
+same-length-4 c = search needs
+
+returns-4 : tie.Need-returns-4
+returns-4 c = c .before .before .convert-short .ensures
 
 pub to-ical-spec : {M : Type 1} → statement M
 to-ical-spec =
@@ -45,6 +54,9 @@ to-ical-spec =
     convert-long-requires
     same-length-2
     returns-2
-    convert-short-requires
+    convert-middle-requires
     same-length-3
-    returns-3)
+    returns-3
+    convert-short-requires
+    same-length-4
+    returns-4)
