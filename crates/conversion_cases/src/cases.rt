@@ -13,7 +13,7 @@ use octets::same;
 const BLANK: u8 = 170;
 
 // Which conversion a folder's cases are for.
-pub enum Direction {
+pub(crate) enum Direction {
     ToJcal,
     ToIcal,
 }
@@ -174,7 +174,7 @@ fn run_all(folder: &[u8], to: Direction, index: &[u8]) -> u64 {
 }
 
 // Runs the cases of a folder, and prints how many there are.
-pub fn run_folder(folder: &[u8], to: Direction) {
+pub(crate) fn run_folder(folder: &[u8], to: Direction) {
     let mut index = [0u8; 16384];
     let n = load_part(folder, b"index", b"", &mut index);
     io::write_all(1, folder);

@@ -25,7 +25,7 @@ fn route(there: &[u8], back: &[u8]) {
     }
 }
 
-pub fn run() {
+pub(crate) fn run() {
     route(b"", b"");
     route(b"", &NEWER);
     route(&NEWER, b"");

@@ -21,7 +21,7 @@ ghost use Rattle.converter.specs.Skeleton.{paramsFrom};
 ghost use Rattle.ical.specs.Writes.{valueText, headText};
 
 // BEGIN or END, and a name that stands on the tape.
-pub fn write_mark(out: &mut [u8], at: usize, word: &[u8], t: &[u8], name: Text) -> usize
+pub(crate) fn write_mark(out: &mut [u8], at: usize, word: &[u8], t: &[u8], name: Text) -> usize
     requires { ⌜ (name .from ≤ name .to) × (name .to ≤ length (now t)) ⌝ }
     ensures { λ r. ⌜ Wrote (pen (now (out .entry)) at) (textOf ((now (word .entry) ++ upper (take (name .to - name .from) (drop (name .from) (now (t .entry))))) ∷ [])) (pen (now (out .exit)) r) ⌝ }
 {
