@@ -76,7 +76,7 @@ fn every_text_gets_an_answer() {
     let mut numbers = Numbers(88_172_645_463_325_252);
     let lines = inputs("conversion_cases/data/tojcal", ".ics");
     let jcals = inputs("conversion_cases/data/tocal", ".json");
-    let pages = inputs("stops_cases/data", ".txt");
+    let pages = inputs("layer_cases/data/stops", ".txt");
     let mut out = vec![BLANK; 65_536];
     let (mut written, mut refused) = (0, 0);
     for k in 0..CASES {
