@@ -217,9 +217,6 @@ pub other-month : (y m : ℕ) → 1 ≤ m → m ≤ 12 → (m ≡ 2 → ⊥) →
 unfolding monthDays
 other-month y m p q n = go (decLe m 1)
   where
-    length-of : ℕ → ℕ
-    length-of m = 30 + (m + m / 8) % 2
-
     from-3 : below (alike (λ i. 30 + (i + 3 + (i + 3) / 8) % 2) (λ i. getD (months (leapDay y)) (i + 3 - 1) 0)) 10 ≡ true
     from-3 = unfold below months in leap-cases (λ l. below (alike (λ i. 30 + (i + 3 + (i + 3) / 8) % 2) (λ i. getD (months l) (i + 3 - 1) 0)) 10 ≡ true) y refl refl
 

@@ -1,16 +1,15 @@
 -- The ends of periods: a date-time, or else a duration without minus.
-use Prim.Native.Nat.{ℕ, _-_, _≤_, _<_}
+use Prim.Native.Nat.{ℕ, _-_}
 use Prim.Native.Char.{code}
-use mathlib.Core.Path.{_≡_, refl, sym, ap, _∙_}
-use mathlib.Core.Bool.{Bool, true, false}
+use mathlib.Core.Path.{_≡_, refl, ap, _∙_}
 use mathlib.Core.List.{List, [], _∷_}
 use mathlib.Core.Option.{Option, none, some}
 use native.Mathlib.Omega.{arith}
 use borrow.Author.Tests.{ne-eqb}
 use lib.Dec.{eqb}
 use lib.ListN.{getD}
-use Rattle.octets.specs.Basics.{pick, _or_}
-use Rattle.octets.specs.Optional.{or?, isSome, when, given}
+use Rattle.octets.specs.Basics.{_or_}
+use Rattle.octets.specs.Optional.{or?, isSome, when}
 use Rattle.octets.specs.Classes.{between, isLower, upperOctet, upper}
 use Rattle.octets.specs.Decimal.{minus}
 use Rattle.octets.proofs.Cases.{cases}
@@ -40,19 +39,3 @@ is-some-or (some a) y = refl
 pub end-is : (u : List ℕ) → isSome (periodEndOf u) ≡ (isSome (dateTimeOf u) or forwardIs u)
 unfolding periodEndOf
 end-is u = is-some-or (dateTimeOf u) (when (forwardIs u) u) ∙ ap (λ b. isSome (dateTimeOf u) or b) (some-when (forwardIs u) u)
-
-module _ (u : List ℕ) where
-  abbrev written : List ℕ
-  written = given [] (λ t. t) (periodEndOf u)
-
-  pub end-moment : (t : List ℕ) → dateTimeOf u ≡ some t → t ≡ written
-  unfolding periodEndOf or? given
-  end-moment t e = rw e
-
-  pub end-forward : dateTimeOf u ≡ none → forwardIs u ≡ true → u ≡ written
-  unfolding periodEndOf or? given when
-  end-forward e f = rw (e, f)
-
-  pub end-none : dateTimeOf u ≡ none → forwardIs u ≡ false → [] ≡ written
-  unfolding periodEndOf or? given when
-  end-none e f = rw (e, f)

@@ -1,4 +1,4 @@
--- The walk over a recurrence rule: its parts are those that `first_part` finds one after another, and a part's values those between commas.
+-- The walk over a recurrence rule: its parts are those that `first_part` finds one after another.
 use Prim.Native.Nat.{ℕ, zero, suc, _+_, _-_, _≤_, _<_}
 use Prim.Native.Char.{code}
 use mathlib.Core.Path.{_≡_, refl, sym, ap, _∙_}
@@ -24,7 +24,7 @@ use Rattle.calendar.specs.Walk.{before, wordPlace, keyPlace, keyAt, keye
 use Rattle.calendar.specs.declared.parts.PartAt.{PartAt}
 use Rattle.octets.proofs.Optional.{guard-is}
 use Rattle.calendar.proofs.Options.{map-is}
-use Rattle.calendar.proofs.Pieces.{before-le, before-take, before-all, split-more, split-last, Uncased, comma-uncased, semicolon-uncased, equals-uncased, split-upper}
+use Rattle.calendar.proofs.Pieces.{before-le, before-take, before-all, split-more, split-last, Uncased, semicolon-uncased, equals-uncased, split-upper}
 use Rattle.calendar.proofs.Keys.{key-count}
 use Rattle.calendar.proofs.Octets.{itemOctet, item-octets}
 
@@ -331,26 +331,3 @@ module _ (s : List ℕ) (ps : List Part) where
       built _ (both-is _ _ ps (sym (first-more s h) ∙ e)) (λ l. refl) (λ l. absurd (omega arith)))
       (λ t. let h = ltb-false ((firstPart s) .to) (length s) t in
       built _ (both-is _ _ ps (sym (first-last s h) ∙ e)) (λ l. absurd (omega arith)) (λ l. refl))
-
--- For a caller that walks over the values of a part: the first of them ends at e.
-pub record Itemized (f : List ℕ → Option (List ℕ)) (v : List ℕ) (e : ℕ) (vs : List (List ℕ)) : Type 0 where
-  pub this : List ℕ
-  pub others : List (List ℕ)
-  pub whole : vs ≡ this ∷ others
-  pub value : f (upper (take e v)) ≡ some this
-  pub within : e ≤ length v
-  pub more : e < length v → each f (split (code ",") (upper (drop (e + 1) v))) ≡ some others
-  pub last : length v ≤ e → others ≡ []
-
-module _ (f : List ℕ → Option (List ℕ)) (v : List ℕ) (e : ℕ) (is : e ≡ length (before (code ",") v)) (vs : List (List ℕ)) where
-  pub itemized : each f (split (code ",") (upper v)) ≡ some vs → Itemized f v e vs
-  itemized d = cases (ltb e (length v))
-      (λ t. let h = ltb-true e (length v) t in
-      let b = both-is _ _ vs (sym (each-more (code ",") comma-uncased f v e is h) ∙ d) in
-      record { this = b .head; others = b .tail; whole = b .whole; value = b .first; within = omega arith; more = λ l. b .rest; last = λ l. absurd (omega arith) })
-      (λ t. let h = ltb-false e (length v) t in
-      let b = both-is _ _ vs (sym (each-last (code ",") comma-uncased f v e is h) ∙ d) in
-      record { this = b .head; others = b .tail; whole = b .whole; value = b .first; within = rw is (before-le (code ",") v); more = λ l. absurd (omega arith); last = λ l. nothing (b .tail) (b .rest) })
-    where
-      nothing : (l : List (List ℕ)) → some [] ≡ some l → l ≡ []
-      nothing l e = cc

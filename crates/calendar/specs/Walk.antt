@@ -19,10 +19,6 @@ unfoldable pub before : ℕ → List ℕ → List ℕ
 before sep [] = []
 before sep (c ∷ s) = pick (eqb c sep) [] (c ∷ before sep s)
 
--- the words between commas, in uppercase
-unfoldable pub wordsIn : List ℕ → List (List ℕ)
-wordsIn s = split (code ",") (upper s)
-
 -- the place of a text among words; their number, where it is none of them
 unfoldable pub wordPlace : List (List ℕ) → List ℕ → ℕ
 wordPlace [] n = 0

@@ -1,23 +1,18 @@
 // Durations and the ends of periods.
 ghost use mathlib.Core.Path.{_≡_};
 ghost use mathlib.Core.Bool.{false};
-ghost use mathlib.Core.List.{[]};
 ghost use Prim.Native.Nat.{_≤_};
 ghost use lib.Dec.{eqb};
 ghost use Rattle.octets.specs.Basics.{pick, _or_};
-ghost use Rattle.octets.specs.Optional.{isSome, given};
+ghost use Rattle.octets.specs.Optional.{isSome};
 ghost use Rattle.octets.specs.Classes.{isDigit, upper};
-ghost use Rattle.octets.specs.Pen.{pen, Wrote};
 ghost use Rattle.calendar.specs.Durations.{span, mayEnd, durationIs, forwardIs, periodEndOf, periodEndIs};
 ghost use Rattle.calendar.specs.Phases.{phaseAt};
 use crate::texts::Form;
-use crate::texts::extended;
 use crate::texts::is_basic;
 use crate::texts::is_extended;
-use crate::texts::put_text;
 use octets::is_digit;
 use octets::peek;
-use octets::put_upper;
 use octets::upper_octet;
 
 // The state behind a digit, which 0 stands for.
@@ -128,18 +123,4 @@ pub fn is_extended_period_end(t: &[u8]) -> bool
         return true;
     }
     is_forward(t)
-}
-
-// Writes a period's end for jCal.
-pub fn put_extended_period_end(out: &mut [u8], at: usize, s: &[u8]) -> usize
-    ensures { λ r. ⌜ Wrote (pen (now (out .entry)) at) (given [] (λ t. t) (periodEndOf (upper (now (s .entry))))) (pen (now (out .exit)) r) ⌝ }
-{
-    let t = extended(Form::DateTime, s);
-    if t.len != 0 {
-        return put_text(out, at, t);
-    }
-    if is_forward(s) {
-        return put_upper(out, at, s);
-    }
-    at
 }

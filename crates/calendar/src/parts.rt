@@ -4,7 +4,7 @@ ghost use lib.ListN.{length};
 ghost use Rattle.octets.specs.Basics.{pick};
 ghost use Rattle.octets.specs.Classes.{upper, sameName};
 ghost use Rattle.calendar.specs.Recurrence.{numbers, frequencies};
-ghost use Rattle.calendar.specs.Walk.{before, wordsIn, wordPlace, keyNames, placeFrom, keyPlace, keyAt, sortSaid, firstPart};
+ghost use Rattle.calendar.specs.Walk.{before, wordPlace, keyNames, placeFrom, keyPlace, keyAt, sortSaid, firstPart};
 use octets::same_name;
 
 // A part: its key's place among the keys (14: none), the length of its name, where its values begin, and where it ends.
@@ -45,26 +45,6 @@ pub fn find(s: &[u8], sep: u8) -> usize
         i += 1;
     }
     i
-}
-
-// The place of a name among words between commas, without case; the number of words, where it is none of them.
-pub fn word_place(words: &[u8], s: &[u8]) -> usize
-    ensures { λ r. ⌜ r ≡ wordPlace (wordsIn (now (words .entry))) (upper (now (s .entry))) ⌝ }
-{
-    let mut n = 0;
-    let mut at = 0;
-    loop {
-        let rest = &words[at..];
-        let e = find(rest, b',');
-        if same_name(&rest[0..e], s) {
-            return n;
-        }
-        n += 1;
-        if e >= rest.len() {
-            return n;
-        }
-        at = at + e + 1;
-    }
 }
 
 // A place where the name is this word, without case, or else another.

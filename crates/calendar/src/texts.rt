@@ -339,14 +339,6 @@ pub fn extended_moment(s: &[u8]) -> Text
     extended(Form::DateTime, s)
 }
 
-// The text is a date or a date-time in the basic form.
-pub fn is_moment(s: &[u8]) -> bool
-    ensures { λ r. ⌜ r ≡ isSome (momentOf (upper (now (s .entry)))) ⌝ }
-{
-    let t = extended_moment(s);
-    t.len != 0
-}
-
 // The text is a date or a date-time in the extended form.
 pub fn is_extended_moment(t: &[u8]) -> bool
     ensures { λ r. ⌜ r ≡ momentIs (upper (now (t .entry))) ⌝ }
