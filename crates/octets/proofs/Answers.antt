@@ -1,15 +1,15 @@
 -- What an accepted answer tells of its stages; and the end of a conversion: what the pen wrote from the front of the buffer is the answer.
 use Prim.Native.Nat.{ℕ, _+_, _≤_, _<_}
-use mathlib.Core.Path.{_≡_, refl, sym, ap, _∙_}
+use mathlib.Core.Path.{_≡_, refl, ap, _∙_}
 use mathlib.Core.Bool.{Bool, true, false}
 use mathlib.Core.Option.{Option, none, some}
-use mathlib.Core.List.{List, _++_}
+use mathlib.Core.List.{List}
 use native.Mathlib.Omega.{arith}
 use borrow.Author.Tests.{le-leb, lt-leb, leb-true, leb-false}
 use lib.Dec.{leb}
-use lib.ListN.{length, drop}
+use lib.ListN.{length}
 use Rattle.octets.specs.Pen.{Pen, pen, Wrote}
-use Rattle.octets.specs.Answers.{Answer, refused, accepted, then, orElse, unless, Settled, settled, zeroed, answer, finished}
+use Rattle.octets.specs.Answers.{Answer, refused, accepted, then, orElse, unless, zeroed, answer, finished}
 use Rattle.octets.proofs.Cases.{cases}
 use Rattle.octets.proofs.Pen.{kept, landed, full}
 

@@ -1,29 +1,24 @@
 -- Reading one character of several octets, and a text by its characters.
 use Prim.Native.Nat.{ℕ, _+_, _≤_, _<_}
 use mathlib.Core.Path.{_≡_, refl, sym, ap, _∙_}
-use mathlib.Core.Bool.{Bool, true, false}
-use mathlib.Core.List.{List, [], _∷_}
+use mathlib.Core.Bool.{true, false}
+use mathlib.Core.List.{List}
 use native.Mathlib.Omega.{arith}
-use borrow.Author.Tests.{le-leb, lt-leb, leb-true, leb-false, lt-ltb, ltb-true, ltb-false, ne-eqb}
-use lib.Dec.{eqb, leb, ltb}
+use borrow.Author.Tests.{le-leb, lt-leb, lt-ltb, ltb-true, ltb-false, ne-eqb}
+use lib.Dec.{ltb}
 use lib.ListN.{length, getD, drop}
-use Rattle.octets.specs.Basics.{pick, _and_, all}
-use Rattle.octets.specs.Classes.{between, isControl, plainOctet}
-use Rattle.octets.specs.Utf8.{Due, start, one, two, three, afterE0, afterED, afterF0, afterF4, broken, lead, due, dueAfter, isStart, utf8, clean}
+use Rattle.octets.specs.Classes.{between}
+use Rattle.octets.specs.Utf8.{Due, start, one, two, three, afterE0, afterED, afterF0, afterF4, broken, lead, due, dueAfter, isStart, utf8}
 use Rattle.octets.specs.Characters.{Awaits, Ends}
-use Rattle.octets.proofs.Cases.{cases, never, and-false-right}
+use Rattle.octets.proofs.Cases.{cases}
 use Rattle.octets.proofs.Positions.{here, ended, past-end}
-use Rattle.octets.proofs.Classes.{between-true, within-between}
-use Rattle.octets.proofs.Utf8.{ascii, due-cons, broken-stays, utf8-ascii, plain-above}
+use Rattle.octets.proofs.Classes.{between-true}
+use Rattle.octets.proofs.Utf8.{ascii, due-cons, broken-stays, utf8-ascii}
 
 -- an octet other than 0 is there
 pub seen : (s : List ℕ) (i : ℕ) → 0 < getD s i 0 → i < length s
 seen s i h = cases (ltb i (length s)) (λ e. ltb-true i (length s) e)
     (λ e. let z : getD s i 0 ≡ 0 = past-end s i (ltb-false i (length s) e) in absurd (omega arith))
-
-plain-high : (c : ℕ) → 127 < c → plainOctet c ≡ true
-unfolding plainOctet isControl
-plain-high c h = rw (lt-leb c 31 (omega arith), ne-eqb c 127 (λ e. omega arith))
 
 module _ (d : Due) (s : List ℕ) (i : ℕ) where
   -- the character is broken at its end, or at the octet at i
@@ -35,7 +30,7 @@ module _ (d : Due) (s : List ℕ) (i : ℕ) where
   broken-here h e = rw (here s i h, due-cons, e, broken-stays (drop (i + 1) s)) (unfold isStart in refl)
 
   none : isStart (dueAfter d (drop i s)) ≡ false → Ends d s i 0
-  none e = record { within = omega arith; onward = λ h. absurd (omega arith); told = e; plain = λ h. absurd (omega arith) }
+  none e = record { within = omega arith; onward = λ h. absurd (omega arith); told = e }
 
   pub ends-broken : i < length s → due d (getD s i 0) ≡ broken → Ends d s i 0
   ends-broken h e = none (broken-here h e)
@@ -45,16 +40,11 @@ module _ (d : Due) (s : List ℕ) (i : ℕ) where
     told-on : isStart (dueAfter d (drop i s)) ≡ isStart (dueAfter next (drop (i + 1) s))
     told-on = rw (here s i (seen s i (omega arith)), due-cons, e)
 
-    plain-on : all plainOctet (drop i s) ≡ all plainOctet (drop (i + 1) s)
-    unfolding all
-    plain-on = rw (here s i (seen s i (omega arith)), plain-high (getD s i 0) h)
-
     pub ends-on : (r : ℕ) → Ends next s (i + 1) r → Ends d s i r
     ends-on r t = record {
       within = t .within;
       onward = λ k. omega (arith, t .onward k);
       told = told-on ∙ t .told;
-      plain = λ k. plain-on ∙ t .plain k;
     }
 
     pub ends-last : next ≡ start → Ends d s i (i + 1)
@@ -63,7 +53,6 @@ module _ (d : Due) (s : List ℕ) (i : ℕ) where
       within = omega (arith, seen s i (omega arith));
       onward = λ k. omega arith;
       told = told-on ∙ rw (f, lt-ltb 0 (i + 1) (omega arith));
-      plain = λ k. plain-on;
     }
 
 -- an octet from lo to hi is due
@@ -143,15 +132,6 @@ lead-three c h k = rw (
 pub lead-is : (k : ℕ) (d : Due) → lead k ≡ d → (c : ℕ) → c ≡ k → lead c ≡ d
 lead-is k d e c f = rw f e
 
--- what is neither printable nor tab is a control character
-control : (c : ℕ) → between 32 126 c ≡ false → (c ≡ 9 → ⊥) → c ≤ 127 → plainOctet c ≡ false
-unfolding plainOctet isControl
-control c e n k = cases (leb c 31)
-    (λ l. rw l (ne-eqb c 9 n))
-    (λ l. cases (leb c 126)
-    (λ m. never (within-between 32 126 c (leb-false c 31 l) (leb-true c 126 m)) e)
-    (λ m. let f : c ≡ 127 = omega (arith, leb-false c 126 m) in rw f))
-
 -- a character in front of the rest
 module _ (s : List ℕ) (i : ℕ) where
   module _ (c : ℕ) (e : c ≡ getD s i 0) (h : 127 < getD s i 0) where
@@ -176,35 +156,3 @@ module _ (s : List ℕ) (i : ℕ) where
   pub utf8-end : length s ≤ i → utf8 (drop i s) ≡ true
   unfolding utf8 dueAfter isStart
   utf8-end h = rw (ended s i h)
-
-  pub clean-on : (r : ℕ) → Ends start s i r → 0 < r → clean (drop i s) ≡ clean (drop r s)
-  unfolding clean
-  clean-on r t h = rw (utf8-on r t h, t .plain h)
-
-  pub clean-stop : Ends start s i 0 → clean (drop i s) ≡ false
-  unfolding clean
-  clean-stop t = rw (utf8-stop t)
-
-  pub clean-next : i < length s → getD s i 0 ≤ 127 → plainOctet (getD s i 0) ≡ true → clean (drop i s) ≡ clean (drop (i + 1) s)
-  unfolding clean all
-  clean-next h k p = rw (utf8-next h k, here s i h, p)
-
-  pub clean-control : i < length s → plainOctet (getD s i 0) ≡ false → clean (drop i s) ≡ false
-  unfolding clean all
-  clean-control h p = rw (here s i h, p) (and-false-right (utf8 (getD s i 0 ∷ drop (i + 1) s)))
-
-  -- an octet of 127 or less: printable, a tab, or a control character
-  pub clean-printable : between 32 126 (getD s i 0) ≡ true → i < length s → clean (drop i s) ≡ clean (drop (i + 1) s)
-  clean-printable e h =
-      let b = between-true 32 126 (getD s i 0) e in
-      clean-next h (omega arith) (plain-above (getD s i 0) (omega arith) (omega arith))
-
-  pub clean-tab : getD s i 0 ≡ 9 → i < length s → clean (drop i s) ≡ clean (drop (i + 1) s)
-  clean-tab e h = clean-next h (omega arith) (rw e (unfold plainOctet isControl in refl))
-
-  pub clean-other : between 32 126 (getD s i 0) ≡ false → (getD s i 0 ≡ 9 → ⊥) → getD s i 0 ≤ 127 → i < length s → clean (drop i s) ≡ false
-  clean-other e n k h = clean-control h (control (getD s i 0) e n k)
-
-  pub clean-end : length s ≤ i → clean (drop i s) ≡ true
-  unfolding clean all
-  clean-end h = rw (utf8-end h, ended s i h)

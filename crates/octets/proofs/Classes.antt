@@ -1,16 +1,16 @@
 -- Laws of classes, names and case; and of tests over a slice from a position on.
-use Prim.Native.Nat.{ℕ, zero, suc, _+_, _-_, _≤_, _<_}
+use Prim.Native.Nat.{ℕ, suc, _+_, _-_, _≤_, _<_}
 use Prim.Native.Char.{code}
 use mathlib.Core.Path.{_≡_, refl, sym, ap, _∙_}
 use mathlib.Core.Bool.{Bool, true, false}
 use mathlib.Core.List.{List, [], _∷_, _++_, map}
 use native.Mathlib.Omega.{arith}
-use borrow.Author.Tests.{le-leb, lt-leb, leb-true, leb-false, eq-eqb, ne-eqb, eqb-true}
+use borrow.Author.Tests.{le-leb, lt-leb, leb-true, eq-eqb, ne-eqb, eqb-true}
 use lib.Dec.{eqb, leb}
 use lib.ListN.{length, getD, drop}
-use Rattle.octets.specs.Basics.{pick, _and_, _or_, all, filled, same}
+use Rattle.octets.specs.Basics.{_and_, _or_, all, filled, same}
 use Rattle.octets.specs.Classes.{between, isDigit, isUpper, isLower, isLetter, nameOctet, isName, lowerNameOctet, isLowerName, upperOctet, lowerOctet, upper, lower, sameName}
-use Rattle.octets.proofs.Cases.{cases, same?, never, both, either, and-true, and-assoc, and-true-right, or-first, or-second, apart, all-weaker}
+use Rattle.octets.proofs.Cases.{cases, same?, never, both, either, and-true, and-assoc, and-true-right, all-weaker}
 use Rattle.octets.proofs.Positions.{here, ended}
 
 -- lo ≤ c ≤ hi, told by the test

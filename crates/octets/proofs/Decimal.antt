@@ -3,16 +3,16 @@ use Prim.Native.Nat.{ℕ, zero, suc, _+_, _-_, _*_, _/_, _%_, _^_, _≤_, _<_, m
 use Prim.Native.Char.{code}
 use mathlib.Core.Path.{_≡_, refl, sym, ap, _∙_}
 use mathlib.Core.Bool.{Bool, true, false, not}
-use mathlib.Core.List.{List, [], _∷_, _++_, append-assoc}
-use native.Mathlib.Nat.{add-zero, zero-add, add-mul, mul-assoc, mul-comm, add-assoc, pow-suc, pow-succ', div-one, div-div-eq-div-mul}
+use mathlib.Core.List.{List, [], _∷_, _++_}
+use native.Mathlib.Nat.{add-mul, mul-assoc, mul-comm, add-assoc, pow-suc, pow-succ', div-one, div-div-eq-div-mul}
 use native.Mathlib.Omega.{arith}
 use borrow.Author.Tests.{eqb-true, ne-eqb}
 use lib.Arith.{digits-lt, digits-div}
-use lib.Dec.{eqb, leb}
+use lib.Dec.{eqb}
 use lib.ListN.{length, getD, take, drop, length-append}
-use Rattle.octets.specs.Basics.{pick, _and_, all, filled}
+use Rattle.octets.specs.Basics.{_and_, all, filled}
 use Rattle.octets.specs.Classes.{between, isDigit}
-use Rattle.octets.specs.Decimal.{digits, valueFrom, valueOf, figures, isSign, hasSign, minus, unsigned, trim, minusIf, decimal, integerText}
+use Rattle.octets.specs.Decimal.{digits, valueFrom, valueOf, figures, isSign, minus, unsigned, trim, minusIf, decimal, integerText}
 use Rattle.octets.proofs.Cases.{cases, same?, never, both, and-true, and-false-right, or-false, apart, all-append}
 use Rattle.octets.proofs.Positions.{here, ended, first-of, from}
 use Rattle.octets.proofs.Classes.{between-true, within-between}

@@ -1,5 +1,4 @@
 -- The limits as the code's constants have them. Nothing else opens a limit: proofs go by these equations.
-use Prim.Native.Nat.{ℕ}
 use mathlib.Core.Path.{_≡_, refl}
 use Rattle.octets.specs.Limits.{mostText, mostLevels, mostOpen, mostRows, mostColumns, mostInteger, lastYear}
 

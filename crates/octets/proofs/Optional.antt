@@ -5,7 +5,7 @@ use mathlib.Core.Bool.{Bool, true, false}
 use mathlib.Core.List.{List, [], _∷_}
 use mathlib.Core.Option.{Option, none, some}
 use native.Mathlib.Omega.{arith}
-use Rattle.octets.specs.Optional.{map?, both?, then?, or?, isSome, when, guard, holds, given, each}
+use Rattle.octets.specs.Optional.{map?, both?, then?, isSome, when, guard, each}
 
 pub missing {ℓ} : {P : Type ℓ} {A : Type 0} {a : A} → _≡_ {A = Option A} none (some a) → P
 missing e = let z : _≡_ {A = ℕ} 0 1 = cc in absurd (omega arith)

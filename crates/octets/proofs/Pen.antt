@@ -1,16 +1,14 @@
 -- The laws of the pen: two writes are one, what fits stands at its place, and what a loop has left to write.
 use Prim.Native.Nat.{ℕ, suc, _+_, _≤_, _<_}
 use mathlib.Core.Path.{_≡_, refl, sym, ap, _∙_}
-use mathlib.Core.Bool.{Bool, true, false}
 use mathlib.Core.List.{List, [], _∷_, _++_}
 use native.Mathlib.Numerals.{add-one}
 use native.Mathlib.Nat.{add-zero, zero-add}
 use native.Mathlib.Omega.{arith}
 use borrow.Author.Tests.{lt-ltb, le-ltb, ltb-true, ltb-false}
 use lib.Dec.{ltb}
-use lib.ListN.{length, set, take, drop, length-set, length-append}
-use lib.Seq.{sets, sets-eq, length-sets, take-append-seam}
-use Rattle.octets.specs.Basics.{pick}
+use lib.ListN.{length, set, take, drop, length-set}
+use lib.Seq.{sets, sets-eq, take-append-seam}
 use Rattle.octets.specs.Pen.{Pen, pen, wroteOne, wrote, Wrote}
 use Rattle.octets.proofs.Cases.{cases}
 

@@ -1,12 +1,12 @@
 -- Positions in a list: what stands at one, and what lies behind it. A scanner at i has `drop i s` before it.
-use Prim.Native.Nat.{ℕ, zero, suc, _+_, _-_, _≤_, _<_}
-use mathlib.Core.Path.{_≡_, refl, sym, ap, _∙_}
+use Prim.Native.Nat.{ℕ, suc, _+_, _-_, _≤_, _<_}
+use mathlib.Core.Path.{_≡_, sym, ap, _∙_}
 use mathlib.Core.List.{List, [], _∷_, _++_}
 use native.Mathlib.Numerals.{add-one}
-use native.Mathlib.Nat.{add-zero, zero-add}
+use native.Mathlib.Nat.{add-zero}
 use native.Mathlib.Omega.{arith}
-use lib.ListN.{length, getD, take, drop, length-drop, length-take, length-append, drop-of-length-le, take-append-drop}
-use lib.Seq.{drop-cons, take-suc, take-all, take-length, drop-drop, take-add, getD-drop, getD-take}
+use lib.ListN.{length, getD, take, drop, length-drop, length-take, drop-of-length-le, take-append-drop}
+use lib.Seq.{drop-cons, take-suc, take-all, drop-drop, getD-drop}
 
 -- the element at i, and what lies behind
 pub here : (s : List ℕ) (i : ℕ) → i < length s → drop i s ≡ getD s i 0 ∷ drop (i + 1) s

@@ -1,11 +1,11 @@
 -- A transducer: a state, a step and what is put out for one octet. It keeps UTF-8 if it changes, drops and puts in ASCII octets only.
 use Prim.Native.Nat.{ℕ}
-use mathlib.Core.Path.{_≡_, refl, sym, ap, _∙_}
+use mathlib.Core.Path.{_≡_, refl, sym, _∙_}
 use mathlib.Core.Bool.{Bool, true, false}
 use mathlib.Core.List.{List, [], _∷_, _++_}
-use Rattle.octets.specs.Basics.{pick, _and_, all}
+use Rattle.octets.specs.Basics.{all}
 use Rattle.octets.specs.Classes.{plainOctet}
-use Rattle.octets.specs.Utf8.{Due, start, broken, due, dueAfter, isStart, utf8, clean}
+use Rattle.octets.specs.Utf8.{Due, start, due, dueAfter, isStart, utf8, clean}
 use Rattle.octets.proofs.Cases.{cases, both, and-true, all-append}
 use Rattle.octets.proofs.Utf8.{ascii, due-append, broken-stays, broken-start, start-is, utf8-start, start-utf8, due-ascii, ascii-utf8}
 

@@ -1,12 +1,12 @@
 -- Laws of UTF-8 and of clean lines: put together, cut at an ASCII octet, mapped, and bounded.
-use Prim.Native.Nat.{ℕ, zero, suc, _+_, _-_, _≤_, _<_}
+use Prim.Native.Nat.{ℕ, _+_, _-_, _≤_, _<_}
 use Prim.Native.Char.{code}
 use mathlib.Core.Path.{_≡_, refl, sym, ap, _∙_}
-use mathlib.Core.Bool.{Bool, true, false, not}
+use mathlib.Core.Bool.{Bool, true, false}
 use mathlib.Core.List.{List, [], _∷_, _++_, map}
 use native.Mathlib.Omega.{arith}
-use borrow.Author.Tests.{le-leb, lt-leb, leb-true, leb-false, eq-eqb, ne-eqb}
-use lib.Dec.{eqb, leb}
+use borrow.Author.Tests.{le-leb, lt-leb, leb-true, leb-false, ne-eqb}
+use lib.Dec.{leb}
 use Rattle.octets.specs.Basics.{pick, _and_, all}
 use Rattle.octets.specs.Pieces.{split, joined}
 use Rattle.octets.specs.Classes.{between, isUpper, isLower, isControl, plainOctet, upperOctet, lowerOctet, upper, lower}

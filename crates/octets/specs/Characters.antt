@@ -1,12 +1,12 @@
--- What the reader of one character promises; `utf8` and `clean` are what its callers promise.
+-- What the reader of one character promises; `utf8` is what its caller promises.
 use Prim.Native.Nat.{ℕ, _≤_, _<_}
 use mathlib.Core.Path.{_≡_}
 use mathlib.Core.Bool.{false}
 use mathlib.Core.List.{List}
 use lib.Dec.{ltb}
 use lib.ListN.{length, drop}
-use Rattle.octets.specs.Basics.{pick, _and_, all}
-use Rattle.octets.specs.Classes.{between, plainOctet}
+use Rattle.octets.specs.Basics.{pick, _and_}
+use Rattle.octets.specs.Classes.{between}
 use Rattle.octets.specs.Utf8.{Due, broken, due, dueAfter, isStart, utf8}
 
 -- in the state d an octet from lo to hi is due, and then `next`
@@ -20,4 +20,3 @@ pub record Ends (d : Due) (s : List ℕ) (i r : ℕ) : Type 0 where
   pub within : r ≤ length s
   pub onward : 0 < r → i < r
   pub told : isStart (dueAfter d (drop i s)) ≡ (ltb 0 r and utf8 (drop r s))
-  pub plain : 0 < r → all plainOctet (drop i s) ≡ all plainOctet (drop r s)

@@ -1,10 +1,10 @@
-// UTF-8, and lines without control characters.
+// UTF-8.
 ghost use mathlib.Core.Path.{_≡_};
-ghost use Prim.Native.Nat.{_<_, _≤_};
-ghost use lib.ListN.{length, getD};
+ghost use Prim.Native.Nat.{_<_};
+ghost use lib.ListN.{getD};
 ghost use Rattle.octets.specs.Basics.{all};
 ghost use Rattle.octets.specs.Classes.{between};
-ghost use Rattle.octets.specs.Utf8.{Due, start, one, two, utf8, clean};
+ghost use Rattle.octets.specs.Utf8.{Due, start, one, two, utf8};
 ghost use Rattle.octets.specs.Characters.{Awaits, Ends};
 use crate::names::both;
 use crate::names::peek;
@@ -106,39 +106,6 @@ fn has_characters(s: &[u8]) -> bool
     while i < s.len() {
         if s[i] <= 127 {
             i += 1;
-        } else {
-            i = character(s, i);
-            if i == 0 {
-                return false;
-            }
-        }
-    }
-    true
-}
-
-// UTF-8 without control characters but tab.
-pub fn is_clean(s: &[u8]) -> bool
-    ensures { λ r. ⌜ r ≡ clean (now (s .entry)) ⌝ }
-{
-    if all_within(s, 32, 126) {
-        return true;
-    }
-    has_clean_characters(s)
-}
-
-// UTF-8 without control characters but tab, a character at a time.
-fn has_clean_characters(s: &[u8]) -> bool
-    ensures { λ r. ⌜ r ≡ clean (now (s .entry)) ⌝ }
-{
-    let mut i = 0;
-    while i < s.len() {
-        let c = s[i];
-        if within(32, 126, c) {
-            i += 1;
-        } else if c == b'\t' {
-            i += 1;
-        } else if c <= 127 {
-            return false;
         } else {
             i = character(s, i);
             if i == 0 {

@@ -5,7 +5,6 @@ mod numbers;
 mod settling;
 mod writing;
 
-pub use encoding::is_clean;
 pub use encoding::is_utf8;
 pub use names::all_digits;
 pub use names::all_plain;
