@@ -7,7 +7,6 @@ use native.Mathlib.Decide.{decLe}
 use lib.ListN.{getD}
 use lib.Dec.{eqb, lit≤}
 use borrow.Author.Tests.{eqb-true, eqb-false}
-use Rattle.octets.specs.Basics.{pick}
 use Rattle.octets.specs.Limits.{lastYear}
 use Rattle.octets.proofs.Cases.{cases}
 use Rattle.octets.proofs.Limits.{last-year}

@@ -1,16 +1,14 @@
 -- The formula for a date's day number agrees with the sum over years and months. Years are counted from March there, 400 years early, so that
 -- a leap day is the last day of its year.
-use Prim.Native.Nat.{ℕ, zero, suc, _+_, _-_, _*_, _/_, _%_, _≤_, _<_}
-use mathlib.Core.Path.{_≡_, refl, ap}
-use mathlib.Core.Bool.{Bool, true, false}
-use mathlib.Core.List.{List, [], _∷_}
+use Prim.Native.Nat.{ℕ, zero, suc, _+_, _-_, _*_, _/_, _%_, _≤_}
+use mathlib.Core.Path.{_≡_, refl}
+use mathlib.Core.Bool.{true}
 use native.Mathlib.Omega.{arith}
 use native.Mathlib.Nat.{le-trans}
 use native.Mathlib.Decide.{decLe}
 use borrow.Author.Tests.{eqb-true, eqb-false, leb-true, le-leb}
 use lib.ListN.{getD, take}
 use lib.Dec.{eqb, leb}
-use Rattle.octets.specs.Basics.{pick, _and_}
 use Rattle.octets.specs.Classes.{between}
 use Rattle.octets.specs.Limits.{lastYear}
 use Rattle.octets.proofs.Cases.{cases, both, and-true}

@@ -1,12 +1,11 @@
 -- Moments moved on by hours: what the code's tests tell of the definition.
 use Prim.Native.Nat.{ℕ, _+_, _-_, _*_, _/_, _%_, _≤_, _<_}
-use mathlib.Core.Path.{_≡_, refl, sym, ap, _∙_}
+use mathlib.Core.Path.{_≡_, refl, sym, _∙_}
 use mathlib.Core.Bool.{Bool, true, false}
-use mathlib.Core.Option.{Option, none, some}
+use mathlib.Core.Option.{none, some}
 use native.Mathlib.Omega.{arith}
 use borrow.Author.Tests.{lt-ltb, le-ltb, leb-true}
 use lib.Dec.{ltb, leb}
-use Rattle.octets.specs.Basics.{pick, _and_}
 use Rattle.octets.specs.Optional.{when}
 use Rattle.octets.proofs.Cases.{both, and-false-right}
 use Rattle.calendar.specs.Gregorian.{isDay, dayNumber, dayCount, dateAt}

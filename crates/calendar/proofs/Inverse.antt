@@ -7,8 +7,7 @@ use native.Mathlib.Omega.{arith}
 use native.Mathlib.Nat.{add-zero, zero-add}
 use borrow.Author.Tests.{lt-ltb, le-ltb}
 use lib.ListN.{length, getD, take}
-use lib.Dec.{ltb, lit≤}
-use Rattle.octets.specs.Basics.{pick}
+use lib.Dec.{lit≤}
 use Rattle.octets.specs.Limits.{lastYear}
 use Rattle.octets.proofs.Limits.{last-year}
 use Rattle.calendar.specs.declared.dates.Date.{Date}

@@ -1,6 +1,6 @@
 -- What is read is written back: for each form, the extended text that is read has the extended form, its basic text is the one that was read, and
 -- both are printable ASCII without lowercase letters. The same for moments, durations and the ends of periods.
-use Prim.Native.Nat.{ℕ, suc, _≤_, _<_}
+use Prim.Native.Nat.{ℕ, suc}
 use Prim.Native.Char.{code}
 use mathlib.Core.Path.{_≡_, refl, sym, ap, _∙_}
 use mathlib.Core.Bool.{Bool, true, false, not, false≢true}
@@ -10,7 +10,7 @@ use native.Mathlib.Omega.{arith}
 use borrow.Author.Tests.{eqb-true}
 use lib.Dec.{eqb, leb}
 use lib.ListN.{length, getD}
-use Rattle.octets.specs.Basics.{pick, _and_, _or_, all}
+use Rattle.octets.specs.Basics.{_or_, all}
 use Rattle.octets.specs.Optional.{map?, or?, isSome, when, guard}
 use Rattle.octets.specs.Classes.{between, isDigit, isLower, upperOctet, upper}
 use Rattle.octets.specs.Decimal.{isSign, minus}

@@ -1,20 +1,19 @@
 -- Moments that are read, and those that they are moved to, can be named.
 use Prim.Native.Nat.{ℕ, _+_, _*_, _/_, _%_, _≤_, _<_}
-use mathlib.Core.Path.{_≡_, refl, sym, ap, _∙_}
-use mathlib.Core.Bool.{Bool, true, false}
-use mathlib.Core.List.{List, []}
+use mathlib.Core.Path.{_≡_, refl}
+use mathlib.Core.Bool.{true}
+use mathlib.Core.List.{List}
 use mathlib.Core.Option.{Option, none, some}
 use native.Mathlib.Omega.{arith}
 use borrow.Author.Tests.{ltb-true, le-leb}
 use lib.Dec.{ltb, leb}
-use lib.ListN.{length, drop, take}
-use Rattle.octets.specs.Basics.{_and_}
-use Rattle.octets.specs.Optional.{map?, or?, when, guard}
+use lib.ListN.{length}
+use Rattle.octets.specs.Optional.{map?}
 use Rattle.octets.specs.Classes.{upper}
 use Rattle.octets.specs.Decimal.{valueFrom, valueOf}
 use Rattle.octets.proofs.Cases.{both, and-true}
 use Rattle.octets.proofs.Positions.{ended}
-use Rattle.calendar.specs.Gregorian.{isDay, dayCount, dateAt}
+use Rattle.calendar.specs.Gregorian.{isDay, dayCount}
 use Rattle.calendar.specs.Forms.{numberAt, dateForm}
 use Rattle.calendar.specs.Dates.{dayIn, isClock, clockIn, momentIn, dateOf, dateTimeOf, momentOf}
 use Rattle.calendar.specs.Moments.{momentFrom, readMoment, isMoment, hourNumber, atHour, moved}

@@ -1,24 +1,22 @@
 -- Reading and writing by the places of a form: the places as octets, the state of the loop that reads, and of the one that writes the basic text.
-use Prim.Native.Nat.{ℕ, zero, suc, _+_, _-_, _≤_, _<_}
+use Prim.Native.Nat.{ℕ, _+_, _-_, _≤_, _<_}
 use Prim.Native.Char.{code}
 use mathlib.Core.Path.{_≡_, refl, sym, ap, _∙_}
-use mathlib.Core.Bool.{Bool, true, false, not}
+use mathlib.Core.Bool.{Bool, true, false}
 use mathlib.Core.List.{List, [], _∷_, _++_, append-assoc, append-nil, map}
 use mathlib.Core.Option.{Option, none, some}
 use native.Mathlib.Omega.{arith}
 use native.Mathlib.Numerals.{add-one}
-use borrow.Author.Tests.{eqb-true, ne-eqb}
 use lib.Dec.{eqb}
 use lib.ListN.{length, getD, take, drop, set, length-set}
 use lib.Seq.{take-suc-set}
-use Rattle.octets.specs.Basics.{pick, _and_, _or_}
+use Rattle.octets.specs.Basics.{_and_}
 use Rattle.octets.specs.Optional.{map?, when}
 use Rattle.octets.specs.Classes.{upperOctet, upper}
-use Rattle.octets.proofs.Cases.{cases, same?, both, itself}
+use Rattle.octets.proofs.Cases.{cases, same?}
 use Rattle.octets.proofs.Positions.{here, ended}
 use Rattle.calendar.specs.Forms.{Slot, digit, sign, letter, added, takes, fits, kept, extended, keeps, basic}
-use Rattle.calendar.specs.Texts.{isAdded, placeAt, slotAt, slots, textSaid}
-use Rattle.calendar.specs.declared.texts.Text.{Text}
+use Rattle.calendar.specs.Texts.{isAdded, placeAt, slotAt, slots}
 
 -- a place is a digit, a sign or a letter
 place-cases {ℓ} : (P : Slot → Type ℓ) (c : ℕ) → P digit → P sign → P (letter c) → P (placeAt c)

@@ -1,10 +1,9 @@
 -- 01's cases of dates, offsets and durations, and some days of the calendar, computed from the definitions.
-use Prim.Native.Nat.{ℕ}
 use mathlib.Core.Path.{_≡_, refl}
-use mathlib.Core.Bool.{true, false}
-use mathlib.Core.Option.{Option, none, some}
-use Rattle.octets.specs.Basics.{octets, all}
-use Rattle.octets.specs.Optional.{map?, or?, when, guard}
+use mathlib.Core.Bool.{true}
+use mathlib.Core.Option.{none, some}
+use Rattle.octets.specs.Basics.{octets}
+use Rattle.octets.specs.Optional.{map?, when, guard}
 use Rattle.octets.specs.Classes.{between, isDigit, isLower, upperOctet, upper}
 use Rattle.octets.specs.Decimal.{valueFrom, valueOf, isSign, minus}
 use Rattle.octets.specs.Limits.{lastYear}
@@ -12,7 +11,6 @@ use Rattle.calendar.specs.Gregorian.{leapDay, months, monthDays, yearDay
 use Rattle.calendar.specs.Forms.{kept, takes, fits, extended, dateForm, clockForm, utc, timeForm, dateTimeForm, offsetForm, numberAt}
 use Rattle.calendar.specs.Dates.{dayIn, isClock, clockIn, dateOf, dateIs, timeOf, momentIn, dateTimeOf, offsetIn, offsetOf}
 use Rattle.calendar.specs.Durations.{span, spanAfter, mayEnd, durationIs, durationOf}
-use Rattle.calendar.specs.Answers.{dayNumberSaid}
 
 -- dates 20240229 and 20000229 stand, 20230229 and 21000229 do not
 pub leap-days :

@@ -1,7 +1,6 @@
 -- Dates, times, date-times and UTC offsets (01, Values; RFC 5545 3.3.4, 3.3.5, 3.3.12, 3.3.14). All texts are in uppercase here.
 -- `xOf` reads the iCalendar text into jCal's; `xIs` tests a jCal text, and `xText` writes it for iCalendar. Numbers are tested in jCal's form, for both.
 use Prim.Native.Nat.{ℕ, _+_}
-use Prim.Native.Char.{code}
 use mathlib.Core.Bool.{Bool, not}
 use mathlib.Core.List.{List}
 use mathlib.Core.Option.{Option}

@@ -3,15 +3,14 @@ use Prim.Native.Nat.{ℕ, _+_, _*_, _/_, _%_}
 use mathlib.Core.Bool.{Bool, true, false}
 use mathlib.Core.List.{List}
 use mathlib.Core.Option.{Option}
-use lib.Dec.{eqb, ltb, leb}
+use lib.Dec.{ltb, leb}
 use lib.ListN.{length}
-use Rattle.octets.specs.Basics.{pick, _and_, _or_}
+use Rattle.octets.specs.Basics.{pick, _and_}
 use Rattle.octets.specs.Optional.{map?, when}
 use Rattle.octets.specs.Classes.{upper}
 use Rattle.calendar.specs.Gregorian.{isDay, dateOn, dayNumber, dayCount, dateAt}
 use Rattle.calendar.specs.Forms.{numberAt}
 use Rattle.calendar.specs.Dates.{momentOf, isClock}
-use Rattle.calendar.specs.declared.dates.Date.{Date}
 use Rattle.calendar.specs.declared.moments.Kind.{Kind}
 use Rattle.calendar.specs.declared.moments.Kind.the-variants.{Day, Local, Utc}
 use Rattle.calendar.specs.declared.moments.Moment.{Moment}

@@ -1,6 +1,5 @@
 // Moments: a date, a local date-time or one in UTC.
 ghost use mathlib.Core.Path.{_≡_};
-ghost use lib.ListN.{length};
 ghost use Rattle.calendar.specs.Moments.{kindOf, momentFrom, readMoment};
 ghost use Rattle.calendar.specs.Answers.{momentSaid, movedSaid, movedOn};
 use crate::dates::DAY_COUNT;

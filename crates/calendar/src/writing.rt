@@ -1,5 +1,4 @@
 // A recurrence rule as it is written: its parts in the order received, in uppercase, numbers without plus and leading zeros.
-ghost use mathlib.Core.Path.{_≡_};
 ghost use Prim.Native.Nat.{_≤_};
 ghost use lib.ListN.{length};
 ghost use Rattle.octets.specs.Pen.{pen, Wrote};

@@ -1,12 +1,11 @@
 -- Lines in a buffer by their places: the line at a place, and the lines behind it; lines without LF, laid out, are found again.
 use Prim.Native.Nat.{ℕ, suc, _+_, _-_, _≤_, _<_}
 use Prim.Native.Char.{code}
-use mathlib.Core.Path.{_≡_, refl, sym, ap, _∙_}
+use mathlib.Core.Path.{_≡_, refl, ap, _∙_}
 use mathlib.Core.Bool.{Bool, true, false}
 use mathlib.Core.List.{List, [], _∷_, _++_}
 use native.Mathlib.Omega.{arith}
 use lib.ListN.{length, take, drop, length-drop}
-use lib.Seq.{drop-drop}
 use Rattle.octets.specs.Basics.{pick, all}
 use Rattle.octets.specs.Pieces.{onto, cut}
 use Rattle.octets.proofs.Cases.{All}

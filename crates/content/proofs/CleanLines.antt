@@ -2,11 +2,9 @@
 use Prim.Native.Nat.{ℕ}
 use Prim.Native.Char.{code}
 use mathlib.Core.Path.{_≡_, refl, sym, ap, _∙_}
-use mathlib.Core.Bool.{Bool, true, false}
+use mathlib.Core.Bool.{Bool, true}
 use mathlib.Core.List.{List, [], _∷_}
-use borrow.Author.Tests.{eqb-true}
-use lib.Dec.{eqb}
-use Rattle.octets.specs.Basics.{_and_, _or_, all}
+use Rattle.octets.specs.Basics.{_and_, all}
 use Rattle.octets.specs.Pieces.{onto, cut}
 use Rattle.octets.specs.Classes.{isControl, plainOctet, textOctet}
 use Rattle.octets.specs.Utf8.{Due, start, due, dueAfter, isStart, utf8, clean}

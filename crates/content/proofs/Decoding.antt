@@ -1,16 +1,16 @@
 -- Decoding a parameter value into a JSON string: runs that stay as they are, and the octets between them.
-use Prim.Native.Nat.{ℕ, zero, suc, _+_, _-_, _≤_, _<_}
+use Prim.Native.Nat.{ℕ, _+_, _-_, _≤_, _<_}
 use Prim.Native.Char.{code}
 use mathlib.Core.Path.{_≡_, refl, sym, ap, _∙_}
-use mathlib.Core.Bool.{Bool, true, false, not}
+use mathlib.Core.Bool.{Bool, true, false}
 use mathlib.Core.List.{List, [], _∷_, _++_, append-assoc}
 use native.Mathlib.Omega.{arith}
 use borrow.Author.Tests.{eqb-true}
 use lib.Dec.{eqb}
 use lib.ListN.{length, getD, take, drop}
 use lib.Seq.{drop-drop}
-use Rattle.octets.specs.Basics.{octets, pick, _and_, _or_}
-use Rattle.octets.proofs.Cases.{cases, same?, never, neither, All}
+use Rattle.octets.specs.Basics.{octets, pick}
+use Rattle.octets.proofs.Cases.{same?, neither, All}
 use Rattle.octets.proofs.Positions.{here, ended, first-of, part-rest}
 use Rattle.json.specs.Print.{escaped, quoted}
 use Rattle.content.specs.Carets.{decodedOctet, caretAfter, decodedFrom, decoded}

@@ -1,14 +1,14 @@
 -- The form of a content line by spans: what each step of the walk passes.
-use Prim.Native.Nat.{ℕ, zero, suc, _+_, _-_, _≤_, _<_}
+use Prim.Native.Nat.{ℕ, _+_, _-_, _≤_, _<_}
 use Prim.Native.Char.{code}
 use mathlib.Core.Path.{_≡_, refl, sym, ap, _∙_}
 use mathlib.Core.Bool.{Bool, true, false, not}
 use mathlib.Core.List.{List, [], _∷_, _++_}
 use native.Mathlib.Omega.{arith}
-use borrow.Author.Tests.{eq-eqb, ne-eqb, eqb-true, ltb-true, ltb-false}
+use borrow.Author.Tests.{ne-eqb, ltb-true, ltb-false}
 use lib.Dec.{eqb, ltb}
-use lib.ListN.{length, getD, take, drop, length-drop}
-use Rattle.octets.specs.Basics.{pick, _and_, _or_, all}
+use lib.ListN.{length, getD, drop}
+use Rattle.octets.specs.Basics.{pick, _or_}
 use Rattle.octets.specs.Classes.{nameOctet}
 use Rattle.octets.proofs.Cases.{cases, All, never, neither}
 use Rattle.octets.proofs.Positions.{here, ended, past-end}

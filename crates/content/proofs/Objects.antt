@@ -1,21 +1,19 @@
 -- The parameters printed as an object: strings, arrays of them, keys, members.
-use Prim.Native.Nat.{ℕ, suc, _+_, _-_, _≤_, _<_}
+use Prim.Native.Nat.{ℕ, _+_, _-_, _≤_, _<_}
 use Prim.Native.Char.{code}
 use mathlib.Core.Path.{_≡_, refl, sym, ap, _∙_}
 use mathlib.Core.Bool.{Bool, true, false}
 use mathlib.Core.List.{List, [], _∷_, _++_, map, append-assoc}
-use native.Mathlib.Omega.{arith}
 use lib.ListN.{length, getD, take, drop}
 use lib.Seq.{take-all}
 use Rattle.octets.specs.Basics.{octets, pick}
 use Rattle.octets.specs.Classes.{between, isUpper, lowerOctet, lower, sameName}
 use Rattle.octets.specs.Pen.{Pen, Wrote}
-use Rattle.octets.proofs.Cases.{cases}
 use Rattle.octets.proofs.Pen.{then}
 use Rattle.octets.proofs.Positions.{here, ended, from, upto}
-use Rattle.json.specs.Tree.{Json, str, arr, obj, Items, item, noItems, itemsOf, Members, member, noMembers}
+use Rattle.json.specs.Tree.{str, obj, itemsOf}
 use Rattle.json.specs.Print.{escaped, quoted, printString, printKey, print, firstItem, moreItems, firstMember, moreMembers}
-use Rattle.content.specs.Line.{Param, unquote, paramValue, pieces}
+use Rattle.content.specs.Line.{Param, paramValue, pieces}
 use Rattle.content.specs.Carets.{decoded}
 use Rattle.content.specs.Scan.{untilBare}
 use Rattle.content.specs.Parts.{paramsIn, paramAt, CutParam, Inner}

@@ -10,8 +10,7 @@ use Rattle.octets.specs.Pieces.{joined}
 use Rattle.octets.specs.Classes.{between, isDigit, isUpper, isLower, isLetter, nameOctet, isName, upper}
 use Rattle.octets.proofs.Cases.{both, apart, or-false}
 use Rattle.content.specs.Carets.{encodedOctet, encoded}
-use Rattle.content.specs.Line.{Param}
-use Rattle.content.specs.Write.{asksQuotes, quotedIf, paramValueText, paramText, paramsText}
+use Rattle.content.specs.Write.{asksQuotes, quotedIf, paramValueText, paramText}
 
 -- the values behind the first one, each behind its comma
 unfoldable pub moreValues : List (List ℕ) → List ℕ
@@ -27,11 +26,6 @@ joined-values v (w ∷ vs) = ap (λ l. paramValueText v ++ code "," ∷ l) (join
 pub param-text : (n v : List ℕ) (vs : List (List ℕ)) → paramText (record { name = n; values = v ∷ vs }) ≡ (octets ";" ++ upper n ++ octets "=") ++ (paramValueText v ++ moreValues vs)
 unfolding paramText
 param-text n v vs = rw (joined-values v vs) (sym (append-assoc (code ";" ∷ upper n) (octets "=") (paramValueText v ++ moreValues vs)))
-
-pub params-append : (ps qs : List Param) → paramsText (ps ++ qs) ≡ paramsText ps ++ paramsText qs
-unfolding paramsText
-params-append [] qs = refl
-params-append (p ∷ ps) qs = rw (params-append ps qs, append-assoc)
 
 -- a name is written as it is
 name-octet : (c : ℕ) → nameOctet c ≡ true → (encodedOctet c ≡ c ∷ []) × (asksQuotes c ≡ false)

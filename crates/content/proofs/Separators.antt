@@ -1,5 +1,5 @@
 -- Bare separators by places: the parts of a content line, the parameters in it, the values of a parameter.
-use Prim.Native.Nat.{ℕ, zero, suc, _+_, _-_, _≤_, _<_}
+use Prim.Native.Nat.{ℕ, suc, _+_, _-_, _≤_, _<_}
 use Prim.Native.Char.{code}
 use mathlib.Core.Path.{_≡_, refl, sym, ap, _∙_}
 use mathlib.Core.Bool.{Bool, true, false, not}
@@ -7,13 +7,13 @@ use mathlib.Core.List.{List, [], _∷_, _++_, map}
 use native.Mathlib.Omega.{arith}
 use borrow.Author.Tests.{eqb-true, eq-eqb}
 use lib.Dec.{eqb}
-use lib.ListN.{length, getD, take, drop, length-drop, length-append}
+use lib.ListN.{length, getD, take, drop, length-append}
 use lib.Seq.{drop-drop}
 use Rattle.octets.specs.Basics.{pick, _and_, _or_}
 use Rattle.octets.specs.Pieces.{onto, cut}
-use Rattle.octets.proofs.Cases.{cases, never, both, either, neither}
+use Rattle.octets.proofs.Cases.{cases, never, either, neither}
 use Rattle.octets.proofs.Positions.{here, ended, upto, part-length}
-use Rattle.content.specs.Line.{Line, Param, quoteAfter, bare, before, behind, pieces, headed, paramOf, lineOf}
+use Rattle.content.specs.Line.{Line, quoteAfter, bare, before, behind, pieces, headed, paramOf, lineOf}
 use Rattle.content.specs.Scan.{untilBare}
 use Rattle.content.specs.Parts.{others, paramsIn, lineAt, Cut, paramAt, CutParam}
 use Rattle.content.specs.declared.parts.Parts.{Parts}

@@ -1,10 +1,10 @@
 -- What VALUE and ENCODING say, by places.
-use Prim.Native.Nat.{ℕ, suc, _+_, _-_, _≤_, _<_}
+use Prim.Native.Nat.{ℕ, _+_, _-_, _≤_, _<_}
 use Prim.Native.Char.{code}
-use mathlib.Core.Path.{_≡_, refl, sym, ap, _∙_}
-use mathlib.Core.Bool.{Bool, true, false, not}
+use mathlib.Core.Path.{_≡_, refl, sym, _∙_}
+use mathlib.Core.Bool.{true, false, not}
 use mathlib.Core.List.{List, [], _∷_, map}
-use mathlib.Core.Option.{Option, none, some}
+use mathlib.Core.Option.{Option, some}
 use native.Mathlib.Omega.{arith}
 use borrow.Author.Tests.{eqb-true, leb-true, leb-false}
 use lib.Dec.{eqb, leb}
@@ -16,7 +16,7 @@ use Rattle.octets.specs.Classes.{between, isDigit, isUpper, isLower, isLetter, 
 use Rattle.octets.specs.Answers.{Answer, refused, accepted}
 use Rattle.octets.proofs.Cases.{cases, never}
 use Rattle.octets.proofs.Positions.{here, ended, upto}
-use Rattle.content.specs.Line.{Param, quoteAfter, bare, before, pieces, unquote, paramValue}
+use Rattle.content.specs.Line.{quoteAfter, bare, before, pieces, paramValue}
 use Rattle.content.specs.Carets.{decoded}
 use Rattle.content.specs.Scan.{untilBare}
 use Rattle.content.specs.Parts.{others, paramsIn, paramAt, CutParam, Inner}

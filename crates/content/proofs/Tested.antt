@@ -1,16 +1,16 @@
 -- The lines of a text in a buffer, and what the tests of all of them answer.
-use Prim.Native.Nat.{ℕ, _+_, _-_, _≤_, _<_}
-use mathlib.Core.Path.{_≡_, refl, sym, ap, _∙_}
-use mathlib.Core.Bool.{Bool, true, false}
+use Prim.Native.Nat.{ℕ, _-_, _≤_, _<_}
+use mathlib.Core.Path.{_≡_, ap, _∙_}
+use mathlib.Core.Bool.{true, false}
 use mathlib.Core.List.{List}
 use native.Mathlib.Omega.{arith}
-use borrow.Author.Tests.{le-leb, lt-leb, leb-true, leb-false}
+use borrow.Author.Tests.{leb-true, leb-false}
 use lib.Dec.{leb}
 use lib.ListN.{length, take, drop}
-use Rattle.octets.specs.Basics.{pick, all}
+use Rattle.octets.specs.Basics.{all}
 use Rattle.octets.specs.Utf8.{clean}
 use Rattle.octets.specs.Pen.{Pen, pen, wrote, Wrote}
-use Rattle.octets.specs.Answers.{Answer, refused, accepted, unless}
+use Rattle.octets.specs.Answers.{unless}
 use Rattle.octets.proofs.Cases.{cases}
 use Rattle.octets.proofs.Pen.{kept, landed, full}
 use Rattle.octets.proofs.Positions.{upto}

@@ -2,19 +2,19 @@
 use Prim.Native.Nat.{ℕ, suc, _+_, _-_, _≤_, _<_}
 use Prim.Native.Char.{code}
 use mathlib.Core.Path.{_≡_, refl, sym, ap, _∙_}
-use mathlib.Core.Bool.{Bool, true, false, not}
+use mathlib.Core.Bool.{Bool, true, false}
 use mathlib.Core.List.{List, [], _∷_, _++_, map}
 use native.Mathlib.Omega.{arith}
 use borrow.Author.Tests.{ne-eqb}
 use lib.Dec.{eqb}
-use lib.ListN.{length, getD, take, drop, length-drop, length-take}
+use lib.ListN.{length, getD, take, drop}
 use lib.Seq.{take-take}
-use Rattle.octets.specs.Basics.{octets, pick, _and_, _or_, all, same, filled}
-use Rattle.octets.specs.Classes.{between, isDigit, isUpper, isLower, isLetter, nameOctet, isName, upper, upperOctet, sameName}
+use Rattle.octets.specs.Basics.{octets, pick, all, same, filled}
+use Rattle.octets.specs.Classes.{between, isDigit, isUpper, isLower, isLetter, nameOctet, isName, upper, upperOctet}
 use Rattle.octets.proofs.Cases.{cases, never, same?, apart, both, and-true, and-false-right, or-first, or-second}
 use Rattle.octets.proofs.Classes.{same-is}
 use Rattle.octets.proofs.Positions.{here, part-length}
-use Rattle.content.specs.Line.{front, unquote, paramValue, pieces, before}
+use Rattle.content.specs.Line.{front, unquote}
 use Rattle.content.specs.Carets.{decodedOctet, caretAfter, decodedFrom, decoded}
 use Rattle.content.specs.Parts.{Inner}
 use Rattle.content.proofs.Forming.{beyond}

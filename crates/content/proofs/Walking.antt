@@ -1,5 +1,5 @@
 -- A walk over the parameters of a line: each stands behind a semicolon.
-use Prim.Native.Nat.{ℕ, suc, _+_, _-_, _≤_, _<_}
+use Prim.Native.Nat.{ℕ, _+_, _-_, _≤_, _<_}
 use Prim.Native.Char.{code}
 use mathlib.Core.Path.{_≡_, refl, sym, ap, _∙_}
 use mathlib.Core.Bool.{Bool, true, false}
@@ -8,18 +8,18 @@ use native.Mathlib.Omega.{arith}
 use borrow.Author.Tests.{eqb-true}
 use lib.Dec.{eqb}
 use lib.ListN.{length, getD, take, drop}
-use Rattle.octets.specs.Basics.{pick, _or_, any, same, among, twice}
+use Rattle.octets.specs.Basics.{_or_, any, same, among, twice}
 use Rattle.octets.specs.Pieces.{cut}
 use Rattle.octets.specs.Classes.{isUpper, isLower, upperOctet, lowerOctet, upper, lower, sameName}
 use Rattle.octets.proofs.Cases.{cases, alike, or-second, or-false-right}
 use Rattle.octets.proofs.Classes.{between-true, within-between, above-between, below-between, same-is, same-itself}
 use Rattle.octets.proofs.Positions.{here, ended}
-use Rattle.content.specs.Line.{Param, quoteAfter, bare, pieces, paramOf}
+use Rattle.content.specs.Line.{quoteAfter, bare, pieces, paramOf}
 use Rattle.content.specs.Scan.{untilBare}
 use Rattle.content.specs.Parts.{others, nameOf, paramsIn, paramAt, CutParam}
 use Rattle.content.specs.Parameters.{nameTwice}
 use Rattle.content.specs.declared.parts.ParamParts.{ParamParts}
-use Rattle.content.proofs.Scanning.{bare-high, bare-rest, bare-stop}
+use Rattle.content.proofs.Scanning.{bare-rest, bare-stop}
 use Rattle.content.proofs.Separators.{oneOf, twice-one, before-is, pieces-first}
 
 -- Names compare alike in either case.

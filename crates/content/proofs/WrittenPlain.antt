@@ -18,7 +18,7 @@ use Rattle.content.specs.Lines.{linesFrom, linesOf}
 use Rattle.content.specs.Fold.{textOf}
 use Rattle.content.specs.Write.{lineText}
 use Rattle.content.proofs.Encoded.{encoded-plain}
-use Rattle.content.proofs.WrittenOctets.{printable, name-printable, joined-has, Has, line-has}
+use Rattle.content.proofs.WrittenOctets.{printable, name-printable, joined-has, line-has}
 use Rattle.content.proofs.Unfolded.{Upright, lines-back}
 
 abbrev pub Plain : List ℕ → Type 0

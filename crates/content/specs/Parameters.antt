@@ -1,6 +1,6 @@
 -- What parameters say: VALUE, ENCODING, and a name twice (01, numbers 7 and 8, Parameters, Which type); and their jCal object (RFC 7265 3.5).
 use Prim.Native.Nat.{ℕ}
-use mathlib.Core.Bool.{Bool, true, false, not}
+use mathlib.Core.Bool.{Bool, false, not}
 use mathlib.Core.List.{List, [], _∷_, map}
 use mathlib.Core.Option.{Option, none, some}
 use Rattle.octets.specs.Basics.{octets, pick, _and_, all, any, same, twice}

@@ -38,11 +38,6 @@ module _ {A B : Type 0} (R : A → B → Type 0) where
 abbrev pub Steps : {A B : Type 0} → (A → B → Type 0) → List (Event A) → List (Event B) → Type 0
 Steps R es fs = Pairwise (Step R) es fs
 
-pub step-weaker : {A B : Type 0} {R S : A → B → Type 0} {e : Event A} {f : Event B} → ((a : A) (b : B) → R a b → S a b) → Step R e f → Step S e f
-step-weaker g (both-begin n) = both-begin n
-step-weaker g both-end = both-end
-step-weaker g (both-hold r) = both-hold (g _ _ r)
-
 -- events in step nest alike
 step-nest : {A B : Type 0} {R : A → B → Type 0} {e : Event A} {f : Event B} (s : Nest) → Step R e f → nest s e ≡ nest s f
 unfolding nest

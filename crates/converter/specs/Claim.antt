@@ -7,7 +7,7 @@ use mathlib.Core.Option.{Option, none, some}
 use lib.ListN.{length, drop}
 use Rattle.octets.specs.Basics.{octets}
 use Rattle.octets.specs.Limits.{mostText}
-use Rattle.octets.specs.Answers.{Answer, accepted, then, Settled, settled, answer}
+use Rattle.octets.specs.Answers.{Answer, accepted, then, settled, answer}
 use Rattle.types.specs.Table.{Row, Table, find}
 use Rattle.types.specs.Rows.{tableOf, Keeps}
 use Rattle.json.specs.Tree.{str}

@@ -1,5 +1,5 @@
 -- A component as jCal (RFC 7265 3.2 to 3.5; 01, Lines and Parameters).
-use mathlib.Core.List.{List, [], _∷_, map}
+use mathlib.Core.List.{map}
 use Rattle.json.specs.Tree.{Json, str, arr, obj, Items, noItems, item, itemsOf}
 use Rattle.content.specs.Parameters.{membersOf}
 use Rattle.converter.specs.Tree.{Property, Component, component, Forest, leaf, grow}

@@ -1,13 +1,13 @@
 -- A property of a content line (01, numbers 7, 8, 9, Parameters and Which type).
 use Prim.Native.Nat.{ℕ}
-use mathlib.Core.Bool.{Bool, true, false, not}
+use mathlib.Core.Bool.{Bool, true, not}
 use mathlib.Core.List.{List}
 use mathlib.Core.Option.{Option, none, some}
 use lib.Dec.{eqb}
 use Rattle.octets.specs.Basics.{octets, pick}
 use Rattle.octets.specs.Optional.{map?}
 use Rattle.octets.specs.Classes.{lower}
-use Rattle.octets.specs.Answers.{Answer, refused, accepted, then, orElse, unless}
+use Rattle.octets.specs.Answers.{Answer, then, orElse, unless}
 use Rattle.types.specs.Codes.{unprocessed, binary, typeName, codeNamed}
 use Rattle.types.specs.Table.{Row, Table, find}
 use Rattle.content.specs.Line.{Param, Line}

@@ -6,8 +6,8 @@ use mathlib.Core.Option.{Option, none, some}
 use lib.Dec.{eqb}
 use Rattle.octets.specs.Basics.{octets, pick, _or_, all, same}
 use Rattle.octets.specs.Classes.{upper}
-use Rattle.octets.specs.Answers.{Answer, refused, accepted, then, unless}
-use Rattle.types.specs.Codes.{unprocessed, codeNamed}
+use Rattle.octets.specs.Answers.{Answer, accepted, unless}
+use Rattle.types.specs.Codes.{codeNamed}
 use Rattle.types.specs.Table.{Row}
 use Rattle.json.specs.Tree.{Json, octetsOf}
 use Rattle.content.specs.Line.{Param}

@@ -2,14 +2,13 @@
 use Prim.Native.Nat.{ℕ, zero, suc}
 use mathlib.Core.Bool.{Bool, true, false, not}
 use mathlib.Core.List.{List, [], _∷_, map}
-use mathlib.Core.Option.{Option}
 use lib.Dec.{eqb, leb}
 use lib.ListN.{length, drop}
 use Rattle.octets.specs.Basics.{octets, _and_, _or_, all, filled, same}
 use Rattle.octets.specs.Optional.{isSome, holds, given}
 use Rattle.octets.specs.Classes.{isLowerName}
 use Rattle.octets.specs.Limits.{mostLevels, mostOpen}
-use Rattle.octets.specs.Answers.{Answer, refused, accepted, unless}
+use Rattle.octets.specs.Answers.{Answer, accepted, unless}
 use Rattle.json.specs.Tree.{Json, Members, noMembers, member, string?, array?, object?, listOf, octetsOf, elements, element, members}
 use Rattle.tape.specs.Sound.{sound}
 use Rattle.content.specs.Line.{Param}

@@ -6,7 +6,7 @@ use lib.ListN.{length}
 use Rattle.octets.specs.Basics.{all}
 use Rattle.octets.specs.Utf8.{clean}
 use Rattle.octets.specs.Limits.{mostText}
-use Rattle.octets.specs.Answers.{Answer, refused, accepted, then, unless}
+use Rattle.octets.specs.Answers.{Answer, accepted, then, unless}
 use Rattle.types.specs.Table.{Table}
 use Rattle.types.specs.Rows.{tableOf}
 use Rattle.json.specs.Print.{print}

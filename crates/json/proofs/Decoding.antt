@@ -1,29 +1,28 @@
 -- What is read out of a UTF-8 text: strings that are UTF-8 up to lone surrogates, numbers that are JSON numbers, nothing that holds 255.
 use Prim.Native.Nat.{ℕ, zero, suc, _+_, _-_, _*_, _≤_, _<_}
-use Prim.Native.Char.{code}
 use mathlib.Core.Path.{_≡_, refl, sym, ap, _∙_}
-use mathlib.Core.Bool.{Bool, true, false}
+use mathlib.Core.Bool.{true, false}
 use mathlib.Core.List.{List, [], _∷_, _++_}
 use native.Mathlib.Omega.{arith}
-use borrow.Author.Tests.{le-leb, lt-leb, leb-true, leb-false, eqb-true, eqb-false, ltb-true, ne-eqb}
+use borrow.Author.Tests.{le-leb, leb-false, eqb-true, eqb-false, ltb-true, ne-eqb}
 use lib.Dec.{eqb, leb, ltb}
 use lib.ListN.{length, take, drop, length-append}
 use lib.Seq.{take-append-seam, take-length}
-use Rattle.octets.specs.Basics.{octets, pick, _and_, _or_, all}
+use Rattle.octets.specs.Basics.{octets, all}
 use Rattle.octets.specs.Classes.{between, isDigit, hexDigit}
 use Rattle.octets.specs.Limits.{mostOpen}
-use Rattle.octets.specs.Utf8.{Due, start, broken, lead, due, dueAfter, isStart, utf8}
-use Rattle.octets.proofs.Cases.{cases, same?, never, both, either, and-true, apart, All}
+use Rattle.octets.specs.Utf8.{Due, start, lead, due, dueAfter, isStart, utf8}
+use Rattle.octets.proofs.Cases.{cases, never, both, either, and-true, All}
 use Rattle.octets.proofs.Classes.{between-true, above-between}
 use Rattle.octets.proofs.Utf8.{ascii, ascii-low, ascii-high, broken-stays, start-is, due-ascii, utf8-ascii, utf8-append, ascii-utf8}
 use Rattle.json.specs.Tree.{Json, null, falsity, truth, num, str, arr, obj, Items, noItems, item, Members, noMembers, member, itemsOf}
-use Rattle.json.specs.Reads.{Out, ok, deep, bad, fmap, then, isSpace, skip, word}
+use Rattle.json.specs.Reads.{Out, ok, deep, fmap, then, isSpace, skip, word}
 use Rattle.json.specs.Numbers.{Place, start as startPlace, isExponent, advance, isBeyond, mayEnd, scan, number}
-use Rattle.json.specs.Strings.{escapeOf, digit, hex4, utf8Of, lowOf, low, partner, unit, unicode, escape, piece, pieces, string}
+use Rattle.json.specs.Strings.{escapeOf, digit, hex4, lowOf, low, partner, unit, unicode, escape, piece, pieces, string}
 use Rattle.json.specs.Reader.{Kind, bracket, brace, quote, numeral, nullWord, falseWord, trueWord, other, kindOf, Mark, comma, close, odd, markOf, colon, key, Pair, pair, membersOf, afterElement, onMark, elements, elementsFrom, group, valueOf, valueWith, value, ended, parseText}
 use Rattle.json.proofs.Outs.{Gives, gives-then, gives-map, gives-weaker, given, by}
 use Rattle.json.proofs.StringLaws.{Hex, hex-is, hex-not, hex4-view, paired}
-use Rattle.json.proofs.Printing.{Alien, numberOctet, alien, advance-stop}
+use Rattle.json.proofs.Printing.{numberOctet, alien, advance-stop}
 use Rattle.json.proofs.Surrogates.{isED, looseDue, looseAfter, loose, loose-append, loose-due, loose-clean, loose-char}
 use Rattle.json.proofs.Fine.{Clean, clean-end, clean, Fine, f-null, f-false, f-true, f-num, f-str, f-arr, f-obj, FineItems, f-none, f-item, FineMembers, f-empty, f-member}
 
@@ -61,10 +60,6 @@ passed : (c : ℕ) (s : List ℕ) → ascii c ≡ true → utf8 (c ∷ s) ≡ tr
 passed c s a h = sym (utf8-ascii c s a) ∙ h
 
 -- an octet of a class that holds ASCII alone
-class-ascii : (f : ℕ → Bool) (c : ℕ) → ((k : ℕ) → 127 < k → f k ≡ false) → f c ≡ true → ascii c ≡ true
-unfolding ascii
-class-ascii f c n h = cases (leb c 127) (λ e. e) (λ e. never h (n c (leb-false c 127 e)))
-
 is-ascii : (c k : ℕ) → eqb c k ≡ true → ascii k ≡ true → ascii c ≡ true
 is-ascii c k e a = rw (eqb-true c k e) a
 

@@ -1,8 +1,6 @@
 -- The elements of an array or an object, read at a place of the text, and the loop over them.
 use Prim.Native.Nat.{ℕ, zero, suc, _+_, _-_, _≤_, _<_}
-use Prim.Native.Char.{code}
-use mathlib.Core.Path.{_≡_, refl, sym, ap, _∙_}
-use mathlib.Core.Bool.{Bool, true, false}
+use mathlib.Core.Path.{_≡_, refl, ap, _∙_}
 use mathlib.Core.List.{List, [], _∷_, _++_}
 use native.Mathlib.Nat.{le-refl}
 use native.Mathlib.Omega.{arith}
@@ -11,25 +9,23 @@ use denote.Enum.Declared.{tagOf}
 use lib.Dec.{eqb, ltb}
 use lib.ListN.{length, drop, getD}
 use borrow.Author.Tests.{eq-eqb, ne-eqb, ltb-true, ltb-false}
-use Rattle.octets.specs.Basics.{pick}
-use Rattle.octets.specs.Pen.{Pen, pen, Wrote}
+use Rattle.octets.specs.Pen.{Pen, pen}
 use Rattle.octets.proofs.Cases.{cases}
 use Rattle.octets.proofs.Pen as pens
 use Rattle.octets.proofs.Positions.{here, ended}
 use Rattle.json.specs.Tree.{Json}
-use Rattle.json.specs.Reads.{Out, ok, deep, bad, fmap, then, isSpace, skip, word}
-use Rattle.json.specs.Reader.{Mark, comma, close, odd, markOf, key, Pair, pair, afterElement, onMark, elements, elementsFrom, group}
+use Rattle.json.specs.Reads.{Out, bad, fmap, then, isSpace, skip, word}
+use Rattle.json.specs.Reader.{Mark, comma, close, odd, markOf, key, pair, afterElement, onMark, elements, elementsFrom, group}
 use Rattle.json.specs.Tape.{tagEnd, serString, ser}
-use Rattle.json.specs.Promise.{Run, Agrees, read, too-deep, not-json}
+use Rattle.json.specs.Promise.{Run, Agrees}
 use Rattle.json.specs.declared.Step.{Step}
-use Rattle.json.specs.declared.Step.the-variants.{Read, TooDeep, NotJson}
 use Rattle.json.proofs.Step.{the-type}
 use Rattle.json.proofs.Outs.{Gives, gives-weaker, then-alike}
 use Rattle.json.proofs.Tapes.{serList, serPair}
 use Rattle.json.proofs.Sizes.{skip-less}
 use Rattle.json.proofs.Words.{skip-run}
 use Rattle.json.proofs.Runs.{inside-is}
-use Rattle.json.proofs.Agreements.{HasRead, Going, going-on, agrees-by, agrees-behind, agrees-after, agrees-map, agrees-fails}
+use Rattle.json.proofs.Agreements.{HasRead, Going, going-on, agrees-by, agrees-after, agrees-map, agrees-fails}
 
 -- each element takes an octet at least, so that one more than the octets is enough
 abbrev pub Shortens : {A : Type 0} → (List ℕ → Out A) → Type 0

@@ -1,36 +1,22 @@
 -- Numbers read at a place of the text, part by part.
 use Prim.Native.Nat.{ℕ, _+_, _-_, _≤_, _<_}
 use mathlib.Core.Path.{_≡_, refl, sym, ap, _∙_}
-use mathlib.Core.Bool.{Bool, true, false}
-use mathlib.Core.List.{List, [], _∷_, _++_}
+use mathlib.Core.Bool.{true, false}
+use mathlib.Core.List.{List}
 use native.Mathlib.Nat.{le-trans}
 use native.Mathlib.Omega.{arith}
-use lib.Dec.{eqb, ltb}
-use lib.ListN.{length, take, drop, getD, length-drop}
-use borrow.Author.Tests.{ne-eqb, eq-eqb, ltb-true, ltb-false}
-use Rattle.octets.specs.Basics.{pick, _or_}
+use lib.Dec.{ltb}
+use lib.ListN.{length, drop, getD}
+use borrow.Author.Tests.{ne-eqb, ltb-true, ltb-false}
+use Rattle.octets.specs.Basics.{pick}
 use Rattle.octets.specs.Classes.{isDigit, between}
-use Rattle.octets.proofs.Cases.{cases, or-first}
-use Rattle.octets.proofs.Positions.{here, ended, past-end}
-use Rattle.json.specs.Reads.{Out, ok, deep, bad}
-use Rattle.json.specs.Numbers.{Place, start, minus, zero, int, point, frac, e, sign, exp, beyond, isExponent, isPlusMinus, behindInt, firstDigit, advance, isBeyond, mayEnd, scan, number}
+use Rattle.octets.proofs.Cases.{cases}
+use Rattle.octets.proofs.Positions.{here, ended}
+use Rattle.json.specs.Reads.{Out, ok, bad}
+use Rattle.json.specs.Numbers.{Place, start, minus, zero, int, point, frac, e, sign, exp, beyond, isExponent, isPlusMinus, behindInt, firstDigit, advance, isBeyond, mayEnd, scan}
 use Rattle.json.specs.Promise.{Run, FoundAt, found, missing}
 use Rattle.json.specs.declared.Found.{Found}
 use Rattle.json.proofs.Runs.{run-passes, run-next, run-first, run-rest, inside, inside-is}
-
--- nothing goes on at the end of the text
-advance-end : (q : Place) → advance q 0 ≡ beyond
-unfolding advance firstDigit behindInt isDigit between isExponent isPlusMinus
-advance-end start = refl
-advance-end minus = refl
-advance-end zero = refl
-advance-end int = refl
-advance-end point = refl
-advance-end frac = refl
-advance-end e = refl
-advance-end sign = refl
-advance-end exp = refl
-advance-end beyond = refl
 
 module _ (text : List ℕ) (i : ℕ) (q : Place) where
   -- the octet at i belongs to the number

@@ -1,8 +1,8 @@
 -- Laws of readings put together: what they give has what their parts give.
 use Prim.Native.Nat.{ℕ}
-use mathlib.Core.Path.{_≡_, refl, sym, ap, _∙_}
+use mathlib.Core.Path.{_≡_, refl}
 use mathlib.Core.Bool.{Bool, true, false}
-use mathlib.Core.List.{List, [], _∷_, _++_}
+use mathlib.Core.List.{List}
 use Rattle.octets.specs.Basics.{pick}
 use Rattle.json.specs.Reads.{Out, ok, deep, bad, fmap, then}
 

@@ -1,20 +1,18 @@
 -- What `parse` leaves: the tape, or zeros.
 use Prim.Native.Nat.{ℕ, _+_, _≤_, _<_}
-use mathlib.Core.Path.{_≡_, refl, sym, ap, _∙_}
-use mathlib.Core.Bool.{true, false}
-use mathlib.Core.List.{List, [], _∷_, _++_}
+use mathlib.Core.Path.{_≡_, ap, _∙_}
+use mathlib.Core.List.{List}
 use native.Mathlib.Omega.{arith}
 use borrow.Author.Tests.{le-leb, lt-leb, leb-true, leb-false}
 use lib.Dec.{leb}
-use lib.ListN.{length, drop, replicate}
+use lib.ListN.{length, replicate}
 use Rattle.octets.specs.Pen.{Pen, pen, Wrote}
 use Rattle.octets.proofs.Cases.{cases}
 use Rattle.octets.proofs.Pen.{landed, full, fits, kept}
 use Rattle.json.specs.Tree.{Json}
 use Rattle.json.specs.Reads.{Out, ok, deep, bad}
 use Rattle.json.specs.Tape.{ser}
-use Rattle.json.specs.Parse.{Laid, laid, blank, parsed}
-use Rattle.json.specs.declared.Parsed.{Parsed}
+use Rattle.json.specs.Parse.{laid, blank, parsed}
 use Rattle.json.specs.declared.Parsed.the-variants.{Tape, TooDeep, NotJson, NoRoom}
 
 module _ {o : Out Json} {s t₀ t : List ℕ} {n : ℕ} (j : Json) (e : o ≡ ok j s) (w : Wrote (pen t₀ 0) (ser j) (pen t n)) where

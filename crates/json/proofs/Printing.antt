@@ -7,9 +7,9 @@ use mathlib.Core.List.{List, [], _∷_, _++_, append-assoc, append-nil}
 use native.Mathlib.Omega.{arith}
 use borrow.Author.Tests.{le-ltb, le-leb, leb-true, leb-false, not-true}
 use lib.Dec.{eqb, leb, ltb}
-use lib.ListN.{length, take, length-append, length-take}
+use lib.ListN.{length, take, length-append}
 use lib.Seq.{take-append-seam}
-use Rattle.octets.specs.Basics.{octets, pick, _or_, all}
+use Rattle.octets.specs.Basics.{_or_, all}
 use Rattle.octets.specs.Classes.{isDigit, between, isControl, plainOctet, textOctet}
 use Rattle.octets.specs.Limits.{mostOpen}
 use Rattle.octets.proofs.Cases.{cases, same?, never, both, neither, either, or-first, or-second, apart, apart-not, All}
@@ -17,7 +17,7 @@ use Rattle.json.specs.Tree.{Json, null, falsity, truth, num, str, arr, o
 use Rattle.json.specs.Reads.{Out, ok, deep, bad, fmap, then, isSpace, skip, word}
 use Rattle.json.specs.Numbers.{Place, start, minus, zero as zeroPlace, int, point, frac, e, sign, exp, beyond, isExponent, isPlusMinus, behindInt, firstDigit, advance, isBeyond, mayEnd, scan, number}
 use Rattle.json.specs.Strings.{escapeOf, escape, piece, pieces, string}
-use Rattle.json.specs.Reader.{Kind, numeral, other, kindOf, comma, close, odd, markOf, colon, key, Pair, pair, membersOf, afterElement, onMark, elements, elementsFrom, group, valueOf, valueWith, value, ended, parseText}
+use Rattle.json.specs.Reader.{numeral, kindOf, markOf, colon, key, Pair, pair, membersOf, afterElement, onMark, elements, elementsFrom, group, valueOf, valueWith, value, ended, parseText}
 use Rattle.json.specs.Print.{escaped, quoted, printString, printKey, print, firstItem, moreItems, firstMember, moreMembers}
 
 -- an octet that a printed string may hold: newline and tab, which are escaped, and all from 32 on

@@ -1,12 +1,12 @@
 -- Strings written: runs, escapes, the closing quote.
 use Prim.Native.Nat.{ℕ, _+_, _-_, _≤_, _<_}
-use mathlib.Core.Path.{_≡_, refl, sym, ap, _∙_}
-use mathlib.Core.Bool.{Bool, true, false}
+use mathlib.Core.Path.{_≡_, refl, ap, _∙_}
+use mathlib.Core.Bool.{true}
 use mathlib.Core.List.{List, [], _∷_, _++_}
 use borrow.Author.Tests.{not-true}
 use lib.Dec.{eqb}
 use lib.ListN.{length, take, drop, getD}
-use Rattle.octets.specs.Basics.{pick, _or_, all}
+use Rattle.octets.specs.Basics.{_or_, all}
 use Rattle.octets.proofs.Cases.{both, neither}
 use Rattle.octets.proofs.Positions.{here, ended, part-rest}
 use Rattle.json.specs.Print.{escaped, quoted}

@@ -1,20 +1,19 @@
 -- What is left of a text is shorter than the text, and what was read has a tape of at most twice what it took.
 use Prim.Native.Nat.{ℕ, zero, suc, _+_, _-_, _*_, _≤_, _<_}
 use Prim.Native.Char.{code}
-use mathlib.Core.Path.{_≡_, refl, sym, ap, _∙_}
-use mathlib.Core.Bool.{Bool, true, false}
+use mathlib.Core.Path.{_≡_, ap}
 use mathlib.Core.List.{List, [], _∷_, _++_}
 use native.Mathlib.Omega.{arith}
-use lib.Dec.{eqb, ltb}
-use lib.ListN.{length, take, drop, length-append, length-take, length-drop}
-use Rattle.octets.specs.Basics.{octets, pick}
+use lib.Dec.{eqb}
+use lib.ListN.{length, take, length-append, length-take}
+use Rattle.octets.specs.Basics.{octets}
 use Rattle.octets.specs.Limits.{mostOpen}
-use Rattle.json.specs.Tree.{Json, null, falsity, truth, num, str, arr, obj, Items, Members, itemsOf}
-use Rattle.json.specs.Reads.{Out, ok, deep, bad, fmap, then, isSpace, skip, word}
+use Rattle.json.specs.Tree.{Json, null, falsity, truth, num, str, arr, obj, itemsOf}
+use Rattle.json.specs.Reads.{Out, ok, deep, isSpace, skip, word}
 use Rattle.json.specs.Numbers.{Place, start, advance, isBeyond, mayEnd, scan, number}
 use Rattle.json.specs.Strings.{piece, pieces, string}
 use Rattle.json.specs.Reader.{Kind, bracket, brace, quote, numeral, nullWord, falseWord, trueWord, other, kindOf, Mark, comma, close, odd, markOf, colon, key, Pair, pair, membersOf, afterElement, onMark, elements, elementsFrom, group, valueOf, valueWith, value, ended, parseText}
-use Rattle.json.specs.Tape.{serText, serString, ser, serItems, serMembers}
+use Rattle.json.specs.Tape.{serString, ser}
 use Rattle.json.specs.Parse.{mostTape}
 use Rattle.json.proofs.Outs.{Gives, gives-then, gives-map, gives-weaker, given, by}
 use Rattle.json.proofs.StringLaws.{Small, small-piece}

@@ -7,12 +7,12 @@ use native.Mathlib.Omega.{arith}
 use lib.Dec.{eqb, leb, ltb}
 use lib.ListN.{length, take, drop, getD, length-drop}
 use lib.Seq.{drop-drop}
-use borrow.Author.Tests.{ne-eqb, eq-eqb, ltb-true, ltb-false, lt-ltb, le-ltb, le-leb, lt-leb, eqb-true, eqb-false, not-true}
+use borrow.Author.Tests.{ne-eqb, eq-eqb, ltb-true, ltb-false, lt-ltb, le-ltb, le-leb, lt-leb, eqb-false, not-true}
 use Rattle.octets.specs.Basics.{pick, _and_, _or_, all}
 use Rattle.octets.specs.Classes.{between, isDigit, hexDigit}
 use Rattle.octets.specs.Pen.{Pen, Wrote}
 use Rattle.octets.proofs.Cases.{cases, never, both, neither, or-false, pick-same}
-use Rattle.octets.proofs.Classes.{between-true, within-between, below-between, above-between}
+use Rattle.octets.proofs.Classes.{between-true}
 use Rattle.octets.proofs.Positions.{here, ended, past-end, part-rest}
 use Rattle.json.specs.Reads.{Out, ok, deep, bad, fmap, then}
 use Rattle.json.specs.Strings.{escapeOf, digit, hex4, utf8Of, lowOf, low, partner, unit, unicode, escape, piece, pieces, string}

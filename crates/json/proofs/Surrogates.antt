@@ -1,17 +1,17 @@
 -- UTF-8 in which lone surrogates may stand, as strings that escapes make hold them.
-use Prim.Native.Nat.{ℕ, _+_, _*_, _/_, _%_, _≤_, _<_}
-use mathlib.Core.Path.{_≡_, refl, sym, ap, _∙_}
+use Prim.Native.Nat.{ℕ, _+_, _/_, _%_, _≤_, _<_}
+use mathlib.Core.Path.{_≡_, refl}
 use mathlib.Core.Bool.{Bool, true, false}
 use mathlib.Core.List.{List, [], _∷_, _++_}
 use native.Mathlib.Omega.{arith}
-use borrow.Author.Tests.{le-leb, lt-leb, leb-true, leb-false, eq-eqb, ne-eqb, eqb-true, eqb-false, lt-ltb, le-ltb, ltb-true, ltb-false}
+use borrow.Author.Tests.{le-leb, lt-leb, leb-true, leb-false, ne-eqb, eqb-true, eqb-false, ltb-true, ltb-false}
 use lib.Dec.{eqb, leb, ltb}
 use Rattle.octets.specs.Basics.{pick, _and_}
 use Rattle.octets.specs.Classes.{between}
-use Rattle.octets.specs.Utf8.{Due, start, one, two, three, afterE0, afterED, afterF0, afterF4, broken, lead, due, dueAfter, isStart, utf8}
+use Rattle.octets.specs.Utf8.{Due, start, one, two, three, afterE0, afterED, afterF0, afterF4, broken, lead, due, dueAfter, isStart}
 use Rattle.octets.proofs.Cases.{cases, same?, never, both}
 use Rattle.octets.proofs.Classes.{between-true, within-between, below-between, above-between}
-use Rattle.octets.proofs.Utf8.{broken-stays, start-is}
+use Rattle.octets.proofs.Utf8.{broken-stays}
 use Rattle.json.specs.Strings.{utf8Of}
 use Rattle.json.proofs.Outs.{by}
 use Rattle.json.proofs.Fine.{Clean, clean-end, clean}
@@ -66,10 +66,6 @@ loose-due d c s h = by (λ x. x ≡ due d c) (isED d and between 160 191 c)
     (λ e. refl)
 
 -- no ED before an octet from A0 on: p is the octet before
-abbrev pub NoLone : ℕ → List ℕ → Type 0
-NoLone p [] = Unit {0}
-NoLone p (x ∷ xs) = ((p ≡ 237) → x < 160) × NoLone x xs
-
 ed-lead : (c : ℕ) → isED (lead c) ≡ true → c ≡ 237
 unfolding lead isED
 ed-lead c = by R (leb c 127) (λ _ h. never h refl) (λ _. by R (leb c 193) (λ _ h. never h refl) (λ _. by R (leb c 223) (λ _ h. never h refl) (λ _. by R (eqb c 224) (λ _ h. never h refl)
@@ -99,18 +95,6 @@ ed-next d c = go d
     go afterF0 = no (between 144 191 c) two refl
     go afterF4 = no (between 128 143 c) two refl
     go broken = λ h. never h refl
-
-strict-after : (d : Due) (p : ℕ) (s : List ℕ) → (isED d ≡ true → p ≡ 237) → NoLone p s → dueAfter d s ≡ looseAfter d s
-unfolding dueAfter looseAfter looseDue
-strict-after d p [] e n = refl
-strict-after d p (x ∷ xs) e n = cases (isED d and between 160 191 x)
-    (λ w. let b = both (isED d) (between 160 191 x) w in let l = n .0 (e (b .0)) in let m = between-true 160 191 x (b .1) in absurd (omega arith))
-    (λ w. rw w (strict-after (due d x) x xs (λ h. ed-next d x h) (n .1)))
-
--- without a lone surrogate it is UTF-8
-pub strict : (s : List ℕ) → loose s ≡ true → NoLone 0 s → utf8 s ≡ true
-unfolding loose utf8
-strict s h n = ap isStart (strict-after start 0 s (λ e. never e (unfold isED in refl)) n) ∙ h
 
 -- no octet of it is 255
 due-255 : (d : Due) → looseDue d 255 ≡ broken

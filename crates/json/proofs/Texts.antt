@@ -1,20 +1,20 @@
 -- The loop over a string: runs, escapes, the closing quote.
-use Prim.Native.Nat.{ℕ, _+_, _-_, _≤_, _<_}
-use mathlib.Core.Path.{_≡_, refl, sym, ap, _∙_}
-use mathlib.Core.Bool.{Bool, true, false}
+use Prim.Native.Nat.{ℕ, _+_, _-_, _≤_}
+use mathlib.Core.Path.{_≡_, sym, ap, _∙_}
+use mathlib.Core.Bool.{false}
 use mathlib.Core.List.{List, [], _∷_, _++_, append-assoc}
 use native.Mathlib.Nat.{le-refl}
 use native.Mathlib.Omega.{arith}
 use types.Run.{OneOf}
 use denote.Enum.Declared.{tagOf}
-use lib.ListN.{length, take, drop, getD}
+use lib.ListN.{take, drop, getD}
 use Rattle.octets.specs.Pen.{Pen, pen, Wrote}
-use Rattle.json.specs.Reads.{Out, ok, deep, bad, fmap, then}
+use Rattle.json.specs.Reads.{fmap, then}
 use Rattle.json.specs.Strings.{escape, string}
 use Rattle.json.specs.Tape.{tagEnd, serText}
 use Rattle.json.specs.Promise.{Run, Agrees, read, not-json, unescaped}
 use Rattle.json.specs.declared.Step.{Step}
-use Rattle.json.specs.declared.Step.the-variants.{Read, TooDeep, NotJson}
+use Rattle.json.specs.declared.Step.the-variants.{Read, NotJson}
 use Rattle.json.proofs.Step.{the-type}
 use Rattle.json.proofs.Runs.{inside-is}
 use Rattle.json.proofs.StringLaws.{string-run, string-quote, string-escape, string-none}

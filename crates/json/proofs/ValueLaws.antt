@@ -1,34 +1,32 @@
 -- Values, keys and whole texts read at a place of the text.
 use Prim.Native.Nat.{ℕ, zero, suc, _+_, _-_, _≤_, _<_}
-use Prim.Native.Char.{code}
 use mathlib.Core.Path.{_≡_, refl, sym, ap, _∙_}
-use mathlib.Core.Bool.{Bool, true, false}
-use mathlib.Core.List.{List, [], _∷_, _++_}
-use native.Mathlib.Nat.{le-refl, zero-add}
+use mathlib.Core.Bool.{true, false}
+use mathlib.Core.List.{List, [], _∷_}
+use native.Mathlib.Nat.{le-refl}
 use native.Mathlib.Numerals.{sub-one}
 use native.Mathlib.Omega.{arith}
 use types.Run.{OneOf}
 use denote.Enum.Declared.{tagOf}
 use lib.Dec.{eqb, ltb}
 use lib.ListN.{length, take, drop, getD, length-drop}
-use borrow.Author.Tests.{eq-eqb, ne-eqb, ltb-true, ltb-false}
+use borrow.Author.Tests.{ne-eqb, ltb-true, ltb-false}
 use Rattle.octets.specs.Basics.{octets, pick, _or_}
 use Rattle.octets.specs.Classes.{isDigit, between}
 use Rattle.octets.specs.Limits.{mostOpen}
-use Rattle.octets.specs.Pen.{Pen, pen, Wrote}
-use Rattle.octets.proofs.Cases.{cases, same?, neither, apart-not}
+use Rattle.octets.specs.Pen.{Pen, Wrote}
+use Rattle.octets.proofs.Cases.{cases, neither, apart-not}
 use Rattle.octets.proofs.Positions.{here, ended, past-end}
 use Rattle.json.specs.Tree.{Json, null, falsity, truth, num, str, arr, obj, itemsOf}
 use Rattle.json.specs.Reads.{Out, ok, deep, bad, fmap, then, isSpace, skip, word}
-use Rattle.json.specs.Numbers.{start, beyond, firstDigit, advance, mayEnd, scan, number}
+use Rattle.json.specs.Numbers.{start, firstDigit, advance, mayEnd, scan, number}
 use Rattle.json.specs.Strings.{string}
 use Rattle.json.specs.Reader.{Kind, bracket, brace, quote, numeral, nullWord, falseWord, trueWord, other, kindOf, colon, key, Pair, pair, membersOf, group, valueOf, valueWith, value, ended as endedOf, parseText}
 use Rattle.json.specs.Tape.{tagNull, tagFalse, tagTrue, tagNumber, tagArray, tagObject, serText, serString, ser}
-use Rattle.json.specs.Promise.{Run, Agrees, read, not-json, FoundAt}
+use Rattle.json.specs.Promise.{Run, Agrees}
 use Rattle.json.specs.declared.Step.{Step}
-use Rattle.json.specs.declared.Step.the-variants.{Read, NotJson}
 use Rattle.json.proofs.Step.{the-type}
-use Rattle.json.proofs.Runs.{inside, inside-is, run-next}
+use Rattle.json.proofs.Runs.{inside, inside-is}
 use Rattle.json.proofs.Words.{skip-run}
 use Rattle.json.proofs.NumberLaws.{scan-over}
 use Rattle.json.proofs.Outs.{gives-weaker}

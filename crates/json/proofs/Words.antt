@@ -1,13 +1,12 @@
 -- White space and literal names, read at a place of the text.
 use Prim.Native.Nat.{ℕ, _+_, _-_, _≤_, _<_}
-use mathlib.Core.Path.{_≡_, refl, sym, ap, _∙_}
-use mathlib.Core.Bool.{Bool, true, false}
-use mathlib.Core.List.{List, [], _∷_, _++_}
+use mathlib.Core.Path.{_≡_, sym, _∙_}
+use mathlib.Core.Bool.{true, false}
+use mathlib.Core.List.{List, [], _∷_}
 use borrow.Author.Tests.{eq-eqb, ne-eqb}
-use lib.ListN.{length, take, drop, getD}
-use Rattle.octets.proofs.Cases.{cases}
+use lib.ListN.{length, drop, getD}
 use Rattle.octets.proofs.Positions.{here, ended}
-use Rattle.json.specs.Reads.{Out, ok, deep, bad, isSpace, skip, word}
+use Rattle.json.specs.Reads.{ok, bad, isSpace, skip, word}
 use Rattle.json.specs.Promise.{Run}
 use Rattle.json.proofs.Runs.{at-place, run-passes}
 

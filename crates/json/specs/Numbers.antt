@@ -7,7 +7,7 @@ use lib.Dec.{eqb}
 use lib.ListN.{length, take}
 use Rattle.octets.specs.Basics.{pick, _or_}
 use Rattle.octets.specs.Classes.{isDigit}
-use Rattle.json.specs.Reads.{Out, ok, deep, bad, then}
+use Rattle.json.specs.Reads.{Out, ok, bad, then}
 
 -- where in a number: before it; behind the minus, a leading zero, digits of int, the point, digits of frac, e, its sign, digits of exp; beyond it
 pub data Place : Type 0 where

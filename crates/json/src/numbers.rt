@@ -1,5 +1,4 @@
 // JSON numbers (RFC 8259 6), by the parts of the grammar: the place behind each.
-ghost use mathlib.Core.Path.{_≡_};
 ghost use Prim.Native.Nat.{_+_, _≤_};
 ghost use lib.ListN.{length, drop, getD};
 ghost use Rattle.octets.specs.Basics.{pick};

@@ -148,10 +148,6 @@ module _ {A : Type 0} (p : A → Bool) where
   all-weaker q f (x ∷ xs) h = let b = both (p x) (all p xs) h in and-true (f x (b .0)) (all-weaker q f xs (b .1))
 
 -- a choice
-pub pick-ap : {A B : Type 0} (f : A → B) (b : Bool) (x y : A) → f (pick b x y) ≡ pick b (f x) (f y)
-pick-ap f true x y = refl
-pick-ap f false x y = refl
-
 pub pick-same : {A : Type 0} (b : Bool) (x : A) → pick b x x ≡ x
 pick-same true x = refl
 pick-same false x = refl

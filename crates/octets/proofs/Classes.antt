@@ -3,7 +3,7 @@ use Prim.Native.Nat.{ℕ, suc, _+_, _-_, _≤_, _<_}
 use Prim.Native.Char.{code}
 use mathlib.Core.Path.{_≡_, refl, sym, ap, _∙_}
 use mathlib.Core.Bool.{Bool, true, false}
-use mathlib.Core.List.{List, [], _∷_, _++_, map}
+use mathlib.Core.List.{List, [], _∷_, map}
 use native.Mathlib.Omega.{arith}
 use borrow.Author.Tests.{le-leb, lt-leb, leb-true, eq-eqb, ne-eqb, eqb-true}
 use lib.Dec.{eqb, leb}
@@ -110,10 +110,6 @@ name-end a b i h k = rw (ended a i h, ended b i k)
 pub map-length : (f : ℕ → ℕ) (s : List ℕ) → length (map f s) ≡ length s
 map-length f [] = refl
 map-length f (x ∷ s) = ap suc (map-length f s)
-
-pub map-append : (f : ℕ → ℕ) (s t : List ℕ) → map f (s ++ t) ≡ map f s ++ map f t
-map-append f [] t = refl
-map-append f (x ∷ s) t = ap (λ (l : List ℕ). f x ∷ l) (map-append f s t)
 
 pub name-length : (a b : List ℕ) → (length a ≡ length b → ⊥) → sameName a b ≡ false
 unfolding sameName upper

@@ -4,10 +4,10 @@ use Prim.Native.Char.{code}
 use mathlib.Core.Path.{_≡_, refl, sym, ap, _∙_}
 use mathlib.Core.Bool.{Bool, true, false, not}
 use mathlib.Core.List.{List, [], _∷_, _++_}
-use native.Mathlib.Nat.{add-mul, mul-assoc, mul-comm, add-assoc, pow-suc, pow-succ', div-one, div-div-eq-div-mul}
+use native.Mathlib.Nat.{pow-suc, pow-succ', div-one, div-div-eq-div-mul}
 use native.Mathlib.Omega.{arith}
 use borrow.Author.Tests.{eqb-true, ne-eqb}
-use lib.Arith.{digits-lt, digits-div}
+use lib.Arith.{digits-div}
 use lib.Dec.{eqb}
 use lib.ListN.{length, getD, take, drop, length-append}
 use Rattle.octets.specs.Basics.{_and_, all, filled}
@@ -15,13 +15,9 @@ use Rattle.octets.specs.Classes.{between, isDigit}
 use Rattle.octets.specs.Decimal.{digits, valueFrom, valueOf, figures, isSign, minus, unsigned, trim, minusIf, decimal, integerText}
 use Rattle.octets.proofs.Cases.{cases, same?, never, both, and-true, and-false-right, or-false, apart, all-append}
 use Rattle.octets.proofs.Positions.{here, ended, first-of, from}
-use Rattle.octets.proofs.Classes.{between-true, within-between}
+use Rattle.octets.proofs.Classes.{within-between}
 
 -- a digit's value
-pub digit-value : (c : ℕ) → isDigit c ≡ true → (code "0" ≤ c) × (c - code "0" < 10)
-unfolding isDigit
-digit-value c e = let b = between-true (code "0") (code "9") c e in (b .0, omega arith)
-
 pub value-digit : (d : ℕ) → d < 10 → isDigit (code "0" + d) ≡ true
 unfolding isDigit
 value-digit d h = within-between (code "0") (code "9") (code "0" + d) (omega arith) (omega arith)
@@ -31,30 +27,6 @@ pub value-more : (a : ℕ) (s : List ℕ) (c : ℕ) → valueFrom a (s ++ c ∷ 
 unfolding valueFrom
 value-more a [] c = refl
 value-more a (x ∷ s) c = value-more (a * 10 + (x - code "0")) s c
-
--- a number in front
-shift : (a d p v : ℕ) → (a * 10 + d) * p + v ≡ a * (p * 10) + ((0 * 10 + d) * p + v)
-shift a d p v =
-    let e : (0 * 10 + d) ≡ d = omega arith in
-    rw (e, add-mul (a * 10) d p, mul-assoc a 10 p, mul-comm 10 p, add-assoc (a * (p * 10)) (d * p) v)
-
-pub value-front : (a : ℕ) (s : List ℕ) → valueFrom a s ≡ a * 10 ^ length s + valueOf s
-unfolding valueFrom valueOf
-value-front a [] = omega arith
-value-front a (c ∷ s) =
-    rw (
-      value-front (a * 10 + (c - code "0")) s,
-      value-front (0 * 10 + (c - code "0")) s,
-      pow-suc 10 (length s),
-    ) (shift a (c - code "0") (10 ^ length s) (valueFrom 0 s))
-
-pub value-bound : (s : List ℕ) → all isDigit s ≡ true → valueOf s < 10 ^ length s
-unfolding valueOf valueFrom all
-value-bound [] h = omega arith
-value-bound (c ∷ s) h =
-    let b = both (isDigit c) (all isDigit s) h in
-    let d : 0 * 10 + (c - code "0") < 10 = omega (arith, digit-value c (b .0) .1) in
-    rw (value-front (0 * 10 + (c - code "0")) s, pow-succ' 10 (length s)) (digits-lt d (unfold valueOf in value-bound s (b .1)))
 
 -- figures
 pub figures-length : (w n : ℕ) → length (figures w n) ≡ w
@@ -82,18 +54,6 @@ unfolding figures
 figures-front zero n = rw (div-one n)
 figures-front (suc w) n =
     rw (figures-front w (n / 10), div-div-eq-div-mul n 10 (10 ^ w), ← (pow-succ' 10 w))
-
--- digits read and written again
-pub figures-back : (a : ℕ) (s : List ℕ) → all isDigit s ≡ true → figures (length s) (valueFrom a s) ≡ s
-unfolding valueFrom all
-figures-back a [] h = unfold figures in refl
-figures-back a (c ∷ s) h =
-    let b = both (isDigit c) (all isDigit s) h in
-    let d = digit-value c (b .0) in
-    let e : valueFrom (a * 10 + (c - code "0")) s / 10 ^ length s ≡ a * 10 + (c - code "0")
-    = rw (value-front (a * 10 + (c - code "0")) s) (digits-div (a * 10 + (c - code "0")) (value-bound s (b .1))) in
-    let f : code "0" + (a * 10 + (c - code "0")) % 10 ≡ c = omega arith in
-    rw (figures-front (length s) (valueFrom (a * 10 + (c - code "0")) s), e, f, figures-back (a * 10 + (c - code "0")) s (b .1))
 
 -- a value that is capped
 cap-step : (a d m : ℕ) → min (min a m * 10 + d) m ≡ min (a * 10 + d) m

@@ -22,10 +22,6 @@ pub when-true : {A : Type 0} (b : Bool) (a : A) → b ≡ true → when b a ≡ 
 unfolding when
 when-true b a e = rw e
 
-pub when-false : {A : Type 0} (b : Bool) (a : A) → b ≡ false → when b a ≡ none
-unfolding when
-when-false b a e = rw e
-
 pub guard-is : {A : Type 0} (p : A → Bool) (o : Option A) (a : A) → guard p o ≡ some a → (o ≡ some a) × (p a ≡ true)
 unfolding guard
 guard-is p none a e = missing e

@@ -8,11 +8,10 @@ use native.Mathlib.Omega.{arith}
 use borrow.Author.Tests.{le-leb, lt-leb, leb-true, leb-false, ne-eqb}
 use lib.Dec.{leb}
 use Rattle.octets.specs.Basics.{pick, _and_, all}
-use Rattle.octets.specs.Pieces.{split, joined}
-use Rattle.octets.specs.Classes.{between, isUpper, isLower, isControl, plainOctet, upperOctet, lowerOctet, upper, lower}
+use Rattle.octets.specs.Pieces.{joined}
+use Rattle.octets.specs.Classes.{between, isLower, isControl, plainOctet, upperOctet, upper}
 use Rattle.octets.specs.Utf8.{Due, start, one, two, three, afterE0, afterED, afterF0, afterF4, broken, lead, due, dueAfter, isStart, utf8, clean}
 use Rattle.octets.proofs.Cases.{cases, never, both, and-true, and-true-right, and-swap, all-append, all-weaker}
-use Rattle.octets.proofs.Pieces.{joined-split}
 use Rattle.octets.proofs.Classes.{between-true, within-between, below-between, above-between}
 
 -- an octet that is a character of its own
@@ -113,9 +112,6 @@ utf8-joined sep [] e = unfold utf8 dueAfter isStart in refl
 utf8-joined sep (l ∷ []) e = sym (and-true-right (utf8 l))
 utf8-joined sep (l ∷ m ∷ ls) e = utf8-cut l sep (joined sep (m ∷ ls)) e ∙ ap (λ (b : Bool). utf8 l and b) (utf8-joined sep (m ∷ ls) e)
 
-pub utf8-split : (sep : ℕ) (s : List ℕ) → ascii sep ≡ true → all utf8 (split sep s) ≡ utf8 s
-utf8-split sep s e = sym (utf8-joined sep (split sep s) e) ∙ ap utf8 (joined-split sep s)
-
 -- no octet of a UTF-8 text is above 244
 pub lead-above : (c : ℕ) → 244 < c → lead c ≡ broken
 unfolding lead
@@ -130,29 +126,6 @@ lead-above c h = rw (
   lt-leb c 243 (omega arith),
   ne-eqb c 244 (λ e. omega arith),
 )
-
-due-above : (d : Due) (c : ℕ) → 244 < c → due d c ≡ broken
-unfolding due
-due-above start c h = lead-above c h
-due-above one c h = rw (above-between 128 191 c (omega arith))
-due-above two c h = rw (above-between 128 191 c (omega arith))
-due-above three c h = rw (above-between 128 191 c (omega arith))
-due-above afterE0 c h = rw (above-between 160 191 c (omega arith))
-due-above afterED c h = rw (above-between 128 159 c (omega arith))
-due-above afterF0 c h = rw (above-between 144 191 c (omega arith))
-due-above afterF4 c h = rw (above-between 128 143 c (omega arith))
-due-above broken c h = refl
-
-low-enough : (d : Due) (s : List ℕ) → isStart (dueAfter d s) ≡ true → all (λ c. leb c 244) s ≡ true
-unfolding all dueAfter
-low-enough d [] h = refl
-low-enough d (c ∷ s) h = cases (leb c 244)
-    (λ e. and-true e (low-enough (due d c) s h))
-    (λ e. never h (rw (due-above d c (leb-false c 244 e), broken-stays s) (unfold isStart in refl)))
-
-pub utf8-bound : (s : List ℕ) → utf8 s ≡ true → all (λ c. leb c 244) s ≡ true
-unfolding utf8
-utf8-bound s h = low-enough start s h
 
 -- a map of octets that keeps ASCII and changes nothing else keeps UTF-8
 module _ (f : ℕ → ℕ) (low : (c : ℕ) → ascii c ≡ true → ascii (f c) ≡ true) (high : (c : ℕ) → ascii c ≡ false → f c ≡ c) where
@@ -178,24 +151,6 @@ upper-low c e = cases (isLower c)
 upper-high : (c : ℕ) → ascii c ≡ false → upperOctet c ≡ c
 unfolding upperOctet isLower
 upper-high c e = rw (above-between (code "a") (code "z") c (omega (arith, ascii-high c e)))
-
-lower-low : (c : ℕ) → ascii c ≡ true → ascii (lowerOctet c) ≡ true
-unfolding lowerOctet
-lower-low c e = cases (isUpper c)
-    (λ h. rw h (unfold ascii isUpper in le-leb (c + 32) 127 (omega (arith, between-true (code "A") (code "Z") c (unfold isUpper in h) .1))))
-    (λ h. rw h e)
-
-lower-high : (c : ℕ) → ascii c ≡ false → lowerOctet c ≡ c
-unfolding lowerOctet isUpper
-lower-high c e = rw (above-between (code "A") (code "Z") c (omega (arith, ascii-high c e)))
-
-pub utf8-upper : (s : List ℕ) → utf8 (upper s) ≡ utf8 s
-unfolding upper
-utf8-upper s = utf8-map upperOctet upper-low upper-high s
-
-pub utf8-lower : (s : List ℕ) → utf8 (lower s) ≡ utf8 s
-unfolding lower
-utf8-lower s = utf8-map lowerOctet lower-low lower-high s
 
 -- clean: UTF-8 without control characters but tab
 pub clean-both : (xs ys : List ℕ) → clean xs ≡ true → clean ys ≡ true → clean (xs ++ ys) ≡ true
@@ -244,17 +199,6 @@ upper-plain c = cases (isLower c)
     rw e (plain-above (c - 32) (omega arith) (omega arith) ∙ sym (plain-above c (omega arith) (omega arith))))
     (λ e. rw e)
 
-lower-plain : (c : ℕ) → plainOctet (lowerOctet c) ≡ plainOctet c
-unfolding lowerOctet
-lower-plain c = cases (isUpper c)
-    (λ e. let b = between-true (code "A") (code "Z") c (unfold isUpper in e) in
-    rw e (plain-above (c + 32) (omega arith) (omega arith) ∙ sym (plain-above c (omega arith) (omega arith))))
-    (λ e. rw e)
-
 pub clean-upper : (s : List ℕ) → clean (upper s) ≡ clean s
 unfolding clean upper
 clean-upper s = rw (utf8-map upperOctet upper-low upper-high s, plain-map upperOctet upper-plain s)
-
-pub clean-lower : (s : List ℕ) → clean (lower s) ≡ clean s
-unfolding clean lower
-clean-lower s = rw (utf8-map lowerOctet lower-low lower-high s, plain-map lowerOctet lower-plain s)

@@ -12,10 +12,8 @@ use Rattle.tape.specs.declared.Text.{Text}
 use Rattle.tape.proofs.Tags.{on-tape, past-tag}
 use Rattle.tape.proofs.Values.{pop-skip, no-elements, no-members, list-end, members-end, list-head, list-tail, list-behind}
 use Rattle.tape.proofs.Walks.{elements-inside, members-inside}
-use Rattle.converter.specs.Tree.{Property}
 use Rattle.converter.specs.Skeleton.{paramsFrom, propertyFrom}
 use Rattle.properties.specs.Standing.{Within, IntoArray, IntoObject, Says, PartsAt}
-use Rattle.properties.specs.declared.Parts.{Parts}
 
 module _ (t : List ℕ) (i : ℕ) where
   pub into-array : {a : ℕ} → After t i a → tagAt t i ≡ tagArray → IntoArray t i a

@@ -2,7 +2,7 @@
 use Prim.Native.Nat.{ℕ, _-_}
 use Prim.Native.Char.{code}
 use mathlib.Core.Path.{_≡_, refl, sym, _∙_}
-use mathlib.Core.Bool.{Bool, true, false}
+use mathlib.Core.Bool.{true, false}
 use mathlib.Core.List.{List, [], _∷_, _++_, map, append-assoc}
 use lib.ListN.{take, drop}
 use Rattle.octets.specs.Basics.{octets, _and_, all, any, same}
@@ -10,7 +10,7 @@ use Rattle.octets.specs.Classes.{between, isLower, upperOctet, textOctet, upper
 use Rattle.octets.specs.Optional.{given}
 use Rattle.octets.specs.Pieces.{joined}
 use Rattle.octets.proofs.Cases.{and-true-right}
-use Rattle.json.specs.Tree.{Json, octetsOf}
+use Rattle.json.specs.Tree.{octetsOf}
 use Rattle.json.specs.Tape.{tagString, tagEnd}
 use Rattle.tape.specs.Decode.{others, paired, tagAt, valueAt, itemsAt, listAt, membersAt}
 use Rattle.tape.specs.Promise.{Next, TextAt}

@@ -7,7 +7,6 @@ use Rattle.json.specs.Tree.{elements, members}
 use Rattle.json.specs.Tape.{tagArray}
 use Rattle.tape.specs.Decode.{pop, view, tagAt, valueAt, listAt, membersAt}
 use Rattle.tape.specs.declared.Text.{Text}
-use Rattle.converter.specs.Tree.{Property}
 use Rattle.converter.specs.Skeleton.{paramsFrom, propertyFrom}
 use Rattle.properties.specs.declared.Parts.{Parts}
 

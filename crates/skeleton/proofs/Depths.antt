@@ -1,7 +1,7 @@
 -- A component and its levels, by its sub-components along the tape.
 use Prim.Native.Nat.{ℕ, zero, suc, _+_, _-_, _≤_, _<_, max}
 use mathlib.Core.Path.{_≡_, refl, ap, _∙_}
-use mathlib.Core.Bool.{Bool, true, false}
+use mathlib.Core.Bool.{true, false}
 use mathlib.Core.Logic.{inl}
 use mathlib.Core.List.{List, [], _∷_, map}
 use native.Mathlib.Omega.{arith}
@@ -15,7 +15,7 @@ use Rattle.octets.specs.Optional.{isSome}
 use Rattle.json.specs.Tree.{Json, elements, element}
 use Rattle.json.specs.Tape.{tagArray, tagEnd}
 use Rattle.tape.specs.Decode.{tagAt, valueAt, listAt}
-use Rattle.tape.specs.Promise.{After, Next, Left, TextAt}
+use Rattle.tape.specs.Promise.{After, Next, TextAt}
 use Rattle.tape.specs.declared.Text.{Text}
 use Rattle.tape.proofs.Tags.{on-tape}
 use Rattle.tape.proofs.Values.{list-end, list-first, list-next}

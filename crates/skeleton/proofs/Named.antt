@@ -11,7 +11,7 @@ use Rattle.octets.specs.Basics.{octets, filled, same}
 use Rattle.octets.specs.Optional.{isSome, holds}
 use Rattle.octets.specs.Classes.{isLowerName}
 use Rattle.octets.proofs.Cases.{same?, never, and-false-right, and-true-right}
-use Rattle.json.specs.Tree.{Json, string?, object?, octetsOf, elements}
+use Rattle.json.specs.Tree.{string?, object?, octetsOf, elements}
 use Rattle.json.specs.Tape.{tagString, tagArray, tagObject, tagEnd}
 use Rattle.tape.specs.Decode.{tagAt, valueAt, membersAt}
 use Rattle.tape.specs.Promise.{After, Next, TextAt}

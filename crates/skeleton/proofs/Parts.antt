@@ -1,7 +1,7 @@
 -- A property and the head of a component, as the places of their elements tell them.
 use Prim.Native.Nat.{ℕ, zero, suc, _+_}
 use mathlib.Core.Path.{_≡_, refl, ap, _∙_}
-use mathlib.Core.Bool.{Bool, true, false}
+use mathlib.Core.Bool.{true, false}
 use mathlib.Core.Logic.{inl}
 use mathlib.Core.List.{List}
 use native.Mathlib.Omega.{arith}
@@ -11,7 +11,7 @@ use lib.ListN.{length, drop}
 use Rattle.octets.specs.Optional.{isSome, holds}
 use Rattle.octets.specs.Classes.{isLowerName}
 use Rattle.octets.proofs.Cases.{never}
-use Rattle.json.specs.Tree.{Json, string?, array?, object?, elements, element}
+use Rattle.json.specs.Tree.{string?, array?, object?, elements, element}
 use Rattle.json.specs.Tape.{tagArray, tagEnd}
 use Rattle.tape.specs.Decode.{tagAt, valueAt, listAt}
 use Rattle.tape.specs.Promise.{After, Next, Left}

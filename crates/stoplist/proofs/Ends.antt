@@ -1,23 +1,22 @@
 -- A rule that is read has an end that can be named: the value of an UNTIL is a moment's text.
 use Prim.Native.Nat.{ℕ}
 use Prim.Native.Char.{code}
-use mathlib.Core.Path.{_≡_, refl, sym, ap, _∙_}
-use mathlib.Core.Bool.{Bool, true, false, false≢true}
+use mathlib.Core.Path.{_≡_, refl}
+use mathlib.Core.Bool.{true, false, false≢true}
 use mathlib.Core.List.{List, [], _∷_}
 use mathlib.Core.Option.{Option, none, some}
 use native.Mathlib.Omega.{arith}
-use lib.Dec.{eqb}
-use Rattle.octets.specs.Basics.{octets, pick, _or_, single, same}
+use Rattle.octets.specs.Basics.{octets, _or_, single, same}
 use Rattle.octets.specs.Pieces.{split}
-use Rattle.octets.specs.Optional.{map?, then?, isSome, when, guard, given, each}
+use Rattle.octets.specs.Optional.{isSome, guard, given, each}
 use Rattle.octets.specs.Classes.{upper}
 use Rattle.octets.specs.Decimal.{valueOf}
 use Rattle.octets.proofs.Cases.{cases, All}
 use Rattle.octets.proofs.Optional.{when-is, guard-is, map-is, then-is, some-is, each-none, each-is}
 use Rattle.octets.proofs.Pieces.{split-filled}
 use Rattle.calendar.specs.Dates.{momentOf}
-use Rattle.calendar.specs.Moments.{momentFrom, isMoment}
-use Rattle.calendar.specs.Recurrence.{Sort, moment, Key, keys, keyIn, keyNamed, itemOf, untilOf, several, Part, part, keyedPart, partOf, isRule, partsOf}
+use Rattle.calendar.specs.Moments.{isMoment}
+use Rattle.calendar.specs.Recurrence.{moment, Key, keys, keyIn, keyNamed, itemOf, untilOf, several, Part, part, keyedPart, partOf, isRule, partsOf}
 use Rattle.calendar.specs.Rules.{firstOf, valueNamed, untilMoment, endOf, ruleFrom, readRule}
 use Rattle.calendar.specs.declared.rules.End.the-variants.{Count, Until, Open}
 use Rattle.calendar.specs.declared.rules.Rule.{Rule}

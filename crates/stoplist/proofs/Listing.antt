@@ -1,14 +1,13 @@
 -- What a plan's run lays into the list is the definition's answer.
 use Prim.Native.Nat.{ℕ, _-_}
-use mathlib.Core.Path.{_≡_, refl, sym, ap, _∙_}
+use mathlib.Core.Path.{_≡_, refl, ap, _∙_}
 use mathlib.Core.Bool.{Bool, true, false, not, false≢true}
-use mathlib.Core.List.{List, [], _++_, map}
+use mathlib.Core.List.{List, [], map}
 use mathlib.Core.Option.{Option, none, some}
 use native.Mathlib.Omega.{arith}
 use native.Mathlib.Nat.{sub-zero}
 use lib.Dec.{eqb}
-use lib.ListN.{length, drop}
-use Rattle.octets.specs.Basics.{pick}
+use lib.ListN.{length}
 use Rattle.octets.specs.Optional.{guard}
 use Rattle.octets.specs.Limits.{lastYear}
 use Rattle.octets.specs.Classes.{between}
@@ -28,7 +27,7 @@ use Rattle.stoplist.specs.declared.Listed.{Listed}
 use Rattle.stoplist.specs.declared.Listed.the-variants.{Stops, Refused}
 use Rattle.stoplist.specs.declared.plans.Plan.{Plan}
 use Rattle.stoplist.specs.Stops.{startOf, hoursOf, served, momentsFrom, stop, listOf, answer, outcome}
-use Rattle.stoplist.specs.Runs.{runAt, stopsOf, realEnd, Sound, Begins, Laid}
+use Rattle.stoplist.specs.Runs.{runAt, stopsOf, realEnd, Begins, Laid}
 use Rattle.stoplist.specs.Plans.{idle, refusedFor, planned, planOf, concluded, told}
 use Rattle.stoplist.proofs.Running.{at-sound, stops-at, ended-stops}
 use Rattle.stoplist.proofs.Ends.{rule-real}

@@ -1,12 +1,11 @@
 -- A plan's answer is the definition's: its refusal, or its run of stops.
 use Prim.Native.Nat.{ℕ}
-use mathlib.Core.Path.{_≡_, refl, sym, ap, _∙_}
-use mathlib.Core.Bool.{Bool, true, false, not}
+use mathlib.Core.Path.{_≡_, refl}
+use mathlib.Core.Bool.{true, false}
 use mathlib.Core.List.{List}
-use mathlib.Core.Option.{Option, none, some}
+use mathlib.Core.Option.{none, some}
 use borrow.Author.Tests.{eq-eqb, ne-eqb}
 use lib.Dec.{eqb}
-use Rattle.octets.specs.Basics.{pick}
 use Rattle.octets.specs.Optional.{when, guard}
 use Rattle.calendar.specs.Moments.{readMoment, sameKind}
 use Rattle.calendar.specs.Rules.{readRule}

@@ -1,10 +1,9 @@
 -- Seconds of a moment, and ends, as the code reckons them.
 use Prim.Native.Nat.{ℕ, zero, suc, _+_, _-_, _*_}
-use mathlib.Core.Path.{_≡_, refl, sym, ap, _∙_}
+use mathlib.Core.Path.{_≡_, refl}
 use mathlib.Core.Bool.{Bool, true, false}
-use mathlib.Core.Option.{Option, none, some}
+use mathlib.Core.Option.{none, some}
 use native.Mathlib.Numerals.{sub-one}
-use Rattle.octets.specs.Basics.{pick, _and_}
 use Rattle.octets.specs.Optional.{when}
 use Rattle.octets.proofs.Cases.{and-false-right}
 use Rattle.calendar.specs.Gregorian.{isDay, dayNumber}
@@ -12,8 +11,7 @@ use Rattle.calendar.specs.Dates.{isClock}
 use Rattle.calendar.specs.Moments.{isMoment, hourNumber, secondNumber}
 use Rattle.calendar.specs.declared.dates.Date.{Date}
 use Rattle.calendar.specs.declared.moments.Moment.{Moment}
-use Rattle.calendar.specs.declared.rules.End.{End}
-use Rattle.calendar.specs.declared.rules.End.the-variants.{Count, Until, Open}
+use Rattle.calendar.specs.declared.rules.End.the-variants.{Count}
 use Rattle.calendar.proofs.Hours.{some-when, none-when}
 use Rattle.stoplist.specs.Stops.{oneLess}
 use Rattle.stoplist.specs.Runs.{seconds}

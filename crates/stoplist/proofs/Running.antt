@@ -1,22 +1,21 @@
 -- A run is the definition's list of moments, one at a time.
-use Prim.Native.Nat.{ℕ, zero, suc, _+_, _-_, _≤_, _<_}
+use Prim.Native.Nat.{ℕ, zero, suc, _+_, _-_}
 use mathlib.Core.Path.{_≡_, refl, sym, ap, _∙_}
-use mathlib.Core.Bool.{Bool, true, false, false≢true}
-use mathlib.Core.List.{List, [], _∷_, map}
+use mathlib.Core.Bool.{true, false, false≢true}
+use mathlib.Core.List.{[], _∷_, map}
 use mathlib.Core.Option.{Option, none, some}
 use native.Mathlib.Omega.{arith}
 use native.Mathlib.Numerals.{add-one}
 use borrow.Author.Tests.{lt-ltb, ltb-true, ltb-false}
 use lib.Dec.{ltb}
-use Rattle.octets.specs.Basics.{pick, _and_}
-use Rattle.octets.proofs.Cases.{cases, both, not-both, and-true}
+use Rattle.octets.specs.Basics.{_and_}
+use Rattle.octets.proofs.Cases.{cases, both, not-both}
 use Rattle.calendar.specs.Moments.{isMoment, secondNumber, notBehind, moved}
 use Rattle.calendar.specs.Answers.{movedOn}
 use Rattle.calendar.specs.declared.moments.Moment.{Moment}
 use Rattle.calendar.specs.declared.rules.End.{End}
 use Rattle.calendar.specs.declared.rules.End.the-variants.{Count, Until, Open}
 use Rattle.calendar.proofs.Real.{moved-real}
-use Rattle.stoplist.specs.declared.Stop.{Stop}
 use Rattle.stoplist.specs.declared.runs.Run.{Run}
 use Rattle.stoplist.specs.Stops.{allows, oneLess, momentsFrom, stop}
 use Rattle.stoplist.specs.Runs.{seconds, within, runAt, nextFrom, nextRun, advanced, stopsOf, realEnd, Sound}

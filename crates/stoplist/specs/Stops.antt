@@ -6,7 +6,7 @@ use mathlib.Core.Option.{Option, none, some}
 use lib.Dec.{eqb, leb}
 use lib.ListN.{length, drop}
 use Rattle.octets.specs.Basics.{pick, _and_, _or_}
-use Rattle.octets.specs.Optional.{guard, given}
+use Rattle.octets.specs.Optional.{guard}
 use Rattle.octets.specs.Answers.{number, Answer, refused, accepted, then, orElse, unless}
 use Rattle.calendar.specs.Moments.{readMoment, moved, notBehind, sameKind}
 use Rattle.calendar.specs.Rules.{readRule}

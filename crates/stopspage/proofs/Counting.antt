@@ -1,19 +1,18 @@
 -- A run whose last moment is reached has as many stops as its end and the room leave.
-use Prim.Native.Nat.{ℕ, zero, suc, _+_, _-_, _*_, _/_, _%_, _≤_, _<_, min}
-use mathlib.Core.Path.{_≡_, refl, sym, ap, _∙_}
-use mathlib.Core.Bool.{Bool, true, false}
-use mathlib.Core.List.{List, [], _∷_, map}
+use Prim.Native.Nat.{ℕ, zero, suc, _+_, _-_, _*_, _/_, _≤_, _<_}
+use mathlib.Core.Path.{_≡_, refl, sym, ap}
+use mathlib.Core.Bool.{true, false}
+use mathlib.Core.List.{[]}
 use mathlib.Core.Option.{Option, none, some}
 use native.Mathlib.Omega.{arith}
-use native.Mathlib.Nat.{sub-zero, suc-mul, mul-le-mul-left, mul-le-mul-right}
+use native.Mathlib.Nat.{suc-mul, mul-le-mul-left, mul-le-mul-right}
 use borrow.Author.Tests.{lt-ltb, ltb-true, le-leb, lt-leb, leb-true}
 use lib.Dec.{ltb, leb}
 use lib.ListN.{length, length-map}
-use Rattle.octets.specs.Basics.{pick, _and_}
 use Rattle.octets.specs.Optional.{isSome, when}
 use Rattle.octets.proofs.Cases.{both, and-false-right}
 use Rattle.octets.proofs.Optional.{when-is, some-is}
-use Rattle.calendar.specs.Gregorian.{dayNumber, dayCount, dateAt}
+use Rattle.calendar.specs.Gregorian.{dayCount}
 use Rattle.calendar.specs.Moments.{isMoment, hourNumber, atHour, moved}
 use Rattle.calendar.specs.Answers.{movedOn}
 use Rattle.calendar.specs.declared.moments.Moment.{Moment}

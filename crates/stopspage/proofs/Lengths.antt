@@ -1,14 +1,14 @@
 -- A page is not longer than 2,715 octets: a head of 27, and 64 lines of 42.
 use Prim.Native.Nat.{ℕ, zero, suc, _+_, _*_, _≤_}
 use Prim.Native.Char.{code}
-use mathlib.Core.Path.{_≡_, refl, sym, ap, _∙_}
+use mathlib.Core.Path.{_≡_, refl, sym}
 use mathlib.Core.Bool.{Bool, true, false, not}
-use mathlib.Core.List.{List, [], _∷_, _++_, map}
+use mathlib.Core.List.{List, [], _∷_, map}
 use mathlib.Core.Option.{Option, none, some}
 use native.Mathlib.Omega.{arith}
 use lib.Dec.{eqb, leb}
 use lib.ListN.{length, getD, length-append, length-map}
-use Rattle.octets.specs.Basics.{octets, pick, _and_}
+use Rattle.octets.specs.Basics.{octets, _and_}
 use Rattle.octets.specs.Pieces.{split}
 use Rattle.octets.specs.Optional.{given, guard}
 use Rattle.octets.specs.Classes.{isDigit}

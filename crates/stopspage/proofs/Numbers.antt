@@ -1,14 +1,13 @@
 -- The most stops, as the code reads them.
-use Prim.Native.Nat.{ℕ, zero, suc, _+_, _≤_, _<_, min}
-use mathlib.Core.Path.{_≡_, refl, sym, ap, _∙_}
-use mathlib.Core.Bool.{Bool, true, false}
-use mathlib.Core.List.{List, [], _∷_}
-use mathlib.Core.Option.{Option, none, some}
+use Prim.Native.Nat.{ℕ, _+_, _≤_, _<_, min}
+use mathlib.Core.Path.{_≡_, ap}
+use mathlib.Core.Bool.{true, false}
+use mathlib.Core.List.{List}
+use mathlib.Core.Option.{none, some}
 use native.Mathlib.Omega.{arith}
 use borrow.Author.Tests.{le-leb, lt-leb}
-use lib.Dec.{eqb, leb}
 use lib.ListN.{length, drop, length-drop}
-use Rattle.octets.specs.Basics.{_and_, same}
+use Rattle.octets.specs.Basics.{same}
 use Rattle.octets.proofs.Classes.{same-itself, same-length}
 use Rattle.octets.specs.Optional.{when}
 use Rattle.octets.specs.Decimal.{digits, valueOf, trim}

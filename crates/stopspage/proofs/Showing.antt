@@ -1,8 +1,8 @@
 -- Stops as they are printed, one after the other as a run has them, and a moment by the front of its text.
 use Prim.Native.Nat.{ℕ, suc, _+_, _-_, _≤_}
 use mathlib.Core.Path.{_≡_, refl, sym, ap, _∙_}
-use mathlib.Core.Bool.{Bool, true, false}
-use mathlib.Core.List.{List, [], _∷_, _++_}
+use mathlib.Core.Bool.{true, false}
+use mathlib.Core.List.{List, [], _++_}
 use native.Mathlib.Omega.{arith}
 use native.Mathlib.Nat.{sub-zero}
 use native.Mathlib.Numerals.{add-one}
@@ -11,7 +11,6 @@ use Rattle.octets.specs.Decimal.{figures}
 use Rattle.calendar.specs.declared.moments.Kind.{Kind}
 use Rattle.calendar.specs.declared.moments.Kind.the-variants.{Day, Local, Utc}
 use Rattle.calendar.specs.declared.moments.Moment.{Moment}
-use Rattle.stoplist.specs.declared.Stop.{Stop}
 use Rattle.stoplist.specs.declared.runs.Run.{Run}
 use Rattle.stoplist.specs.Runs.{nextRun, advanced, stopsOf, Sound}
 use Rattle.stoplist.proofs.Running.{next-at, next-sound, next-stops, advances, ended-stops}

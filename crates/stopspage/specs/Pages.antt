@@ -2,7 +2,7 @@
 use Prim.Native.Nat.{ℕ, _-_, _*_, min}
 use Prim.Native.Char.{code}
 use mathlib.Core.Bool.{Bool}
-use mathlib.Core.List.{List, [], _∷_}
+use mathlib.Core.List.{List, _∷_}
 use mathlib.Core.Option.{Option, none, some}
 use lib.Dec.{leb}
 use Rattle.octets.specs.Basics.{_and_}

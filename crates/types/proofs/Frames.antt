@@ -1,5 +1,5 @@
 -- Frames: their octets in hexadecimal, and the rows that they are.
-use Prim.Native.Nat.{ℕ, zero, suc, _+_, _-_, _*_, _≤_, _<_}
+use Prim.Native.Nat.{ℕ, suc, _+_, _-_, _*_, _≤_, _<_}
 use mathlib.Core.Path.{_≡_, refl, sym, ap, _∙_}
 use mathlib.Core.Bool.{Bool, true, false, not}
 use mathlib.Core.List.{List, [], _∷_, _++_, append-assoc, append-nil}
@@ -13,12 +13,12 @@ use lib.Seq.{take-suc-set}
 use Rattle.octets.specs.Basics.{octets, pick, _and_, _or_, all, same}
 use Rattle.octets.specs.Optional.{map?, both?, then?, isSome, when}
 use Rattle.octets.specs.Classes.{between, hexDigit}
-use Rattle.octets.proofs.Cases.{cases, same?, never, both, either, and-assoc, and-false-right}
+use Rattle.octets.proofs.Cases.{same?, never, both, and-assoc, and-false-right}
 use Rattle.octets.proofs.Classes.{within-between, below-between, above-between, between-true}
 use Rattle.octets.proofs.Optional.{missing, some-same, both-is, when-true}
 use Rattle.octets.proofs.Positions.{here, ended, from}
 use Rattle.types.specs.Codes.{binary, utcOffset, splits}
-use Rattle.types.specs.Table.{Entry, entry, Table}
+use Rattle.types.specs.Table.{Entry, entry}
 use Rattle.types.specs.Laid.{laidRow}
 use Rattle.types.specs.Rows.{octetOf, frameOf, rowOctet, isRow, entryOf, rowOf}
 

@@ -6,25 +6,25 @@ use mathlib.Core.Bool.{Bool, true, false, not}
 use mathlib.Core.List.{List, [], _∷_, _++_, map, append-assoc, append-nil}
 use mathlib.Core.Option.{Option, none, some}
 use native.Mathlib.Omega.{arith}
-use borrow.Author.Tests.{ltb-true, ltb-false, le-leb, lt-leb, leb-true, eqb-true, not-true}
+use borrow.Author.Tests.{ltb-true, ltb-false, le-leb, lt-leb, eqb-true, not-true}
 use lib.Dec.{eqb, leb, ltb, leb·zero}
 use lib.ListN.{length, take, drop, length-append, length-drop}
 use lib.Seq.{drop-drop}
-use Rattle.octets.specs.Basics.{pick, _and_, _or_, any, all, filled, same, among, twice}
+use Rattle.octets.specs.Basics.{pick, _or_, any, all, filled, same, among, twice}
 use Rattle.octets.specs.Pieces.{split}
 use Rattle.octets.specs.Optional.{map?, both?, then?, isSome, when, guard, each}
 use Rattle.octets.specs.Classes.{isUpper, isDigit, isLower, between, upperOctet, upper}
 use Rattle.octets.specs.Limits.{mostRows}
 use Rattle.octets.proofs.Cases.{cases, never, both, either, and-true, and-false-right, or-first, or-second, or-false, neither, any-append}
-use Rattle.octets.proofs.Classes.{between-true, below-between, above-between, same-is, same-itself, filled-some, upper-octet-other}
+use Rattle.octets.proofs.Classes.{between-true, below-between, filled-some, upper-octet-other}
 use Rattle.octets.proofs.Pieces.{split-filled}
 use Rattle.octets.proofs.Positions.{ended}
-use Rattle.octets.proofs.Optional.{missing, some-same, guard-is, when-is, then-is}
-use Rattle.types.specs.Table.{Row, Entry, entry, Table, namesOf, find, defaults}
+use Rattle.octets.proofs.Optional.{missing, when-is, then-is}
+use Rattle.types.specs.Table.{Entry, entry, Table, namesOf, find, defaults}
 use Rattle.types.specs.Rows.{rowOctet, isRow, frameOf, entryOf, rowOf, endedLines, rowsOf, mayJoin}
 use Rattle.types.specs.Reading.{unlisted, firstLine}
 use Rattle.types.proofs.Lines.{one-line, more-lines}
-use Rattle.types.proofs.Frames.{Row-told, row-told}
+use Rattle.types.proofs.Frames.{row-told}
 
 -- a name of a row is in uppercase
 row-octet-upper : (c : ℕ) → rowOctet c ≡ true → upperOctet c ≡ c

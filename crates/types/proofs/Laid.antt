@@ -1,19 +1,19 @@
 -- Rows laid out as octets, and read from them again.
-use Prim.Native.Nat.{ℕ, zero, suc, _+_, _-_, _*_, _≤_, _<_}
+use Prim.Native.Nat.{ℕ, zero, suc, _+_, _-_, _≤_, _<_}
 use mathlib.Core.Path.{_≡_, refl, sym, ap, _∙_}
 use mathlib.Core.Bool.{Bool, true, false}
 use mathlib.Core.List.{List, [], _∷_, _++_, append-assoc}
-use mathlib.Core.Option.{Option, none, some}
+use mathlib.Core.Option.{none, some}
 use native.Mathlib.Omega.{arith}
-use native.Mathlib.Numerals.{add-one, add-two}
+use native.Mathlib.Numerals.{add-two}
 use borrow.Author.Tests.{le-leb, lt-leb}
-use lib.Dec.{eqb, leb}
+use lib.Dec.{eqb}
 use lib.ListN.{length, getD, take, drop, length-append, length-drop}
 use lib.Seq.{drop-append-seam, take-append-seam, drop-drop, getD-drop}
 use Rattle.octets.specs.Basics.{pick, same}
 use Rattle.octets.specs.Classes.{upper}
 use Rattle.octets.proofs.Positions.{here, ended}
-use Rattle.types.specs.Table.{Row, Entry, entry, Table, find}
+use Rattle.types.specs.Table.{Entry, entry, Table, find}
 use Rattle.types.specs.Laid.{laidRow, laid, rowsFrom, rowsIn}
 
 rows-past : (k : ℕ) (s : List ℕ) → rowsFrom k s ≡ rowsIn (drop k s)

@@ -1,13 +1,13 @@
 -- Looking a name up: in two tables, by its first letter, in either case.
 use Prim.Native.Nat.{ℕ}
 use mathlib.Core.Path.{_≡_, refl, sym, ap, _∙_}
-use mathlib.Core.Bool.{Bool, true, false}
+use mathlib.Core.Bool.{false}
 use mathlib.Core.List.{List, [], _∷_, _++_}
 use mathlib.Core.Option.{Option, none, some}
 use borrow.Author.Tests.{eq-eqb}
 use lib.Dec.{eqb}
 use lib.ListN.{getD}
-use Rattle.octets.specs.Basics.{pick, same}
+use Rattle.octets.specs.Basics.{same}
 use Rattle.octets.specs.Optional.{or?}
 use Rattle.octets.specs.Classes.{upperOctet, upper}
 use Rattle.octets.proofs.Cases.{cases, never}

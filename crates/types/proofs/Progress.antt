@@ -9,21 +9,20 @@ use native.Mathlib.Omega.{arith}
 use borrow.Author.Tests.{lt-ltb, le-ltb}
 use lib.Dec.{eqb, ltb}
 use lib.ListN.{length, take, drop, length-append, length-drop}
-use Rattle.octets.specs.Basics.{pick}
 use Rattle.octets.specs.Pieces.{split}
 use Rattle.octets.specs.Optional.{map?, then?, isSome, guard}
 use Rattle.octets.specs.Limits.{mostRows}
-use Rattle.octets.specs.Pen.{Pen, pen, wrote, Wrote}
-use Rattle.octets.proofs.Optional.{missing, some-same, map-is, guard-is, then-is, when-is}
+use Rattle.octets.specs.Pen.{pen, wrote, Wrote}
+use Rattle.octets.proofs.Optional.{missing, map-is, guard-is, then-is, when-is}
 use Rattle.octets.proofs.Pen.{Landed, landed, kept, nothing, as-text, then}
 use Rattle.octets.proofs.Classes.{between-true}
 use Rattle.types.specs.Table.{Entry, entry, Table, find, defaults}
 use Rattle.types.specs.Rows.{isRow, frameOf, entryOf, rowOf, rowsOf, mayJoin}
-use Rattle.types.specs.Laid.{laidRow, laid, rowsIn, tableIn, roomForRows}
+use Rattle.types.specs.Laid.{laidRow, laid, tableIn, roomForRows}
 use Rattle.types.specs.Reading.{unlisted, firstLine, penBehind}
 use Rattle.types.specs.declared.rows.Laid.the-variants.{Upto, Malformed}
 use Rattle.types.proofs.Lines.{line-within}
-use Rattle.types.proofs.Frames.{Row-told, row-told}
+use Rattle.types.proofs.Frames.{row-told}
 use Rattle.types.proofs.Laid.{rows-again, laid-append}
 use Rattle.types.proofs.Joining.{added, joins, joins-file, joins-end, joins-line}
 

@@ -2,30 +2,29 @@
 use Prim.Native.Nat.{ℕ, suc, _+_, _*_, _≤_, _<_}
 use Prim.Native.Char.{code}
 use mathlib.Core.Path.{_≡_, refl, sym, ap, _∙_}
-use mathlib.Core.Bool.{true, false, not}
+use mathlib.Core.Bool.{not}
 use mathlib.Core.List.{List, [], _∷_, _++_}
 use mathlib.Core.Option.{Option, none, some}
 use native.Mathlib.Omega.{arith}
 use borrow.Author.Tests.{lt-ltb, le-ltb, le-leb, leb-true}
-use lib.Dec.{leb, ltb}
+use lib.Dec.{leb}
 use lib.ListN.{length, take, drop, replicate, length-append}
 use lib.Seq.{take-append-seam}
-use Rattle.octets.specs.Basics.{pick, _and_, twice}
+use Rattle.octets.specs.Basics.{twice}
 use Rattle.octets.specs.Pieces.{split}
 use Rattle.octets.specs.Optional.{map?, then?, guard, each}
 use Rattle.octets.specs.Limits.{mostRows}
-use Rattle.octets.specs.Pen.{Pen, pen, wrote, Wrote}
-use Rattle.octets.specs.Answers.{Answer, refused, accepted, then, orElse, number, Settled, settled, zeroed, answer, outcome, finished}
+use Rattle.octets.specs.Pen.{pen, wrote, Wrote}
+use Rattle.octets.specs.Answers.{refused, accepted, then, orElse, number, Settled, settled, zeroed, answer, outcome, finished}
 use Rattle.octets.specs.declared.Refusal.{Refusal}
 use Rattle.octets.specs.declared.Refusal.the-variants.{TextTooLong, RowsMalformed, NotClean, NotContentLine, NotPaired, TooDeep, BadParameter, BadEncoding, BadValue, NoRoom, NotJson, NotJcal, BadStart, BadRule, NotServed}
-use Rattle.octets.specs.declared.Converted.{Converted}
 use Rattle.octets.specs.declared.Converted.the-variants.{Written, Refused}
 use Rattle.octets.proofs.Cases.{both}
 use Rattle.octets.proofs.Limits.{most-rows}
-use Rattle.octets.proofs.Optional.{missing, map-is, guard-is, then-is, each-none, each-is}
+use Rattle.octets.proofs.Optional.{map-is, guard-is, then-is, each-none, each-is}
 use Rattle.octets.proofs.Answers.{finished-answer}
-use Rattle.octets.proofs.Pen.{Landed, landed, kept}
-use Rattle.types.specs.Table.{Entry, Table, namesOf, defaults}
+use Rattle.octets.proofs.Pen.{landed, kept}
+use Rattle.types.specs.Table.{Table, namesOf, defaults}
 use Rattle.types.specs.Rows.{rowOf, endedLines, rowsOf, mayJoin, tableOf}
 use Rattle.types.specs.Laid.{laidRow, laid, rowsIn, tableIn, laidOf, roomForRows, readRows}
 use Rattle.types.specs.Reading.{penBehind}

@@ -1,22 +1,21 @@
 -- Tables that a file makes: what their rows are, what a lookup in them tells, and what it means that a newer table keeps the rows of an older one.
-use Prim.Native.Nat.{ℕ, _+_, _≤_, _<_}
+use Prim.Native.Nat.{ℕ, _+_, _≤_}
 use Prim.Native.Char.{code}
 use mathlib.Core.Path.{_≡_, refl, sym, ap, _∙_}
 use mathlib.Core.Bool.{Bool, true, false, not}
 use mathlib.Core.Logic.{_⊎_, inl, inr, ⊎-elim}
 use mathlib.Core.List.{List, [], _∷_, _++_, List·Memᴰ, List·Memᴰ·head, List·Memᴰ·tail, List·Memᴰ·cases-cons, List·Memᴰ·not-nil}
 use mathlib.Core.Option.{Option, none, some}
-use native.Mathlib.Omega.{arith}
-use borrow.Author.Tests.{not-true, eqb-true}
+use borrow.Author.Tests.{not-true}
 use lib.Dec.{eqb, leb}
 use lib.ListN.{length}
-use Rattle.octets.specs.Basics.{octets, pick, _and_, _or_, all, any, same, among, twice}
+use Rattle.octets.specs.Basics.{octets, pick, _or_, all, any, same, among, twice}
 use Rattle.octets.specs.Pieces.{split}
-use Rattle.octets.specs.Optional.{map?, then?, guard, each}
+use Rattle.octets.specs.Optional.{map?, guard, each}
 use Rattle.octets.specs.Classes.{between, isUpper, isDigit, isLower, upperOctet, upper, lower, sameName}
 use Rattle.octets.specs.Limits.{mostRows}
-use Rattle.octets.specs.Answers.{Answer, refused, accepted, orElse}
-use Rattle.octets.proofs.Cases.{cases, same?, never, both, either, neither, or-first, or-second, or-false, All, All-append, all-All}
+use Rattle.octets.specs.Answers.{accepted}
+use Rattle.octets.proofs.Cases.{cases, never, both, neither, or-first, or-second, All, All-append, all-All}
 use Rattle.octets.proofs.Classes.{between-true, same-is, same-itself, upper-lower, upper-twice}
 use Rattle.octets.proofs.Optional.{missing, some-same, map-is, guard-is, then-is, when-is, each-none, each-is}
 use Rattle.octets.proofs.Answers.{orElse-accepted}
@@ -93,14 +92,6 @@ module _ (t : Table) (w : Well-formed t) (n : List ℕ) (r : Row) (h : find t n 
   found-name =
       let k = neither (same (upper n) (octets "BEGIN")) (same (upper n) (octets "END")) (not-true (same (upper n) (octets "BEGIN") or same (upper n) (octets "END")) (found-told .no-word)) in
       (found-told .spelt, k .0, k .1)
-
--- BEGIN and END are in no table
-pub keyword-nowhere : (t : Table) → Well-formed t → (n : List ℕ) → (sameName n (octets "BEGIN") or sameName n (octets "END")) ≡ true → find t n ≡ none
-keyword-nowhere t w n k = by (find t n) refl
-  where
-    by : (o : Option Row) → find t n ≡ o → o ≡ none
-    by none e = refl
-    by (some r) e = let f = found-name t w n r e in never k (or-false (f .1) (f .2))
 
 -- the row that a table has under a name, and the name's one row
 found-row {ℓ} : {P : Type ℓ} (t : Table) (n : List ℕ) (r : Row) → find t n ≡ some r → ((e : Entry) → List·Memᴰ e t → e .name ≡ upper n → e .row ≡ r → P) → P

@@ -1,21 +1,20 @@
 -- The types' names and codes.
 use Prim.Native.Nat.{ℕ, zero, suc, _+_, _-_, _*_, _≤_, _<_}
 use Prim.Native.Char.{code}
-use mathlib.Core.Path.{_≡_, refl, sym, ap, _∙_}
+use mathlib.Core.Path.{_≡_, refl, sym}
 use mathlib.Core.Bool.{Bool, true, false, not}
 use mathlib.Core.List.{List, [], _∷_, _++_}
-use mathlib.Core.Option.{Option, none, some}
 use native.Mathlib.Omega.{arith}
 use borrow.Author.Tests.{leb-true, eqb-true, eqb-false, not-true}
 use lib.Dec.{eqb, leb}
 use lib.ListN.{length, getD, take, drop, replicate, List·getD-eq-default}
-use Rattle.octets.specs.Basics.{octets, pick, _and_, _or_, all, filled, same}
+use Rattle.octets.specs.Basics.{octets, _and_, _or_, all, filled, same}
 use Rattle.octets.specs.Optional.{given}
 use Rattle.octets.specs.Classes.{between, isLower, isDigit, lowerNameOctet, isLowerName, lower, upperOctet, upper}
 use Rattle.octets.proofs.Cases.{cases, same?, both, either}
 use Rattle.octets.proofs.Classes.{same-is}
 use Rattle.types.specs.Codes.{typeNames, typeName, placeFrom, codeNamed}
-use Rattle.types.specs.Table.{Row, Entry, Table, find}
+use Rattle.types.specs.Table.{Row, find}
 use Rattle.types.specs.Reading.{numbered, types}
 use Rattle.types.proofs.Names.{same-lower}
 

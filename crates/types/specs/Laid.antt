@@ -1,6 +1,5 @@
 -- Rows laid out as octets, as the code holds them: for each row the length of its name, its type code, 0 for one value or 1 for many, and its name.
 use Prim.Native.Nat.{ℕ, zero, suc, _+_, _*_}
-use mathlib.Core.Bool.{true, false}
 use mathlib.Core.List.{List, [], _∷_, _++_}
 use mathlib.Core.Option.{Option, none, some}
 use lib.Dec.{eqb, leb, ltb}

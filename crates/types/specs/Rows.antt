@@ -1,8 +1,7 @@
 -- Added rows: the content of rows.hex (01, Which type, and number 2), and when a newer file keeps the rows of an older one (01, How much each answer fixes).
 use Prim.Native.Nat.{ℕ, _+_, _*_}
 use Prim.Native.Char.{code}
-use mathlib.Core.Path.{_≡_}
-use mathlib.Core.Bool.{Bool, true, false, not}
+use mathlib.Core.Bool.{Bool, not}
 use mathlib.Core.List.{List, [], _∷_, _++_, List·Memᴰ}
 use mathlib.Core.Option.{Option, none, some}
 use lib.Dec.{eqb, leb}
@@ -12,7 +11,7 @@ use Rattle.octets.specs.Pieces.{split}
 use Rattle.octets.specs.Optional.{map?, both?, then?, when, guard, each}
 use Rattle.octets.specs.Classes.{between, isUpper, isDigit, hexDigit}
 use Rattle.octets.specs.Limits.{mostRows}
-use Rattle.octets.specs.Answers.{Answer, refused, accepted, orElse}
+use Rattle.octets.specs.Answers.{Answer, orElse}
 use Rattle.types.specs.Codes.{binary, utcOffset, splits}
 use Rattle.types.specs.Table.{Entry, entry, Table, namesOf, defaults}
 

@@ -1,5 +1,4 @@
 -- `console::print_answer` meets its contract.
-use mathlib.Core.Path.{refl}
 use borrow.Author.Needs.{needs}
 use Rattle.octets.specs.Answers.{outcome}
 use Rattle.console.proofs.print_answer.Statement.{statement}

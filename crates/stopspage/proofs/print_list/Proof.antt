@@ -1,5 +1,4 @@
 -- `stopspage::print_list` meets its contract: what the plan tells.
-use mathlib.Core.Path.{sym}
 use Rattle.octets.proofs.Pen.{then, as-text}
 use Rattle.stopspage.proofs.Answering.{begins, shows-stops, shows-refusal}
 use borrow.Author.Needs.{needs}

@@ -4,7 +4,7 @@ use mathlib.Core.Path.{sym, _∙_}
 use native.Mathlib.Omega.{arith}
 use borrow.Author.Needs.{needs}
 use borrow.Author.Tests.{not-true, not-false}
-use lib.ListN.{length, drop, length-take, length-drop}
+use lib.ListN.{length, length-take, length-drop}
 use Rattle.calendar.proofs.Turns.{follows, Passed, passed-none, part-ends, part-begins, part-inside, test-refused, test-on, test-end}
 use Rattle.calendar.proofs.rules.is_rule.Statement.{statement}
 use Rattle.calendar.proofs.rules.is_rule.Tie as tie

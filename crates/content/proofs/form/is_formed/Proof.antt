@@ -1,5 +1,4 @@
 -- `content::form::is_formed` meets its contract.
-use lib.ListN.{length, drop}
 use native.Mathlib.Omega.{arith}
 use mathlib.Core.Path.{sym, _∙_}
 use borrow.Author.Needs.{needs}

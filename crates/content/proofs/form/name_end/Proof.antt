@@ -4,7 +4,7 @@ use Rattle.content.proofs.Scanning.{until-none, until-here, until-on}
 use Rattle.content.specs.Scan.{until}
 use lib.ListN.{length, drop}
 use native.Mathlib.Omega.{arith}
-use mathlib.Core.Path.{_≡_, refl, sym, _∙_}
+use mathlib.Core.Path.{_≡_, refl}
 use Prim.Native.Nat.{_+_, _-_}
 use borrow.Author.Needs.{needs}
 use Rattle.content.proofs.form.name_end.Statement.{statement}

@@ -1,5 +1,4 @@
 -- `content::form::value_end` meets its contract.
-use native.Mathlib.Omega.{arith}
 use mathlib.Core.Path.{sym, _∙_}
 use borrow.Author.Needs.{needs}
 use Rattle.content.proofs.Forming.{value-plain, value-quoted, value-open}

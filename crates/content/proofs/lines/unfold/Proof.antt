@@ -8,7 +8,7 @@ use Rattle.octets.specs.Pen.{pen}
 use lib.ListN.{length, drop}
 use native.Mathlib.Omega.{arith}
 use mathlib.Core.Path.{_≡_, refl, sym, _∙_}
-use Prim.Native.Nat.{_+_, _-_, _≤_}
+use Prim.Native.Nat.{_-_}
 use borrow.Author.Needs.{needs}
 use Rattle.content.proofs.lines.unfold.Statement.{statement}
 use Rattle.content.proofs.lines.unfold.Tie as tie

@@ -1,5 +1,5 @@
 -- `content::object::is_special` meets its contract.
-use borrow.Author.Tests.{eq-eqb, ne-eqb}
+use borrow.Author.Tests.{ne-eqb}
 use Rattle.content.specs.Object.{special}
 use Rattle.content.proofs.object.is_special.Statement.{statement}
 use Rattle.content.proofs.object.is_special.Tie as tie

@@ -1,14 +1,13 @@
 -- `content::object::put_decoded` meets its contract.
-use lib.ListN.{length, getD, drop}
+use lib.ListN.{length, drop}
 use native.Mathlib.Omega.{arith}
-use mathlib.Core.List.{List}
 use mathlib.Core.Bool.{false}
-use mathlib.Core.Path.{_≡_, refl, sym, ap, _∙_}
-use Prim.Native.Nat.{_+_, _-_}
+use mathlib.Core.Path.{_≡_, refl}
+use Prim.Native.Nat.{_-_}
 use borrow.Author.Needs.{needs}
-use Rattle.content.specs.Object.{standsFor, takes, special}
+use Rattle.content.specs.Object.{special}
 use Rattle.content.specs.Carets.{decoded, decodedFrom}
-use Rattle.json.specs.Print.{escaped, quoted}
+use Rattle.json.specs.Print.{quoted}
 use Rattle.octets.proofs.Pen.{Leads, leads-start, leads-on, leads-last, then}
 use Rattle.octets.specs.Pen.{pen}
 use Rattle.content.proofs.Decoding.{value-start, value-none, value-last, value-on, takes-some, takes-few}

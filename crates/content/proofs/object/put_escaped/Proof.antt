@@ -1,5 +1,5 @@
 -- `content::object::put_escaped` meets its contract.
-use borrow.Author.Tests.{eq-eqb, ne-eqb}
+use borrow.Author.Tests.{ne-eqb}
 use borrow.Author.Needs.{needs}
 use Rattle.json.specs.Print.{escaped}
 use Rattle.content.proofs.object.put_escaped.Statement.{statement}

@@ -2,11 +2,11 @@
 use lib.ListN.{length, drop}
 use native.Mathlib.Omega.{arith}
 use mathlib.Core.List.{_++_}
-use mathlib.Core.Path.{_≡_, refl, sym}
+use mathlib.Core.Path.{_≡_, sym}
 use Prim.Native.Nat.{_-_}
 use borrow.Author.Needs.{needs}
 use Rattle.json.specs.Print.{quoted}
-use Rattle.octets.proofs.Pen.{Leads, leads-start, leads-on, leads-last, then, as-text}
+use Rattle.octets.proofs.Pen.{Leads, leads-on, leads-last, then, as-text}
 use Rattle.octets.specs.Pen.{pen}
 use Rattle.octets.specs.Classes.{lower}
 use Rattle.octets.specs.Basics.{octets}

@@ -11,7 +11,7 @@ use Rattle.octets.proofs.Pen.{Leads, leads-start, leads-on, leads-last, then}
 use Rattle.octets.specs.Pen.{pen}
 use Rattle.content.proofs.Objects.{moreText, more-last, more-on}
 use Rattle.content.proofs.Separators.{oneOf}
-use Rattle.content.proofs.Scanning.{bare-low, bare-high}
+use Rattle.content.proofs.Scanning.{bare-high}
 use Rattle.content.proofs.object.put_more.Statement.{statement}
 use Rattle.content.proofs.object.put_more.Tie as tie
 

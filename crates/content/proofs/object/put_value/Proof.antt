@@ -1,5 +1,4 @@
 -- `content::object::put_value` meets its contract.
-use native.Mathlib.Omega.{arith}
 use borrow.Author.Needs.{needs}
 use Rattle.content.proofs.Objects.{value-wrote}
 use Rattle.content.proofs.object.put_value.Statement.{statement}

@@ -1,12 +1,8 @@
 -- `content::object::put_values` meets its contract.
-use native.Mathlib.Omega.{arith}
 use mathlib.Core.Path.{sym}
-use Prim.Native.Char.{code}
 use borrow.Author.Needs.{needs}
 use Rattle.octets.proofs.Pen.{then, as-text}
 use Rattle.content.proofs.Objects.{values-one, values-many}
-use Rattle.content.proofs.Separators.{oneOf}
-use Rattle.content.proofs.Scanning.{bare-high}
 use Rattle.content.proofs.object.put_values.Statement.{statement}
 use Rattle.content.proofs.object.put_values.Tie as tie
 

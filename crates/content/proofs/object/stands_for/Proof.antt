@@ -1,5 +1,5 @@
 -- `content::object::stands_for` meets its contract.
-use borrow.Author.Tests.{eq-eqb, ne-eqb}
+use borrow.Author.Tests.{ne-eqb}
 use Rattle.content.specs.Object.{standsFor}
 use Rattle.content.proofs.object.stands_for.Statement.{statement}
 use Rattle.content.proofs.object.stands_for.Tie as tie

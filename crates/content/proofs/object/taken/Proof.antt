@@ -1,5 +1,5 @@
 -- `content::object::taken` meets its contract.
-use borrow.Author.Tests.{eq-eqb, ne-eqb}
+use borrow.Author.Tests.{ne-eqb}
 use Rattle.content.specs.Object.{takes}
 use Rattle.content.proofs.object.taken.Statement.{statement}
 use Rattle.content.proofs.object.taken.Tie as tie

@@ -1,6 +1,5 @@
 -- `content::params::is_base64` meets its contract.
 use borrow.Author.Tests.{not-true, not-false}
-use native.Mathlib.Omega.{arith}
 use mathlib.Core.Path.{sym, _∙_}
 use borrow.Author.Needs.{needs}
 use Rattle.content.proofs.Telling.{base64-several, base64-one}

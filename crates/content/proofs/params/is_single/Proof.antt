@@ -1,5 +1,4 @@
 -- `content::params::is_single` meets its contract.
-use native.Mathlib.Omega.{arith}
 use mathlib.Core.Path.{sym, _∙_}
 use borrow.Author.Needs.{needs}
 use Rattle.octets.proofs.Positions.{part-length}

@@ -1,6 +1,5 @@
 -- `content::params::type_at` meets its contract.
 use borrow.Author.Tests.{not-true, not-false}
-use native.Mathlib.Omega.{arith}
 use mathlib.Core.Path.{sym, _∙_}
 use borrow.Author.Needs.{needs}
 use Rattle.content.proofs.Telling.{tells-several, tells-no-name, tells-unknown, tells-named}

@@ -1,8 +1,6 @@
 -- `content::parts::inner` meets its contract.
 use mathlib.Core.Path.{sym}
 use native.Mathlib.Omega.{arith}
-use mathlib.Core.Path.{_≡_}
-use borrow.Author.Needs.{needs}
 use Rattle.content.proofs.Tokens.{inner-empty, inner-plain, inner-lone, inner-quoted}
 use Rattle.content.proofs.Forming.{beyond}
 use Rattle.content.proofs.parts.inner.Statement.{statement}

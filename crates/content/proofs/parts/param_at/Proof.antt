@@ -1,5 +1,4 @@
 -- `content::parts::param_at` meets its contract.
-use native.Mathlib.Omega.{arith}
 use borrow.Author.Needs.{needs}
 use Rattle.content.proofs.Separators.{param-equals, param-bare}
 use Rattle.content.proofs.parts.param_at.Statement.{statement}

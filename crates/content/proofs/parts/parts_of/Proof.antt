@@ -1,5 +1,4 @@
 -- `content::parts::parts_of` meets its contract.
-use native.Mathlib.Omega.{arith}
 use borrow.Author.Needs.{needs}
 use Rattle.content.proofs.Separators.{cut-colon, cut-none}
 use Rattle.content.proofs.parts.parts_of.Statement.{statement}

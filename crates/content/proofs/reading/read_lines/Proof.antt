@@ -1,6 +1,5 @@
 -- `content::reading::read_lines` meets its contract.
 use borrow.Author.Tests.{not-true, not-false}
-use native.Mathlib.Omega.{arith}
 use mathlib.Core.Path.{sym, _∙_}
 use borrow.Author.Needs.{needs}
 use Rattle.content.proofs.Tested.{read-none, read-unclean, read-unformed, read-laid}

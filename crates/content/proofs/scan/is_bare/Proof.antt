@@ -1,6 +1,5 @@
 -- `content::scan::is_bare` meets its contract.
 use borrow.Author.Tests.{eq-eqb, ne-eqb}
-use borrow.Author.Needs.{needs}
 use Rattle.content.proofs.scan.is_bare.Statement.{statement}
 use Rattle.content.proofs.scan.is_bare.Tie as tie
 

@@ -1,7 +1,5 @@
 -- `content::scan::still_free` meets its contract.
-use Prim.Native.Nat.{ℕ}
 use mathlib.Core.Path.{refl}
-use borrow.Author.Needs.{needs}
 use Rattle.content.proofs.scan.still_free.Statement.{statement}
 use Rattle.content.proofs.scan.still_free.Tie as tie
 

@@ -1,8 +1,7 @@
 -- `content::twice::has_name` meets its contract.
 use lib.ListN.{length, drop}
-use native.Mathlib.Omega.{arith}
 use mathlib.Core.List.{map}
-use mathlib.Core.Path.{_≡_, refl, sym, _∙_}
+use mathlib.Core.Path.{_≡_, sym, _∙_}
 use Prim.Native.Nat.{_-_}
 use borrow.Author.Needs.{needs}
 use Rattle.content.specs.Parts.{paramsIn, nameOf}

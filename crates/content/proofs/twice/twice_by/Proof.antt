@@ -1,7 +1,6 @@
 -- `content::twice::twice_by` meets its contract.
 use Prim.Native.Nat.{_-_}
 use mathlib.Core.Path.{_≡_, refl, sym, _∙_}
-use native.Mathlib.Omega.{arith}
 use borrow.Author.Needs.{needs}
 use lib.ListN.{length, length-set}
 use Rattle.content.proofs.Walking.{Stands, first-stands, first-params, param-next}

@@ -1,6 +1,5 @@
 -- `json::strings::digit` meets its contract.
 use mathlib.Core.Path.{ap, _∙_}
-use native.Mathlib.Omega.{arith}
 use Rattle.octets.specs.Classes.{hexDigit}
 use borrow.Author.Needs.{needs}
 use Rattle.json.proofs.strings.digit.Statement.{statement}

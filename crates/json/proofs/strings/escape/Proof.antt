@@ -2,7 +2,7 @@
 use mathlib.Core.Path.{_≡_, sym, ap, _∙_}
 use native.Mathlib.Omega.{arith}
 use Prim.Native.Nat.{_+_, _<_}
-use lib.ListN.{length, drop, getD}
+use lib.ListN.{length, getD}
 use denote.Ref.{now}
 use Rattle.json.specs.Strings.{escapeOf}
 use Rattle.json.specs.Promise.{read, not-json}

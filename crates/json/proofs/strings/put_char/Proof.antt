@@ -1,5 +1,4 @@
 -- `json::strings::put_char` meets its contract.
-use native.Mathlib.Omega.{arith}
 use Rattle.json.proofs.StringLaws.{char-1, char-2, char-3, char-4}
 use borrow.Author.Needs.{needs}
 use Rattle.json.proofs.strings.put_char.Statement.{statement}

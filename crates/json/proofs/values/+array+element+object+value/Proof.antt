@@ -4,11 +4,10 @@ use mathlib.Core.Path.{_≡_, refl, sym, ap, _∙_}
 use mathlib.Core.List.{List}
 use native.Mathlib.Nat.{le-refl}
 use native.Mathlib.Omega.{arith}
-use lib.ListN.{length, drop, getD}
+use lib.ListN.{length, drop}
 use denote.Ref.{now}
 use borrow.Fn.Kinds.{In}
 use borrow.Fn.PlainCycle.{Measures, is, falls, and}
-use Rattle.octets.specs.Classes.{isDigit, between}
 use Rattle.octets.specs.Pen.{pen}
 use Rattle.json.specs.Reader.{kindOf, key as keyOf, pair, value as valueOf}
 use Rattle.json.specs.Tape.{serString, ser}

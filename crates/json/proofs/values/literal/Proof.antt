@@ -1,5 +1,4 @@
 -- `json::values::literal` meets its contract.
-use mathlib.Core.Path.{sym, _∙_}
 use Rattle.json.specs.Promise.{read, not-json}
 use Rattle.json.proofs.Agreements.{was-found, was-missing}
 use borrow.Author.Needs.{needs}

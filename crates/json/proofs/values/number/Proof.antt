@@ -1,7 +1,7 @@
 -- `json::values::number` meets its contract.
-use Prim.Native.Nat.{_+_, _≤_}
+use Prim.Native.Nat.{_+_}
 use native.Mathlib.Omega.{arith}
-use lib.ListN.{length, drop}
+use lib.ListN.{drop}
 use denote.Ref.{now}
 use Rattle.octets.proofs.Pen as pens
 use Rattle.json.specs.Numbers.{start, scan}

@@ -1,5 +1,4 @@
 -- `json::values::parse` meets its contract.
-use lib.ListN.{drop}
 use denote.Ref.{now}
 use Rattle.octets.specs.Pen.{pen}
 use Rattle.json.specs.Reader.{parseText}

@@ -1,6 +1,5 @@
 -- `json::values::whole` meets its contract.
 use Prim.Native.Nat.{_+_}
-use mathlib.Core.Path.{sym}
 use native.Mathlib.Omega.{arith}
 use lib.ListN.{drop}
 use denote.Ref.{now}

@@ -1,7 +1,5 @@
 -- `tape::texts::still_free` meets its contract.
-use Prim.Native.Nat.{ℕ}
 use mathlib.Core.Path.{refl}
-use borrow.Author.Needs.{needs}
 use Rattle.tape.proofs.texts.still_free.Statement.{statement}
 use Rattle.tape.proofs.texts.still_free.Tie as tie
 

@@ -1,6 +1,6 @@
 -- `types::codes::code_named` meets its contract.
 use borrow.Author.Needs.{needs}
-use mathlib.Core.Path.{_≡_, sym, ap, _∙_}
+use mathlib.Core.Path.{sym, _∙_}
 use Rattle.octets.specs.Optional.{given}
 use Rattle.types.specs.Laid.{rowFound}
 use Rattle.types.proofs.Types.{code-found}

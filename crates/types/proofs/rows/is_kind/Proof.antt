@@ -1,9 +1,7 @@
 -- `types::rows::is_kind` meets its contract.
 use borrow.Author.Needs.{needs}
-use mathlib.Core.Path.{sym}
 use borrow.Author.Tests.{ne-eqb}
 use Rattle.octets.proofs.Classes.{within-between, below-between, above-between}
-use Rattle.types.specs.Codes.{splits}
 use Rattle.types.proofs.rows.is_kind.Statement.{statement}
 use Rattle.types.proofs.rows.is_kind.Tie as tie
 

@@ -1,6 +1,5 @@
 -- `types::rows::is_listed` meets its contract.
 use borrow.Author.Needs.{needs}
-use mathlib.Core.Path.{_≡_, sym, ap, _∙_}
 use Rattle.octets.specs.Optional.{isSome}
 use Rattle.types.specs.Laid.{rowFound}
 use Rattle.types.proofs.rows.is_listed.Statement.{statement}

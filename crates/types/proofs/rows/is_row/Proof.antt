@@ -1,6 +1,6 @@
 -- `types::rows::is_row` meets its contract.
 use borrow.Author.Needs.{needs}
-use mathlib.Core.Path.{_≡_, sym, ap, _∙_}
+use mathlib.Core.Path.{sym, ap, _∙_}
 use borrow.Author.Tests.{not-true, not-false}
 use Rattle.octets.specs.Optional.{isSome}
 use Rattle.types.proofs.Frames.{kind, no-keyword, too-short, too-long, not-kind, not-name, some-name}

@@ -1,10 +1,6 @@
 -- `types::rows::lay_line` meets its contract.
 use borrow.Author.Needs.{needs}
-use mathlib.Core.Path.{_≡_, ap, _∙_}
-use mathlib.Core.List.{List}
-use mathlib.Core.Option.{Option}
 use Rattle.octets.proofs.Positions.{upto}
-use Rattle.types.specs.Rows.{entryOf}
 use Rattle.types.proofs.rows.lay_line.Statement.{statement}
 use Rattle.types.proofs.rows.lay_line.Tie as tie
 

@@ -1,6 +1,6 @@
 -- `types::rows::read_rows` meets its contract.
 use borrow.Author.Needs.{needs}
-use mathlib.Core.Path.{_≡_, sym, ap, _∙_}
+use mathlib.Core.Path.{sym, ap, _∙_}
 use native.Mathlib.Omega.{arith}
 use Rattle.types.specs.Reading.{penBehind}
 use Rattle.types.proofs.Reading.{room-is, short-buffer, malformed, written}

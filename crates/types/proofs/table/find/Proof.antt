@@ -1,6 +1,6 @@
 -- `types::table::find` meets its contract.
 use borrow.Author.Needs.{needs}
-use mathlib.Core.Path.{_≡_, sym, ap, _∙_}
+use mathlib.Core.Path.{sym, ap, _∙_}
 use Rattle.types.specs.Laid.{rowFound}
 use Rattle.types.proofs.Lookup.{found-default, not-default}
 use Rattle.types.proofs.table.find.Statement.{statement}
