@@ -1,26 +1,28 @@
--- Texts of a fixed form have no octet that is escaped.
+-- Texts of a fixed form have no octet that is escaped, and are written as they are read.
 use Prim.Native.Char.{code}
 use Prim.Native.Nat.{ℕ}
 use mathlib.Core.Bool.{Bool, true, false, false≢true}
 use mathlib.Core.List.{List, [], _∷_, _++_}
-use mathlib.Core.Option.{some}
+use mathlib.Core.Option.{none, some}
 use mathlib.Core.Path.{_≡_, refl, sym, ap, _∙_}
 use borrow.Author.Tests.{eqb-true}
 use Rattle.octets.specs.Basics.{all}
 use Rattle.octets.specs.Classes.{between, isDigit}
 use Rattle.octets.specs.Decimal.{isSign}
-use Rattle.octets.specs.Optional.{given}
+use Rattle.octets.specs.Optional.{map?}
+use Rattle.octets.specs.Pen.{Pen, Wrote}
 use Rattle.octets.proofs.Cases.{both, and-true}
+use Rattle.octets.proofs.Pen.{as-text}
 use Rattle.calendar.specs.Forms.{Slot, digit, sign, letter, added, takes, fits, dateForm, clockForm, utc, timeForm, dateTimeForm, offsetForm}
 use Rattle.calendar.specs.Texts.{formOf, octetsIn, Says}
 use Rattle.calendar.specs.declared.texts.Form.the-variants.{Date, Time, DateTime, Offset}
 use Rattle.calendar.specs.declared.texts.Form.{Form}
 use Rattle.calendar.specs.declared.texts.Text.{Text}
-use Rattle.calendar.proofs.Fixed.{says-some, formFor}
+use Rattle.calendar.proofs.Fixed.{says-none, says-some, formFor}
 use Rattle.calendar.proofs.Readback.{form-fitted}
-use Rattle.json.specs.Print.{printString}
+use Rattle.json.specs.Tree.{Json, str}
+use Rattle.json.specs.Print.{printString, print}
 use Rattle.json.specs.Promise.{bareOctet}
-use Rattle.values.specs.Shown.{stringShown}
 use Rattle.jcalvalues.proofs.Quoting.{quoted-bare, bare-class}
 
 -- a place that takes such octets alone
@@ -57,9 +59,15 @@ form-bare DateTime false = refl
 form-bare Offset true = refl
 form-bare Offset false = refl
 
-pub form-string : (f : Form) (s : List ℕ) (t : Text) → Says t (formOf f s) → (t .len ≡ 0 → ⊥) → code "\"" ∷ (octetsIn t ++ code "\"" ∷ []) ≡ stringShown (formOf f s)
-unfolding stringShown printString given
-form-string f s t w n =
-    let e : formOf f s ≡ some (octetsIn t) = sym (w .text) ∙ says-some t n in
-    let b = quoted-bare (octetsIn t) (fits-bare _ (octetsIn t) (form-bare f _) (form-fitted f s (octetsIn t) e .has)) in
-    rw e (ap (λ (l : List ℕ). code "\"" ∷ l) (sym b))
+-- what a text of a form says is written, or it says nothing
+module _ (f : Form) (s : List ℕ) (t : Text) (w : Says t (formOf f s)) where
+  pub form-none : t .len ≡ 0 → map? str (formOf f s) ≡ none
+  unfolding map?
+  form-none e = ap (map? str) (sym (w .text) ∙ says-none t e)
+
+  pub form-written : {p q : Pen} → (t .len ≡ 0 → ⊥) → Wrote p (code "\"" ∷ (octetsIn t ++ code "\"" ∷ [])) q → (j : Json) × (map? str (formOf f s) ≡ some j) × Wrote p (print j) q
+  unfolding map? print printString
+  form-written n u =
+      let e : formOf f s ≡ some (octetsIn t) = sym (w .text) ∙ says-some t n in
+      let b = quoted-bare (octetsIn t) (fits-bare _ (octetsIn t) (form-bare f _) (form-fitted f s (octetsIn t) e .has)) in
+      (str (octetsIn t), ap (map? str) e, as-text u (ap (λ (l : List ℕ). code "\"" ∷ l) (sym b)))

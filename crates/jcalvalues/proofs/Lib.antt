@@ -1,10 +1,9 @@
 pub mod Quoting
 pub mod Lists
-pub mod Holding
-pub mod TextsShown
 pub mod OnesShown
 pub mod RecurShown
-pub mod ValuesShown
 pub mod Writing
-pub mod Trying
 pub mod FormStrings
+pub mod Sorted
+pub mod Listing
+pub mod Trying

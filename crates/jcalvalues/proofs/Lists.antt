@@ -19,37 +19,44 @@ use Rattle.json.specs.Print.{print, firstItem}
 use Rattle.values.specs.Shown.{valuesJson, listShown}
 use Rattle.jcalvalues.proofs.Quoting.{items-json}
 
--- a turn, which writes what f makes of the piece at i
-module _ (f : List ℕ → List ℕ) (sep : ℕ) (s : List ℕ) (i e : ℕ) (is : e ≡ length (before sep (take (length s - i) (drop i s)))) where
+-- a turn, which passes the piece at i
+module _ (sep : ℕ) (s : List ℕ) (i e : ℕ) (is : e ≡ length (before sep (take (length s - i) (drop i s)))) where
   abbrev rest : List ℕ
   rest = drop i s
 
   piece : before sep rest ≡ take (e - 0) (drop 0 (take (length s - i) rest))
   piece = before-take sep rest ∙ ap (λ (n : ℕ). take n rest) (sym (scanned sep s i e is)) ∙ sym (ap (λ (l : List ℕ). take (e - 0) (drop 0 l)) (from s i) ∙ upto rest e)
 
-  others : (l : List ℕ) (ls : List (List ℕ)) → (ls ≡ [] → ⊥) → joined (code ",") (map f (l ∷ ls)) ≡ f l ++ code "," ∷ [] ++ joined (code ",") (map f ls)
-  unfolding joined
-  others l [] n = absurd (n refl)
-  others l (m ∷ ls) n = sym (append-assoc (f l) (code "," ∷ []) (joined (code ",") (map f (m ∷ ls))))
-
-  pub list-more : e < length (take (length s - i) (drop i s))
-      → listShown f sep (drop i s) ≡ f (take (e - 0) (drop 0 (take (length s - i) (drop i s)))) ++ code "," ∷ [] ++ listShown f sep (drop (i + e + 1) s)
-  unfolding listShown
-  list-more h =
+  pub pieces-more : e < length (take (length s - i) (drop i s)) → split sep (drop i s) ≡ take (e - 0) (drop 0 (take (length s - i) (drop i s))) ∷ split sep (drop (i + e + 1) s)
+  pieces-more h =
       let is′ = scanned sep s i e is in
       let h′ : e < length rest = rw (from s i) at h in
       let n : i + (e + 1) ≡ i + e + 1 = omega arith in
       let d : drop (length (before sep rest) + 1) rest ≡ drop (i + e + 1) s = ap (λ (m : ℕ). drop (m + 1) rest) (sym is′) ∙ drop-drop (e + 1) i s ∙ ap (λ (m : ℕ). drop m s) n in
-      ap (λ (ls : List (List ℕ)). joined (code ",") (map f ls)) (split-more sep rest (rw (← is′) h′))
-      ∙ others (before sep rest) (split sep (drop (length (before sep rest) + 1) rest)) (split-filled sep _)
-      ∙ ap (λ (l : List ℕ). f (before sep rest) ++ code "," ∷ [] ++ joined (code ",") (map f (split sep l))) d
-      ∙ ap (λ (l : List ℕ). f l ++ code "," ∷ [] ++ joined (code ",") (map f (split sep (drop (i + e + 1) s)))) piece
+      split-more sep rest (rw (← is′) h′)
+      ∙ ap (λ (l : List ℕ). before sep rest ∷ split sep l) d
+      ∙ ap (λ (l : List ℕ). l ∷ split sep (drop (i + e + 1) s)) piece
 
-  pub list-last : length (take (length s - i) (drop i s)) ≤ e → listShown f sep (drop i s) ≡ f (take (e - 0) (drop 0 (take (length s - i) (drop i s))))
-  unfolding listShown joined
-  list-last h =
+  pub pieces-last : length (take (length s - i) (drop i s)) ≤ e → split sep (drop i s) ≡ take (e - 0) (drop 0 (take (length s - i) (drop i s))) ∷ []
+  pieces-last h =
       let h′ : length rest ≤ e = rw (from s i) at h in
-      ap (λ (ls : List (List ℕ)). joined (code ",") (map f ls)) (split-last sep rest (rw (← (scanned sep s i e is)) h′)) ∙ ap f piece
+      split-last sep rest (rw (← (scanned sep s i e is)) h′) ∙ ap (λ (l : List ℕ). l ∷ []) piece
+
+  -- and writes what f makes of it
+  module _ (f : List ℕ → List ℕ) where
+    others : (l : List ℕ) (ls : List (List ℕ)) → (ls ≡ [] → ⊥) → joined (code ",") (map f (l ∷ ls)) ≡ f l ++ code "," ∷ [] ++ joined (code ",") (map f ls)
+    unfolding joined
+    others l [] n = absurd (n refl)
+    others l (m ∷ ls) n = sym (append-assoc (f l) (code "," ∷ []) (joined (code ",") (map f (m ∷ ls))))
+
+    pub list-more : e < length (take (length s - i) (drop i s))
+        → listShown f sep (drop i s) ≡ f (take (e - 0) (drop 0 (take (length s - i) (drop i s)))) ++ code "," ∷ [] ++ listShown f sep (drop (i + e + 1) s)
+    unfolding listShown
+    list-more h = ap (λ (ls : List (List ℕ)). joined (code ",") (map f ls)) (pieces-more h) ∙ others _ (split sep (drop (i + e + 1) s)) (split-filled sep _)
+
+    pub list-last : length (take (length s - i) (drop i s)) ≤ e → listShown f sep (drop i s) ≡ f (take (e - 0) (drop 0 (take (length s - i) (drop i s))))
+    unfolding listShown joined
+    list-last h = ap (λ (ls : List (List ℕ)). joined (code ",") (map f ls)) (pieces-last h)
 
 -- pieces that are read, each written as it is
 module _ {A : Type 0} (R : List ℕ → Option A) (W : List ℕ → List ℕ) (J : A → Json) (law : (l : List ℕ) (a : A) → R l ≡ some a → W l ≡ print (J a)) where

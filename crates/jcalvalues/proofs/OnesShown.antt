@@ -5,10 +5,11 @@ use mathlib.Core.Path.{_≡_, refl, ap, _∙_}
 use mathlib.Core.Bool.{Bool, true, false}
 use mathlib.Core.List.{List}
 use mathlib.Core.Option.{Option, none, some}
-use Rattle.octets.specs.Basics.{octets, pick, all, same}
+use Rattle.octets.specs.Basics.{octets, pick, same}
 use Rattle.octets.specs.Pieces.{split}
 use Rattle.octets.specs.Optional.{both?, or?, isSome, when, given}
-use Rattle.octets.specs.Classes.{plainOctet, upper}
+use Rattle.octets.specs.Classes.{upper}
+use Rattle.octets.specs.Decimal.{integerText}
 use Rattle.octets.proofs.Cases.{cases, never}
 use Rattle.octets.proofs.Optional.{missing, some-same, when-is, map-is, both-is}
 use Rattle.calendar.specs.Dates.{dateTimeOf}
@@ -17,15 +18,11 @@ use Rattle.calendar.specs.Walk.{before}
 use Rattle.calendar.proofs.Pieces.{split-upper}
 use Rattle.json.specs.Tree.{Json, num, str, arr, truth, falsity, noItems, item}
 use Rattle.json.specs.Print.{printString, print, firstItem, moreItems}
-use Rattle.values.specs.Simple.{binaryIs, booleanOf, floatOf}
-use Rattle.values.specs.Read.{readPlain, readBinary, asString, asNumber, geoOf, readGeo, periodOf, readPeriod}
+use Rattle.values.specs.Simple.{binaryIs, booleanOf, floatOf, integerOf}
+use Rattle.values.specs.Read.{readBinary, asString, asNumber, geoOf, readGeo, periodOf, readPeriod}
 use Rattle.values.specs.Single.{isPair}
 use Rattle.values.specs.Shown.{behind, stringShown, booleanShown, floatShown, arrayShown, geoShown, endShown, periodShown}
 use Rattle.values.proofs.Halves.{pair-split, geo-none, period-none, slash-uncased}
-
-pub plain-shown : (s : List ℕ) (j : Json) → readPlain s ≡ some j → printString s ≡ print j
-unfolding readPlain print
-plain-shown s j h = let w = when-is (all plainOctet s) (str s) j h in rw (← (w .1))
 
 pub binary-shown : (s : List ℕ) (j : Json) → readBinary s ≡ some j → printString s ≡ print j
 unfolding readBinary print
@@ -40,11 +37,6 @@ boolean-shown s j h = by (same (upper s) (octets "TRUE")) (same (upper s) (octet
     by false true e = rw (← (some-same e)) (unfold print in refl)
     by false false e = missing e
 
--- texts of dates, times and offsets
-pub string-shown : (f : List ℕ → Option (List ℕ)) (s : List ℕ) (j : Json) → asString f s ≡ some j → stringShown (f (upper s)) ≡ print j
-unfolding asString stringShown
-string-shown f s j h = map-is str (f (upper s)) j h (λ t q p. rw (q, ← p) (unfold given print in refl))
-
 pub duration-shown : (s : List ℕ) (j : Json) → asString durationOf s ≡ some j → printString (upper s) ≡ print j
 unfolding asString durationOf
 duration-shown s j h = map-is str (when (durationIs (upper s)) (upper s)) j h (λ t q p. rw (when-is _ (upper s) t q .1, ← p) (unfold print in refl))
@@ -57,6 +49,10 @@ float-is s x h = when-is _ _ x h .1
 pub float-shown : (s : List ℕ) (j : Json) → asNumber floatOf s ≡ some j → floatShown s ≡ print j
 unfolding asNumber
 float-shown s j h = map-is num (floatOf s) j h (λ t q p. rw (float-is s t q, ← p) (unfold print in refl))
+
+pub integer-shown : (s : List ℕ) (j : Json) → asNumber integerOf s ≡ some j → integerText s ≡ print j
+unfolding asNumber integerOf
+integer-shown s j h = map-is num _ j h (λ t q p. rw (when-is _ (integerText s) t q .1, ← p) (unfold print in refl))
 
 -- arrays of two
 array-two : (x y : List ℕ) (a b : Json) → x ≡ print a → y ≡ print b → arrayShown x y ≡ print (arr (item a (item b noItems)))

@@ -1,22 +1,21 @@
--- Octets that a JSON string holds as they are; short texts; and the parts of an array.
+-- Octets that a JSON string holds as they are; and short texts.
 use Prim.Native.Nat.{ℕ, _-_}
 use Prim.Native.Char.{code}
-use mathlib.Core.Path.{_≡_, refl, sym, ap, _∙_}
-use mathlib.Core.Bool.{Bool, true, false, not}
-use mathlib.Core.List.{List, [], _∷_, _++_, append-assoc}
+use mathlib.Core.Path.{_≡_, refl, sym, _∙_}
+use mathlib.Core.Bool.{Bool, true, false}
+use mathlib.Core.List.{List, [], _∷_, _++_}
 use mathlib.Core.Option.{Option, none, some}
 use borrow.Author.Tests.{not-true, eqb-true}
 use lib.Dec.{eqb}
-use Rattle.octets.specs.Basics.{octets, _or_, all}
+use Rattle.octets.specs.Basics.{_or_, all}
 use Rattle.octets.specs.Optional.{isSome, given}
 use Rattle.octets.proofs.Cases.{cases, never, both, neither, apart}
 use Rattle.calendar.specs.Texts.{octetsIn, textSaid, Says}
 use Rattle.calendar.specs.declared.texts.Text.{Text}
-use Rattle.calendar.proofs.Fixed.{says-any}
-use Rattle.json.specs.Tree.{Json, itemsOf}
-use Rattle.json.specs.Print.{escaped, quoted, printString, print, moreItems}
+use Rattle.json.specs.Print.{escaped, quoted, printString}
 use Rattle.json.specs.Promise.{bareOctet}
-use Rattle.values.specs.Shown.{valuesJson, stringShown}
+use Rattle.values.specs.Shown.{stringShown}
+pub use Rattle.valuetexts.proofs.Counts.{items-json}
 
 escaped-bare : (b : ℕ) → bareOctet b ≡ true → escaped b ≡ b ∷ []
 unfolding escaped bareOctet
@@ -48,10 +47,6 @@ short-shown t o w = cases (eqb (t .len) 0)
     (λ e. let q : o ≡ some (octetsIn t) = sym (w .text) ∙ unfold textSaid in rw e in
     rw q (unfold given in refl))
 
--- it says something where it is not empty
-pub short-there : (t : Text) (o : Option (List ℕ)) → Says t o → isSome o ≡ not (eqb (t .len) 0)
-short-there t o w = ap isSome (sym (w .text)) ∙ says-any t
-
 -- the end of a period: a moment, or what stands there in uppercase
 module _ (s : List ℕ) where
   pub end-moment : (o : Option (List ℕ)) → isSome o ≡ true → stringShown o ≡ printString (given s (λ t. t) o)
@@ -63,9 +58,3 @@ module _ (s : List ℕ) where
   unfolding isSome given
   end-other none e = refl
   end-other (some t) e = never refl e
-
--- the values of an array
-pub items-json : (vs : List Json) → moreItems (itemsOf vs) ≡ valuesJson vs ++ octets "]"
-unfolding moreItems itemsOf valuesJson
-items-json [] = refl
-items-json (v ∷ vs) = rw (items-json vs) (ap (λ (l : List ℕ). code "," ∷ l) (sym (append-assoc (print v) (valuesJson vs) (octets "]"))))

@@ -1,47 +1,38 @@
--- A test and a text, put together to what is promised of a property's values.
+-- Values that are tested and written.
 use Prim.Native.Char.{code}
 use Prim.Native.Nat.{ℕ}
 use mathlib.Core.Bool.{Bool, true, false}
-use mathlib.Core.List.{List, [], _∷_}
+use mathlib.Core.List.{List, [], _∷_, append-nil}
 use mathlib.Core.Option.{Option, none, some}
-use mathlib.Core.Path.{_≡_, refl, sym, _∙_}
-use Rattle.octets.specs.Basics.{_or_, single}
-use Rattle.octets.specs.Optional.{isSome, guard}
-use Rattle.octets.specs.Pen.{Pen, Wrote}
-use Rattle.octets.proofs.Cases.{never}
-use Rattle.octets.proofs.Optional.{some-is, guard-is}
+use mathlib.Core.Path.{_≡_, refl, sym, ap}
+use Rattle.octets.specs.Basics.{_or_, filled, single}
+use Rattle.octets.specs.Optional.{map?, isSome, when, guard}
+use Rattle.octets.specs.Pen.{Pen, pen, Wrote}
+use Rattle.octets.proofs.Cases.{never, or-true-right}
+use Rattle.octets.proofs.Optional.{some-is}
 use Rattle.octets.proofs.Pen.{as-text, then}
 use Rattle.json.specs.Tree.{Json}
-use Rattle.values.specs.Read.{readValues}
-use Rattle.values.specs.Shown.{valuesShown}
-use Rattle.values.specs.Single.{isText}
-use Rattle.values.specs.Sorts.{Sort}
-use Rattle.values.specs.Steps.{counted}
-use Rattle.values.specs.Texts.{texts}
-use Rattle.valuetexts.specs.Trying.{countFits, Tried}
+use Rattle.json.specs.Print.{print}
+use Rattle.values.specs.Read.{alone}
+use Rattle.values.specs.Shown.{valuesJson}
+use Rattle.valuetexts.specs.Trying.{Tried}
 use Rattle.valuetexts.specs.declared.Attempt.the-variants.{Wrote as Done, Invalid}
 use Rattle.valuetexts.specs.declared.Attempt.{Attempt}
-use Rattle.jcalvalues.specs.Attempts.{Attempted}
-use Rattle.jcalvalues.proofs.Holding.{fit, held-many, held-single}
-use Rattle.jcalvalues.proofs.ValuesShown.{values-shown}
+use Rattle.jcalvalues.specs.Attempts.{answered}
 
 no-some : {A : Type 0} (o : Option A) → isSome o ≡ false → o ≡ none
 unfolding isSome
 no-some none e = refl
 no-some (some a) e = never refl e
 
--- what stands is written behind a comma
-module _ (many : Bool) (sort : Sort) (raw : List ℕ) where
-  pub attempted : {p q : Pen} {xs : List ℕ} (out : List ℕ) (r : Attempt) (stands : Bool) → stands ≡ fit many (readValues sort raw) → code "," ∷ xs ≡ valuesShown sort raw
-      → Wrote p (code "," ∷ []) q → Tried stands xs q out r → Attempted many sort raw p out r
-  attempted out (Done n) stands is e w t = some-is (guard (λ vs. many or single vs) (readValues sort raw)) (sym is ∙ t .0)
-      (λ (vs : List Json) f. (vs, f, as-text (then w (t .1)) (e ∙ values-shown sort raw vs (guard-is _ _ vs f .0))))
-  attempted out Invalid stands is e w t = no-some _ (sym is ∙ t)
+-- a test, and a text that is the value's where the test is passed
+pub tested : {p : Pen} {xs : List ℕ} (o : Option Json) (out : List ℕ) (q : ℕ) (stands : Bool) (r : Attempt) → stands ≡ isSome o → ((j : Json) → o ≡ some j → xs ≡ print j)
+    → Wrote p xs (pen out q) → r ≡ answered stands q → Tried o print p out r
+tested o out q true r is e w a = rw a (some-is o (sym is) (λ j f. (j, f, as-text w (e j f))))
+tested o out q false r is e w a = rw a (no-some o (sym is))
 
-  pub texts-fit : isText sort ≡ true → countFits many (counted (texts raw)) ≡ fit many (readValues sort raw)
-  unfolding countFits
-  texts-fit t = by many
-    where
-      by : (b : Bool) → countFits b (counted (texts raw)) ≡ fit b (readValues sort raw)
-      by true = held-many sort raw t _ refl true refl
-      by false = held-single sort raw t _ refl false refl
+-- a value that stands alone
+pub alone-tried : {p q : Pen} (many : Bool) (o : Option Json) (out : List ℕ) (r : Attempt) → Wrote p (code "," ∷ []) q → Tried o print q out r → Tried (guard (λ vs. many or single vs) (alone o)) valuesJson p out r
+unfolding alone map? guard single filled when valuesJson
+alone-tried many o out (Done n) w t = (t .0 ∷ [], rw (t .1, or-true-right many), as-text (then w (t .2)) (ap (λ (l : List ℕ). code "," ∷ l) (sym (append-nil (print (t .0))))))
+alone-tried many o out Invalid w t = rw t

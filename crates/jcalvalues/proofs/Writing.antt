@@ -1,8 +1,7 @@
--- What the writers write is what is shown: the values of a part, a part, and the values of a property by their sort.
+-- What the writers of a recurrence rule write is what is shown: the values of a part, and a part.
 use Prim.Native.Nat.{ℕ, _-_, _≤_, _<_}
 use Prim.Native.Char.{code}
 use mathlib.Core.Path.{_≡_}
-use mathlib.Core.Bool.{true, false}
 use mathlib.Core.List.{List, _∷_, _++_}
 use borrow.Author.Tests.{lt-ltb, le-ltb}
 use lib.ListN.{length, take, drop}
@@ -13,9 +12,7 @@ use Rattle.octets.proofs.Positions.{upto}
 use Rattle.calendar.specs.Recurrence.{Sort as Kind}
 use Rattle.calendar.specs.Walk.{before, keyAt, firstPart}
 use Rattle.calendar.specs.declared.parts.PartAt.{PartAt}
-use Rattle.values.specs.Sorts.{Sort, splits}
-use Rattle.values.specs.Single.{isText}
-use Rattle.values.specs.Shown.{textsShown, itemJsonShown, listShown, itemsShown, keyShown, partShown, oneShown, valuesShown}
+use Rattle.values.specs.Shown.{itemJsonShown, listShown, itemsShown, keyShown, partShown}
 
 -- the values of a part: e is where the first ends
 module _ (k : Kind) (v : List ℕ) (e : ℕ) (is : e ≡ length (before (code ",") v)) where
@@ -31,17 +28,3 @@ pub part-wrote : {p q r : Pen} (s : List ℕ) (x : PartAt) (kind : Kind) → x �
     → Wrote p (keyShown (take (x .name - 0) (drop 0 s))) q → Wrote q (itemsShown kind (take (x .to - x .from) (drop (x .from) s))) r → Wrote p (partShown s) r
 unfolding partShown
 part-wrote s x kind is e u w = rw (← is) (then (rw (upto s (x .name)) at u) (rw e at w))
-
--- the values of a property
-module _ (sort : Sort) (s : List ℕ) where
-  pub texts-values : isText sort ≡ true → code "," ∷ textsShown (code ",") s ≡ valuesShown sort s
-  unfolding valuesShown
-  texts-values t = rw t
-
-  pub listed-values : isText sort ≡ false → splits sort ≡ true → code "," ∷ listShown (oneShown sort) (code ",") s ≡ valuesShown sort s
-  unfolding valuesShown
-  listed-values t c = rw (t, c)
-
-  pub alone-values : isText sort ≡ false → splits sort ≡ false → code "," ∷ oneShown sort s ≡ valuesShown sort s
-  unfolding valuesShown
-  alone-values t c = rw (t, c)

@@ -1,9 +1,12 @@
 // Dates, times, offsets and periods, written for jCal.
+ghost use Prim.Native.Nat.{_≤_};
+ghost use lib.ListN.{length};
 ghost use Rattle.octets.specs.Classes.{upper};
-ghost use Rattle.octets.specs.Optional.{isSome};
+ghost use Rattle.octets.specs.Optional.{map?};
 ghost use Rattle.octets.specs.Pen.{pen, Wrote};
 ghost use Rattle.calendar.specs.Texts.{formOf, octetsIn};
-ghost use Rattle.json.specs.Print.{printString};
+ghost use Rattle.json.specs.Tree.{str};
+ghost use Rattle.json.specs.Print.{printString, print};
 ghost use Rattle.values.specs.Shown.{stringShown, endShown, periodShown};
 ghost use Rattle.valuetexts.specs.Trying.{Tried};
 use calendar::parts::find;
@@ -20,14 +23,12 @@ use valuetexts::put_upper_string;
 
 // Writes a short text as a string.
 pub(crate) fn put_short(out: &mut [u8], at: usize, t: Text) -> usize
+    requires { ⌜ t .len ≤ length (t .octets) ⌝ }
     ensures { λ r. ⌜ Wrote (pen (now (out .entry)) at) (printString (octetsIn t)) (pen (now (out .exit)) r) ⌝ }
 {
     let o = t.octets;
     let n = t.len;
-    if n < 20 {
-        return put_string(out, at, &o[0..n]);
-    }
-    put_string(out, at, &o[0..20])
+    put_string(out, at, &o[0..n])
 }
 
 // Writes a text of a fixed form in the extended form.
@@ -39,7 +40,7 @@ pub(crate) fn put_form(out: &mut [u8], at: usize, form: Form, s: &[u8]) -> usize
 
 // Tests a text of a fixed form, and writes it in the extended form, which has no octet to escape.
 pub(crate) fn put_tested_form(out: &mut [u8], at: usize, form: Form, s: &[u8]) -> Attempt
-    ensures { λ r. ⌜ Tried (isSome (formOf form (upper (now (s .entry))))) (stringShown (formOf form (upper (now (s .entry))))) (pen (now (out .entry)) at) (now (out .exit)) r ⌝ }
+    ensures { λ r. ⌜ Tried (map? str (formOf form (upper (now (s .entry))))) print (pen (now (out .entry)) at) (now (out .exit)) r ⌝ }
 {
     let t = extended(form, s);
     let o = t.octets;

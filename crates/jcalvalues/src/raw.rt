@@ -5,68 +5,28 @@ ghost use Rattle.octets.specs.Optional.{isSome, guard};
 ghost use Rattle.octets.specs.Pen.{pen};
 ghost use Rattle.values.specs.Read.{readValues, listed};
 ghost use Rattle.values.specs.Single.{readOne};
-ghost use Rattle.values.specs.Shown.{oneShown};
+ghost use Rattle.values.specs.Shown.{valuesJson};
 ghost use Rattle.values.specs.Coded.{sortSaid};
 ghost use Rattle.valuetexts.specs.Trying.{Tried};
 ghost use Rattle.jcalvalues.specs.Attempts.{Attempted};
-ghost use Rattle.jcalvalues.specs.Parts.{commaList};
-use crate::single::holds_one;
 use crate::single::put_tested_one;
 use calendar::parts::find;
 use octets::put;
 use values::Sort;
 use valuetexts::Attempt;
-use valuetexts::count_texts;
 use valuetexts::put_tested_texts;
 
-// The values between commas stand, and there is one only where there may not be many.
-fn holds_list(sort: Sort, many: bool, raw: &[u8]) -> bool
-    ensures { λ r. ⌜ r ≡ isSome (guard (λ vs. many or single vs) (listed (readOne (sortSaid sort)) (now (raw .entry)))) ⌝ }
-{
-    let mut at = 0;
-    loop {
-        let rest = &raw[at..];
-        let e = find(rest, b',');
-        if !holds_one(sort, &rest[0..e]) {
-            return false;
-        }
-        if e >= rest.len() {
-            return true;
-        }
-        if !many {
-            return false;
-        }
-        at = at + e + 1;
-    }
-}
-
-// The raw value stands: each of its values is one of the sort, and there is one only where there may not be many.
-pub fn holds_values(sort: Sort, many: bool, raw: &[u8]) -> bool
-    ensures { λ r. ⌜ r ≡ isSome (guard (λ vs. many or single vs) (readValues (sortSaid sort) (now (raw .entry)))) ⌝ }
-{
-    if sort.is_text() {
-        let n = count_texts(raw);
-        if many {
-            return n != 0;
-        }
-        return n == 1;
-    }
-    if sort.splits() {
-        return holds_list(sort, many, raw);
-    }
-    holds_one(sort, raw)
-}
-
-// Tests the values between commas, one only where there may not be many, and writes them with a comma between them.
+// Tests the values between commas, one only where there may not be many, and writes each with a comma before it.
 fn put_tested_list(out: &mut [u8], at: usize, sort: Sort, many: bool, raw: &[u8]) -> Attempt
-    ensures { λ r. ⌜ Tried (isSome (guard (λ vs. many or single vs) (listed (readOne (sortSaid sort)) (now (raw .entry))))) (commaList (oneShown (sortSaid sort)) (now (raw .entry))) (pen (now (out .entry)) at) (now (out .exit)) r ⌝ }
+    ensures { λ r. ⌜ Tried (guard (λ vs. many or single vs) (listed (readOne (sortSaid sort)) (now (raw .entry)))) valuesJson (pen (now (out .entry)) at) (now (out .exit)) r ⌝ }
 {
     let mut p = at;
     let mut i = 0;
     loop {
         let rest = &raw[i..];
         let e = find(rest, b',');
-        match put_tested_one(out, p, sort, &rest[0..e]) {
+        let first = put(out, p, b',');
+        match put_tested_one(out, first, sort, &rest[0..e]) {
             Attempt::Invalid => {
                 return Attempt::Invalid;
             }
@@ -77,7 +37,7 @@ fn put_tested_list(out: &mut [u8], at: usize, sort: Sort, many: bool, raw: &[u8]
                 if !many {
                     return Attempt::Invalid;
                 }
-                p = put(out, q, b',');
+                p = q;
                 i = i + e + 1;
             }
         }
@@ -88,12 +48,23 @@ fn put_tested_list(out: &mut [u8], at: usize, sort: Sort, many: bool, raw: &[u8]
 pub fn put_tested(out: &mut [u8], at: usize, sort: Sort, many: bool, raw: &[u8]) -> Attempt
     ensures { λ r. ⌜ Attempted many (sortSaid sort) (now (raw .entry)) (pen (now (out .entry)) at) (now (out .exit)) r ⌝ }
 {
-    let first = put(out, at, b',');
     if sort.is_text() {
-        return put_tested_texts(out, first, raw, many);
+        return put_tested_texts(out, at, &*raw, many);
     }
     if sort.splits() {
-        return put_tested_list(out, first, sort, many, raw);
+        return put_tested_list(out, at, sort, many, &*raw);
     }
-    put_tested_one(out, first, sort, raw)
+    let alone = put(out, at, b',');
+    put_tested_one(out, alone, sort, &*raw)
+}
+
+// The raw value stands: each of its values is one of the sort, and there is one only where there may not be many. It is written where there is no room.
+pub fn holds_values(sort: Sort, many: bool, raw: &[u8]) -> bool
+    ensures { λ r. ⌜ r ≡ isSome (guard (λ vs. many or single vs) (readValues (sortSaid sort) (now (raw .entry)))) ⌝ }
+{
+    let mut none = [0u8; 1];
+    match put_tested(&mut none, 0, sort, many, raw) {
+        Attempt::Wrote(_) => true,
+        Attempt::Invalid => false,
+    }
 }

@@ -1,6 +1,6 @@
+pub mod Going
 pub mod TextRuns
 pub mod Strings
-pub mod Separators
 pub mod Blocks
-pub mod Going
 pub mod Plain
+pub mod Counts

@@ -2,26 +2,23 @@
 use Prim.Native.Char.{code}
 use Prim.Native.Nat.{ℕ, _+_, _-_, _≤_, _<_}
 use mathlib.Core.Bool.{true, false}
-use mathlib.Core.List.{List, [], _∷_, _++_}
+use mathlib.Core.List.{List, [], _∷_}
+use mathlib.Core.Option.{none, some}
 use mathlib.Core.Path.{_≡_, refl, ap, _∙_}
 use lib.ListN.{length, take, drop, getD}
 use Rattle.octets.specs.Basics.{all}
 use Rattle.octets.specs.Classes.{plainOctet}
+use Rattle.octets.specs.Optional.{when}
 use Rattle.octets.specs.Pen.{Pen, Wrote}
-use Rattle.octets.proofs.Cases.{both}
-use Rattle.octets.proofs.Pen.{Leads, leads-start, leads-on, leads-last}
+use Rattle.octets.proofs.Pen.{then, Leads, leads-start, leads-on, leads-last}
 use Rattle.octets.proofs.Positions.{here, ended, part-rest}
-use Rattle.json.specs.Print.{escaped, quoted}
+use Rattle.json.specs.Tree.{Json, str}
+use Rattle.json.specs.Print.{escaped, quoted, printString, print}
 use Rattle.json.specs.Promise.{Run}
 use Rattle.json.proofs.Runs.{run-passes}
+use Rattle.values.specs.Read.{readPlain}
 use Rattle.values.specs.Shown.{runOctet}
-use Rattle.valuetexts.proofs.TextRuns.{run-escaped, run-plain}
-
--- a run
-quoted-all : (xs ys : List ℕ) → all runOctet xs ≡ true → quoted (xs ++ ys) ≡ xs ++ quoted ys
-unfolding all quoted
-quoted-all [] ys h = refl
-quoted-all (x ∷ xs) ys h = let b = both (runOctet x) (all runOctet xs) h in rw (run-escaped x (b .0), quoted-all xs ys (b .1))
+use Rattle.valuetexts.proofs.TextRuns.{run-plain, quoted-run}
 
 plain-step : (b : ℕ) (s : List ℕ) → runOctet b ≡ true → all plainOctet (b ∷ s) ≡ all plainOctet s
 unfolding all
@@ -40,17 +37,17 @@ module _ (s : List ℕ) where
     pub plainly-run : {e : ℕ} {r : Pen} → Run runOctet s i e → Wrote q (take (e - i) (drop i s)) r → Plainly s p r e
     plainly-run {e} v w = record {
       holds = g .holds ∙ run-passes (all plainOctet) plain-step v;
-      leads = leads-on (g .leads) w (ap quoted (part-rest s i e (v .above)) ∙ quoted-all (take (e - i) (drop i s)) (drop e s) (v .inside));
+      leads = leads-on (g .leads) w (ap quoted (part-rest s i e (v .above)) ∙ quoted-run (take (e - i) (drop i s)) (drop e s) (v .inside));
     }
 
-    pub plainly-end : {r : Pen} → length s ≤ i → Wrote q (code "\"" ∷ []) r → (all plainOctet s ≡ true) × Wrote p (quoted s) r
-    unfolding all quoted
-    plainly-end h w = (g .holds ∙ ap (all plainOctet) (ended s i h), leads-last (g .leads) w (ap quoted (ended s i h)))
+    pub plainly-end : {o r : Pen} → Wrote o (code "\"" ∷ []) p → length s ≤ i → Wrote q (code "\"" ∷ []) r → (j : Json) × (readPlain s ≡ some j) × Wrote o (print j) r
+    unfolding all quoted readPlain when print printString
+    plainly-end u h w = (str s, rw (g .holds ∙ ap (all plainOctet) (ended s i h)), then u (leads-last (g .leads) w (ap quoted (ended s i h))))
 
     module _ (h : i < length s) where
-      pub plainly-not : plainOctet (getD s i 0) ≡ false → all plainOctet s ≡ false
-      unfolding all
-      plainly-not x = g .holds ∙ rw (here s i h, x)
+      pub plainly-not : plainOctet (getD s i 0) ≡ false → readPlain s ≡ none
+      unfolding all readPlain when
+      plainly-not x = let n : all plainOctet s ≡ false = g .holds ∙ rw (here s i h, x) in rw n
 
       pub plainly-octet : {r : Pen} → plainOctet (getD s i 0) ≡ true → Wrote q (escaped (getD s i 0)) r → Plainly s p r (i + 1)
       unfolding all quoted

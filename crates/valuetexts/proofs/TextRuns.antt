@@ -1,27 +1,31 @@
--- Texts, run by run: what is written for them, and how many there are.
+-- Texts, read step by step: runs, octets and separators, and what is written for them.
 use Prim.Native.Nat.{ℕ, _+_, _-_, _≤_, _<_}
 use Prim.Native.Char.{code}
-use mathlib.Core.Path.{_≡_, refl, sym, ap, _∙_}
+use mathlib.Core.Path.{_≡_, refl, ap, _∙_}
 use mathlib.Core.Bool.{Bool, true, false, not}
-use mathlib.Core.List.{List, [], _∷_, _++_}
+use mathlib.Core.List.{List, [], _∷_, _++_, map, append-assoc}
 use mathlib.Core.Option.{Option, none, some}
-use native.Mathlib.Numerals.{add-one}
 use native.Mathlib.Omega.{arith}
 use borrow.Author.Tests.{eq-eqb, ne-eqb, ltb-true, ltb-false, leb-true, lt-leb}
 use lib.Dec.{eqb, leb, ltb}
 use lib.ListN.{length, take, drop, getD}
-use Rattle.octets.specs.Basics.{octets, pick, _and_, _or_, all}
-use Rattle.octets.specs.Pieces.{onto}
-use Rattle.octets.specs.Optional.{map?}
+use Rattle.octets.specs.Basics.{octets, _and_, _or_, all}
 use Rattle.octets.specs.Classes.{isControl, plainOctet}
-use Rattle.octets.proofs.Cases.{cases, never, apart, both, either, neither, or-false}
+use Rattle.octets.specs.Optional.{map?}
+use Rattle.octets.specs.Pen.{Pen, pen, Wrote}
+use Rattle.octets.specs.Pieces.{onto}
+use Rattle.octets.proofs.Cases.{cases, apart, both}
+use Rattle.octets.proofs.Pen.{Leads, leads-start, leads-on, leads-last}
 use Rattle.octets.proofs.Positions.{here, ended, part-rest, past-end}
-use Rattle.json.specs.Print.{escaped}
+use Rattle.json.specs.Tree.{str}
+use Rattle.json.specs.Print.{escaped, quoted, printString, print}
 use Rattle.json.specs.Promise.{Run}
-use Rattle.json.proofs.Runs.{run-passes, inside}
+use Rattle.values.specs.Shown.{runOctet, valuesJson}
 use Rattle.values.specs.Texts.{Act, add, next, escape, stop, act, escapes, done, textsFrom}
-use Rattle.values.specs.Shown.{runOctet, unescaped, octetShown, opens, textsFromShown, escapeShown}
-use Rattle.values.specs.Steps.{isEscape, tally}
+use Rattle.valuetexts.specs.Trying.{WroteTexts, StandsFor, StepsAt}
+use Rattle.valuetexts.specs.declared.Texts.the-variants.{Wrote as Counted}
+use Rattle.valuetexts.specs.declared.Step.the-variants.{Octet, Separator, Invalid as Wrong}
+use Rattle.valuetexts.proofs.Going.{Going, going-start, going-on}
 
 -- an octet of a run is none that is written otherwise
 module _ (c : ℕ) (h : runOctet c ≡ true) where
@@ -37,7 +41,7 @@ module _ (c : ℕ) (h : runOctet c ≡ true) where
   no-tab : eqb c (code "\t") ≡ false
   no-tab = apart runOctet c (code "\t") h (unfold runOctet in refl)
 
-  pub run-escaped : escaped c ≡ c ∷ []
+  run-escaped : escaped c ≡ c ∷ []
   unfolding escaped
   run-escaped = rw (no-quote, no-backslash, no-newline, no-tab)
 
@@ -49,44 +53,10 @@ module _ (c : ℕ) (h : runOctet c ≡ true) where
       let l : leb c 31 ≡ false = lt-leb c 31 (omega (arith, leb-true 32 c (b .0))) in
       rw (l, apart runOctet c 127 h (unfold runOctet in refl))
 
--- what is written
-module _ (sep : ℕ) (k : runOctet sep ≡ false) where
-  shown-step : (c : ℕ) (s : List ℕ) → runOctet c ≡ true → textsFromShown sep false (c ∷ s) ≡ c ∷ textsFromShown sep false s
-  unfolding textsFromShown octetShown opens
-  shown-step c s h = rw (no-backslash c h, apart runOctet c sep h k, run-escaped c h)
-
-  shown-all : (xs ys : List ℕ) → all runOctet xs ≡ true → textsFromShown sep false (xs ++ ys) ≡ xs ++ textsFromShown sep false ys
-  unfolding all
-  shown-all [] ys h = refl
-  shown-all (x ∷ xs) ys h = let b = both (runOctet x) (all runOctet xs) h in shown-step x (xs ++ ys) (b .0) ∙ ap (λ (l : List ℕ). x ∷ l) (shown-all xs ys (b .1))
-
-  module _ (s : List ℕ) where
-    pub shown-run : {i e : ℕ} → Run runOctet s i e → textsFromShown sep false (drop i s) ≡ take (e - i) (drop i s) ++ textsFromShown sep false (drop e s)
-    shown-run {i} {e} w = ap (textsFromShown sep false) (part-rest s i e (w .above)) ∙ shown-all (take (e - i) (drop i s)) (drop e s) (w .inside)
-
-    pub shown-end : (i : ℕ) → length s ≤ i → textsFromShown sep false (drop i s) ≡ code "\"" ∷ []
-    unfolding textsFromShown
-    shown-end i h = rw (ended s i h)
-
-    behind-backslash : (i : ℕ) → textsFromShown sep true (drop i s) ≡ escapeShown (drop i s) ++ textsFromShown sep false (drop (i + 1) s)
-    unfolding textsFromShown octetShown opens escapeShown
-    behind-backslash i = cases (ltb i (length s))
-        (λ t. rw (here s i (ltb-true i (length s) t)))
-        (λ t. let l = ltb-false i (length s) t in rw (ended s i l, ended s (i + 1) (omega arith)))
-
-    pub shown-escape : (e : ℕ) → e < length s → getD s e 0 ≡ code "\\" → textsFromShown sep false (drop e s) ≡ escapeShown (drop (e + 1) s) ++ textsFromShown sep false (drop (e + 2) s)
-    unfolding textsFromShown octetShown opens
-    shown-escape e h x =
-        let n : e + 1 + 1 ≡ e + 2 = omega arith in
-        rw (here s e h, x) (behind-backslash (e + 1) ∙ ap (λ (m : ℕ). escapeShown (drop (e + 1) s) ++ textsFromShown sep false (drop m s)) n)
-
-    pub shown-next : (e : ℕ) → e < length s → (getD s e 0 ≡ code "\\" → ⊥) → getD s e 0 ≡ sep → textsFromShown sep false (drop e s) ≡ octets "\",\"" ++ textsFromShown sep false (drop (e + 1) s)
-    unfolding textsFromShown octetShown opens
-    shown-next e h n x = rw (here s e h, ne-eqb (getD s e 0) (code "\\") n, eq-eqb (getD s e 0) sep x)
-
-    pub shown-other : (e : ℕ) → e < length s → (getD s e 0 ≡ code "\\" → ⊥) → (getD s e 0 ≡ sep → ⊥) → textsFromShown sep false (drop e s) ≡ escaped (getD s e 0) ++ textsFromShown sep false (drop (e + 1) s)
-    unfolding textsFromShown octetShown opens
-    shown-other e h n m = rw (here s e h, ne-eqb (getD s e 0) (code "\\") n, ne-eqb (getD s e 0) sep m)
+pub quoted-run : (xs ys : List ℕ) → all runOctet xs ≡ true → quoted (xs ++ ys) ≡ xs ++ quoted ys
+unfolding all quoted
+quoted-run [] ys h = refl
+quoted-run (x ∷ xs) ys h = let b = both (runOctet x) (all runOctet xs) h in rw (run-escaped x (b .0), quoted-run xs ys (b .1))
 
 -- there is one text at least
 onto-filled : (c : ℕ) (r : Option (List (List ℕ))) → map? (onto c) r ≡ some [] → ⊥
@@ -107,98 +77,160 @@ done-filled next r n e = next-filled r e
 done-filled escape r n e = n e
 done-filled stop r n e = let z : _≡_ {A = ℕ} 0 1 = cc in omega arith
 
-pub texts-filled : (sep other : ℕ) (b : Bool) (s : List ℕ) → textsFrom sep other b s ≡ some [] → ⊥
+texts-filled : (sep other : ℕ) (b : Bool) (s : List ℕ) → textsFrom sep other b s ≡ some [] → ⊥
 unfolding textsFrom
 texts-filled sep other true [] e = let z : _≡_ {A = ℕ} 0 1 = cc in omega arith
 texts-filled sep other false [] e = let z : _≡_ {A = ℕ} 0 1 = cc in omega arith
 texts-filled sep other b (c ∷ s) e = done-filled (act sep other b c) _ (texts-filled sep other (escapes (act sep other b c)) s) e
 
--- how many there are
-tally-onto : (n c : ℕ) (r : Option (List (List ℕ))) → (r ≡ some [] → ⊥) → tally n (map? (onto c) r) ≡ tally n r
-unfolding tally map? onto
-tally-onto n c none f = refl
-tally-onto n c (some []) f = absurd (f refl)
-tally-onto n c (some (t ∷ ts)) f = refl
+-- octets in front of the first text
+unfoldable prefixed : List ℕ → List (List ℕ) → List (List ℕ)
+prefixed xs [] = []
+prefixed xs (t ∷ ts) = (xs ++ t) ∷ ts
 
-tally-next : (n : ℕ) (r : Option (List (List ℕ))) → (r ≡ some [] → ⊥) → tally n (map? (λ ts. [] ∷ ts) r) ≡ tally (n + 1) r
-unfolding tally map?
-tally-next n none f = refl
-tally-next n (some ts) f = omega arith
+-- texts behind their first quote
+unfoldable pub stringsBehind : List (List ℕ) → List ℕ
+stringsBehind [] = []
+stringsBehind (t ∷ ts) = quoted t ++ valuesJson (map str ts)
+
+-- to write the strings of ts from q on is to write those of us from p on, of which n - 1 are written
+pub record Through (p q : Pen) (n : ℕ) (us ts : List (List ℕ)) : Type 0 where
+  pub leads : Leads p (stringsBehind us) q (stringsBehind ts)
+  pub count : length us + 1 ≡ n + length ts
+
+module _ {p q r : Pen} {n : ℕ} {us : List (List ℕ)} where
+  front-written : (xs zs : List ℕ) (ts : List (List ℕ)) → (ts ≡ [] → ⊥) → ((t : List ℕ) → quoted (xs ++ t) ≡ zs ++ quoted t) → Wrote q zs r → Through p q n us (prefixed xs ts) → Through p r n us ts
+  unfolding prefixed stringsBehind
+  front-written xs zs [] f k w t = absurd (f refl)
+  front-written xs zs (x ∷ ts) f k w t = record {
+    leads = leads-on (t .leads) w (ap (λ (l : List ℕ). l ++ valuesJson (map str ts)) (k x) ∙ append-assoc zs (quoted x) (valuesJson (map str ts)));
+    count = t .count;
+  }
+
+  octet-written : (c : ℕ) (ts : List (List ℕ)) → (ts ≡ [] → ⊥) → Wrote q (escaped c) r → Through p q n us (onto c ts) → Through p r n us ts
+  unfolding onto prefixed quoted
+  octet-written c [] f w t = absurd (f refl)
+  octet-written c (x ∷ ts) f w t = front-written (c ∷ []) (escaped c) (x ∷ ts) f (λ y. refl) w t
+
+  next-written : (ts : List (List ℕ)) → (ts ≡ [] → ⊥) → Wrote q (octets "\",\"") r → Through p q n us ([] ∷ ts) → Through p r (n + 1) us ts
+  unfolding stringsBehind quoted valuesJson print printString
+  next-written [] f w t = absurd (f refl)
+  next-written (x ∷ ts) f w t = record { leads = leads-on (t .leads) w refl; count = omega arith }
+
+last-written : {p q : Pen} {out : List ℕ} {e n : ℕ} {o : Option (List (List ℕ))} (us : List (List ℕ)) → (us ≡ [] → ⊥) → o ≡ some us → Wrote q (code "\"" ∷ []) (pen out e) → Through p q n us ([] ∷ []) → WroteTexts o p out (Counted e n)
+unfolding stringsBehind quoted valuesJson
+last-written [] f a w t = absurd (f refl)
+last-written (u ∷ us) f a w t = (u, us, a, omega (arith, t .count), leads-last (t .leads) w refl)
+
+one-more : (x : ℕ) (xs : List ℕ) (r : Option (List (List ℕ))) → (r ≡ some [] → ⊥) → map? (onto x) (map? (prefixed xs) r) ≡ map? (prefixed (x ∷ xs)) r
+unfolding map? onto prefixed
+one-more x xs none f = refl
+one-more x xs (some []) f = absurd (f refl)
+one-more x xs (some (t ∷ ts)) f = refl
+
+none-more : (r : Option (List (List ℕ))) → r ≡ map? (prefixed []) r
+unfolding map? prefixed
+none-more none = refl
+none-more (some []) = refl
+none-more (some (t ∷ ts)) = refl
 
 module _ (sep other : ℕ) where
   -- one octet by what it does
-  stepped : (n : ℕ) (b : Bool) (c d : ℕ) (s : List ℕ) → act sep other b c ≡ add d → tally n (textsFrom sep other b (c ∷ s)) ≡ tally n (textsFrom sep other false s)
+  octet-read : (b : Bool) (c d : ℕ) (s : List ℕ) → act sep other b c ≡ add d → textsFrom sep other b (c ∷ s) ≡ map? (onto d) (textsFrom sep other false s)
   unfolding textsFrom done escapes
-  stepped n b c d s e = rw e (tally-onto n d (textsFrom sep other false s) (texts-filled sep other false s))
+  octet-read b c d s e = rw e
 
-  stopped : (n : ℕ) (b : Bool) (c : ℕ) (s : List ℕ) → act sep other b c ≡ stop → tally n (textsFrom sep other b (c ∷ s)) ≡ 0
-  unfolding textsFrom done tally
-  stopped n b c s e = rw e
+  none-read : (b : Bool) (c : ℕ) (s : List ℕ) → act sep other b c ≡ stop → textsFrom sep other b (c ∷ s) ≡ none
+  unfolding textsFrom done
+  none-read b c s e = rw e
 
-  escaping : (c : ℕ) → isEscape c ≡ true → (d : ℕ) × (act sep other true c ≡ add d)
-  unfolding act
-  escaping c h = cases (eqb c (code "\\") or eqb c (code ";") or eqb c (code ","))
-      (λ t. (c, rw t))
-      (λ t. (code "\n", rw (t, letter t)))
-    where
-      letter : (eqb c (code "\\") or eqb c (code ";") or eqb c (code ",")) ≡ false → (eqb c (code "n") or eqb c (code "N")) ≡ true
-      letter t =
-          let a = neither (eqb c (code "\\")) (eqb c (code ";") or eqb c (code ",")) t in
-          let b = neither (eqb c (code ";")) (eqb c (code ",")) (a .1) in
-          unfold isEscape in (rw (a .0, b .0, b .1) at h)
-
-  no-escape : (c : ℕ) → isEscape c ≡ false → act sep other true c ≡ stop
-  unfolding act
-  no-escape c h =
-      let g : (eqb c (code "\\") or eqb c (code ";") or eqb c (code ",") or eqb c (code "n") or eqb c (code "N")) ≡ false = unfold isEscape in h in
-      let a = neither (eqb c (code "\\")) _ g in
-      let b = neither (eqb c (code ";")) _ (a .1) in
-      let d = neither (eqb c (code ",")) _ (b .1) in
-      rw (a .0, b .0, d .0, d .1)
-
-  module _ (k : runOctet sep ≡ false) (l : runOctet other ≡ false) (s : List ℕ) (n : ℕ) where
-    abbrev texts-at : ℕ → ℕ
-    texts-at i = tally n (textsFrom sep other false (drop i s))
-
+  -- a run
+  module _ (k : runOctet sep ≡ false) (l : runOctet other ≡ false) where
     run-adds : (c : ℕ) → runOctet c ≡ true → act sep other false c ≡ add c
     unfolding act
     run-adds c h = rw (no-backslash c h, apart runOctet c sep h k, apart runOctet c other h l, run-plain c h)
 
-    pub count-run : {i e : ℕ} → Run runOctet s i e → texts-at i ≡ texts-at e
-    count-run {i} {e} w = run-passes (λ t. tally n (textsFrom sep other false t)) (λ c t h. stepped n false c c t (run-adds c h)) w
+    run-read : (xs ys : List ℕ) → all runOctet xs ≡ true → textsFrom sep other false (xs ++ ys) ≡ map? (prefixed xs) (textsFrom sep other false ys)
+    unfolding all
+    run-read [] ys h = none-more (textsFrom sep other false ys)
+    run-read (x ∷ xs) ys h =
+        let b = both (runOctet x) (all runOctet xs) h in
+        octet-read false x x (xs ++ ys) (run-adds x (b .0)) ∙ ap (map? (onto x)) (run-read xs ys (b .1)) ∙ one-more x xs (textsFrom sep other false ys) (texts-filled sep other false ys)
 
-    pub count-end : (i : ℕ) → length s ≤ i → texts-at i ≡ n + 1
-    unfolding textsFrom tally
-    count-end i h = rw (ended s i h)
+  -- a place, and what stands there
+  module _ (s : List ℕ) (i : ℕ) (h : i < length s) where
+    behind-backslash : getD s i 0 ≡ code "\\" → textsFrom sep other false (drop i s) ≡ textsFrom sep other true (drop (i + 1) s)
+    unfolding textsFrom act done escapes
+    behind-backslash x = rw (here s i h, x)
 
-    module _ (e : ℕ) (h : e < length s) where
-      backslash : getD s e 0 ≡ code "\\" → texts-at e ≡ tally n (textsFrom sep other true (drop (e + 1) s))
+    -- the end does not stand for an octet
+    no-end : {d : ℕ} → getD s (i + 1) 0 ≡ 0 → act sep other true (getD s (i + 1) 0) ≡ add d → ⊥
+    unfolding act
+    no-end {d} u v = let w : stop ≡ add d = rw u at v in let z : _≡_ {A = ℕ} 0 1 = cc in omega arith
+
+    module _ (d : ℕ) (x : getD s i 0 ≡ code "\\") (y : StandsFor (getD s (i + 1) 0) d) where
+      pub step-escape : (d ≡ 0 → ⊥) → StepsAt sep other s i (Octet d (i + 2))
+      step-escape z =
+          let a : act sep other true (getD s (i + 1) 0) ≡ add d = y sep other ∙ rw (ne-eqb d 0 z) in
+          let m : i + 1 + 1 ≡ i + 2 = omega arith in
+          cases (ltb (i + 1) (length s))
+          (λ t. let g = ltb-true (i + 1) (length s) t in
+          (omega arith, omega arith, behind-backslash x ∙ rw (here s (i + 1) g, m) (octet-read true (getD s (i + 1) 0) d (drop (i + 2) s) a)))
+          (λ t. absurd (no-end (past-end s (i + 1) (ltb-false (i + 1) (length s) t)) a))
+
+      pub step-wrong : d ≡ 0 → StepsAt sep other s i Wrong
+      step-wrong z = behind-backslash x ∙ cases (ltb (i + 1) (length s))
+          (λ t. rw (here s (i + 1) (ltb-true (i + 1) (length s) t)) (none-read true (getD s (i + 1) 0) (drop (i + 1 + 1) s) (y sep other ∙ rw z)))
+          (λ t. rw (ended s (i + 1) (ltb-false (i + 1) (length s) t)) (unfold textsFrom in refl))
+
+    module _ (b : getD s i 0 ≡ code "\\" → ⊥) where
+      pub step-separator : getD s i 0 ≡ sep → StepsAt sep other s i Separator
       unfolding textsFrom act done escapes
-      backslash x = rw (here s e h, x)
+      step-separator x = rw (here s i h, ne-eqb (getD s i 0) (code "\\") b, eq-eqb (getD s i 0) sep x)
 
-      pub count-escape : getD s e 0 ≡ code "\\" → isEscape (getD s (e + 1) 0) ≡ true → texts-at e ≡ texts-at (e + 2)
-      count-escape x y =
-          let m : e + 1 + 1 ≡ e + 2 = omega arith in
-          let i = inside s (e + 1) isEscape (unfold isEscape in refl) y in
-          let d = escaping (getD s (e + 1) 0) y in
-          backslash x ∙ rw (here s (e + 1) i) (stepped n true (getD s (e + 1) 0) (d .0) (drop (e + 1 + 1) s) (d .1) ∙ ap (λ (j : ℕ). texts-at j) m)
+      module _ (x : getD s i 0 ≡ sep → ⊥) where
+        pub step-other : getD s i 0 ≡ other → StepsAt sep other s i Wrong
+        step-other y = rw (here s i h) (none-read false _ _ (unfold act in rw (ne-eqb (getD s i 0) (code "\\") b, ne-eqb (getD s i 0) sep x, eq-eqb (getD s i 0) other y)))
 
-      pub count-wrong : getD s e 0 ≡ code "\\" → isEscape (getD s (e + 1) 0) ≡ false → texts-at e ≡ 0
-      count-wrong x y = backslash x ∙ cases (ltb (e + 1) (length s))
-          (λ t. rw (here s (e + 1) (ltb-true (e + 1) (length s) t)) (stopped n true (getD s (e + 1) 0) (drop (e + 1 + 1) s) (no-escape (getD s (e + 1) 0) y)))
-          (λ t. rw (ended s (e + 1) (ltb-false (e + 1) (length s) t)) (unfold textsFrom tally in refl))
+        module _ (y : getD s i 0 ≡ other → ⊥) where
+          pub step-control : plainOctet (getD s i 0) ≡ false → StepsAt sep other s i Wrong
+          step-control z = rw (here s i h) (none-read false _ _ (unfold act in rw (ne-eqb (getD s i 0) (code "\\") b, ne-eqb (getD s i 0) sep x, ne-eqb (getD s i 0) other y, z)))
 
-      module _ (b : getD s e 0 ≡ code "\\" → ⊥) where
-        pub count-next : getD s e 0 ≡ sep → texts-at e ≡ tally (n + 1) (textsFrom sep other false (drop (e + 1) s))
-        unfolding textsFrom act done escapes
-        count-next x = rw (here s e h, ne-eqb (getD s e 0) (code "\\") b, eq-eqb (getD s e 0) sep x) (tally-next n _ (texts-filled sep other false (drop (e + 1) s)))
+          pub step-octet : plainOctet (getD s i 0) ≡ true → StepsAt sep other s i (Octet (getD s i 0) (i + 1))
+          step-octet z = (omega arith, omega arith, rw (here s i h) (octet-read false _ (getD s i 0) _ (unfold act in rw (ne-eqb (getD s i 0) (code "\\") b, ne-eqb (getD s i 0) sep x, ne-eqb (getD s i 0) other y, z))))
 
-        module _ (x : getD s e 0 ≡ sep → ⊥) where
-          pub count-other : getD s e 0 ≡ other → texts-at e ≡ 0
-          count-other y = rw (here s e h) (stopped n false _ _ (unfold act in rw (ne-eqb (getD s e 0) (code "\\") b, ne-eqb (getD s e 0) sep x, eq-eqb (getD s e 0) other y)))
+module _ (sep other : ℕ) (s : List ℕ) where
+  -- what is read and written up to i, and how many texts that are
+  pub record Walked (p q : Pen) (n i : ℕ) : Type 0 where
+    pub going : Going (Through p q n) (textsFrom sep other false s) (textsFrom sep other false (drop i s))
 
-          pub count-control : (getD s e 0 ≡ other → ⊥) → plainOctet (getD s e 0) ≡ false → texts-at e ≡ 0
-          count-control y p = rw (here s e h) (stopped n false _ _ (unfold act in rw (ne-eqb (getD s e 0) (code "\\") b, ne-eqb (getD s e 0) sep x, ne-eqb (getD s e 0) other y, p)))
+  pub walked-start : {p : Pen} → Walked p p 1 0
+  walked-start = record { going = going-start (λ ts. record { leads = leads-start; count = omega arith }) }
 
-          pub count-octet : (getD s e 0 ≡ other → ⊥) → plainOctet (getD s e 0) ≡ true → texts-at e ≡ texts-at (e + 1)
-          count-octet y p = rw (here s e h) (stepped n false _ (getD s e 0) _ (unfold act in rw (ne-eqb (getD s e 0) (code "\\") b, ne-eqb (getD s e 0) sep x, ne-eqb (getD s e 0) other y, p)))
+  -- a text is left
+  left : (j : ℕ) (ts : List (List ℕ)) → textsFrom sep other false (drop j s) ≡ some ts → ts ≡ [] → ⊥
+  left j ts e z = texts-filled sep other false (drop j s) (e ∙ ap some z)
+
+  module _ {p q : Pen} {n i : ℕ} (g : Walked p q n i) where
+    pub walked-run : {e : ℕ} {r : Pen} → runOctet sep ≡ false → runOctet other ≡ false → Run runOctet s i e → Wrote q (take (e - i) (drop i s)) r → Walked p r n e
+    walked-run {e} k l v w =
+        let xs = take (e - i) (drop i s) in
+        record {
+          going = going-on (prefixed xs) _ (g .going) (ap (textsFrom sep other false) (part-rest s i e (v .above)) ∙ run-read sep other k l xs (drop e s) (v .inside))
+              (λ ts us f t. front-written xs xs ts (left e ts f) (λ y. quoted-run xs y (v .inside)) w t);
+        }
+
+    pub walked-octet : {r : Pen} (c j : ℕ) → StepsAt sep other s i (Octet c j) → Wrote q (escaped c) r → Walked p r n j
+    walked-octet c j v w = record { going = going-on (onto c) _ (g .going) (v .2) (λ ts us f t. octet-written c ts (left j ts f) w t) }
+
+    pub walked-next : {r : Pen} → StepsAt sep other s i Separator → Wrote q (octets "\",\"") r → Walked p r (n + 1) (i + 1)
+    walked-next v w = record { going = going-on (λ ts. [] ∷ ts) _ (g .going) v (λ ts us f t. next-written ts (left (i + 1) ts f) w t) }
+
+    pub walked-end : (out : List ℕ) (e : ℕ) → length s ≤ i → Wrote q (code "\"" ∷ []) (pen out e) → WroteTexts (textsFrom sep other false s) p out (Counted e n)
+    unfolding textsFrom
+    walked-end out e h w =
+        let b = g .going .stands ([] ∷ []) (ap (textsFrom sep other false) (ended s i h)) in
+        last-written (b .0) (left 0 (b .0) (b .1)) (b .1) w (b .2)
+
+    pub walked-wrong : StepsAt sep other s i Wrong → textsFrom sep other false s ≡ none
+    walked-wrong v = g .going .fails v

@@ -1,17 +1,20 @@
 // Text values: escapes, and the separators between texts. Octets that are written as they stand go run by run.
 ghost use mathlib.Core.Path.{_≡_};
 ghost use mathlib.Core.Bool.{false};
-ghost use Prim.Native.Nat.{_≤_};
-ghost use lib.ListN.{length, drop};
-ghost use Rattle.octets.specs.Basics.{_and_, all};
-ghost use Rattle.octets.specs.Classes.{plainOctet, upper};
+ghost use mathlib.Core.List.{map};
+ghost use Prim.Native.Nat.{_≤_, _<_};
+ghost use lib.ListN.{length};
+ghost use Rattle.octets.specs.Basics.{_and_, _or_, all, single};
+ghost use Rattle.octets.specs.Classes.{upper};
+ghost use Rattle.octets.specs.Optional.{map?, guard};
 ghost use Rattle.octets.specs.Pen.{pen, Wrote};
-ghost use Rattle.json.specs.Print.{escaped, printString};
+ghost use Rattle.json.specs.Tree.{str};
+ghost use Rattle.json.specs.Print.{escaped, printString, print};
 ghost use Rattle.json.specs.Promise.{Run};
-ghost use Rattle.values.specs.Texts.{textsFrom, texts, fields};
-ghost use Rattle.values.specs.Shown.{runOctet, escapeShown, textsShown, commaTexts, semicolonTexts};
-ghost use Rattle.values.specs.Steps.{counted, isEscape};
-ghost use Rattle.valuetexts.specs.Trying.{countFits, Tried};
+ghost use Rattle.values.specs.Read.{readPlain, readStatus};
+ghost use Rattle.values.specs.Shown.{runOctet, valuesJson};
+ghost use Rattle.values.specs.Texts.{textsFrom, texts};
+ghost use Rattle.valuetexts.specs.Trying.{Tried, WroteTexts, StandsFor, StepsAt};
 use octets::is_plain_octet;
 use octets::peek;
 use octets::put;
@@ -21,6 +24,19 @@ use octets::upper_octet;
 // What a writer that tests answers: where the next octet goes, or that the value does not stand.
 pub enum Attempt {
     Wrote(usize),
+    Invalid,
+}
+
+// What the writer of texts answers: where the next octet goes and how many texts there are, or that one is no text.
+enum Texts {
+    Wrote(usize, usize),
+    Invalid,
+}
+
+// What stands in a text: an octet, with the place behind it; a bare separator; or what is not allowed.
+enum Step {
+    Octet(u8, usize),
+    Separator,
     Invalid,
 }
 
@@ -92,52 +108,43 @@ fn past_run(s: &[u8], at: usize) -> usize
     i
 }
 
-// What may stand behind a backslash.
-fn is_escape(c: u8) -> bool
-    ensures { λ r. ⌜ r ≡ isEscape c ⌝ }
+// The octet that c stands for behind a backslash; 0 where it may not stand there.
+fn unescaped(c: u8) -> u8
+    ensures { λ r. ⌜ StandsFor c r ⌝ }
 {
     match c {
-        b'\\' => true,
-        b';' => true,
-        b',' => true,
-        b'n' => true,
-        b'N' => true,
-        _ => false,
+        b'\\' => c,
+        b';' => c,
+        b',' => c,
+        b'n' => b'\n',
+        b'N' => b'\n',
+        _ => 0,
     }
 }
 
-// How many texts stand between the bare separators; 0 where one is no text.
-fn count_between(s: &[u8], sep: u8, other: u8) -> usize
-    requires { ⌜ (runOctet sep ≡ false) × (runOctet other ≡ false) ⌝ }
-    ensures { λ r. ⌜ r ≡ counted (textsFrom sep other false (now (s .entry))) ⌝ }
+// What stands at i.
+fn step_at(s: &[u8], i: usize, sep: u8, other: u8) -> Step
+    requires { ⌜ i < length (now s) ⌝ }
+    ensures { λ r. ⌜ StepsAt sep other (now (s .entry)) i r ⌝ }
 {
-    let mut n = 0;
-    let mut i = 0;
-    while i < s.len() {
-        let e = past_run(s, i);
-        if e == s.len() {
-            return n + 1;
+    let c = s[i];
+    if c == b'\\' {
+        let d = unescaped(peek(s, i + 1));
+        if d == 0 {
+            return Step::Invalid;
         }
-        let c = s[e];
-        if c == b'\\' {
-            if !is_escape(peek(s, e + 1)) {
-                return 0;
-            }
-            i = e + 2;
-        } else if c == sep {
-            n += 1;
-            i = e + 1;
-        } else {
-            if c == other {
-                return 0;
-            }
-            if !is_plain_octet(c) {
-                return 0;
-            }
-            i = e + 1;
-        }
+        return Step::Octet(d, i + 2);
     }
-    n + 1
+    if c == sep {
+        return Step::Separator;
+    }
+    if c == other {
+        return Step::Invalid;
+    }
+    if !is_plain_octet(c) {
+        return Step::Invalid;
+    }
+    Step::Octet(c, i + 1)
 }
 
 // Writes one octet of a string.
@@ -153,95 +160,83 @@ fn put_escaped(out: &mut [u8], at: usize, c: u8) -> usize
     }
 }
 
-// Writes what stands at i, behind a backslash.
-fn put_escape(out: &mut [u8], at: usize, s: &[u8], i: usize) -> usize
-    ensures { λ r. ⌜ Wrote (pen (now (out .entry)) at) (escapeShown (drop i (now (s .entry)))) (pen (now (out .exit)) r) ⌝ }
+// Tests the texts between bare separators, writes them behind their first quote, as strings with a comma between them, and counts them.
+fn put_between(out: &mut [u8], at: usize, s: &[u8], sep: u8, other: u8) -> Texts
+    requires { ⌜ (runOctet sep ≡ false) × (runOctet other ≡ false) ⌝ }
+    ensures { λ r. ⌜ WroteTexts (textsFrom sep other false (now (s .entry))) (pen (now (out .entry)) at) (now (out .exit)) r ⌝ }
 {
-    if s.len() <= i {
-        return at;
-    }
-    match s[i] {
-        b'n' => put_escaped(out, at, b'\n'),
-        b'N' => put_escaped(out, at, b'\n'),
-        _ => put_escaped(out, at, s[i]),
-    }
-}
-
-// Writes texts as strings with a comma between them.
-fn put_between(out: &mut [u8], at: usize, s: &[u8], sep: u8) -> usize
-    requires { ⌜ runOctet sep ≡ false ⌝ }
-    ensures { λ r. ⌜ Wrote (pen (now (out .entry)) at) (textsShown sep (now (s .entry))) (pen (now (out .exit)) r) ⌝ }
-{
-    let mut p = put(out, at, b'"');
+    let mut p = at;
+    let mut n = 1;
     let mut i = 0;
-    while i < s.len() {
-        let e = past_run(s, i);
+    loop {
+        let e = past_run(&*s, i);
         let q = put_all(out, p, &s[i..e]);
         if e == s.len() {
-            return put(out, q, b'"');
+            return Texts::Wrote(put(out, q, b'"'), n);
         }
-        let c = s[e];
-        if c == b'\\' {
-            p = put_escape(out, q, s, e + 1);
-            i = e + 2;
-        } else if c == sep {
-            p = put_all(out, q, b"\",\"");
-            i = e + 1;
-        } else {
-            p = put_escaped(out, q, c);
-            i = e + 1;
+        match step_at(&*s, e, sep, other) {
+            Step::Octet(c, j) => {
+                p = put_escaped(out, q, c);
+                i = j;
+            }
+            Step::Separator => {
+                p = put_all(out, q, b"\",\"");
+                n += 1;
+                i = e + 1;
+            }
+            Step::Invalid => {
+                return Texts::Invalid;
+            }
         }
     }
-    put(out, p, b'"')
 }
 
-// Tests the texts between the bare commas, one only where there may not be many, and writes them.
+// Tests the texts between bare commas, one only where there may not be many, and writes each with a comma before it.
 pub fn put_tested_texts(out: &mut [u8], at: usize, s: &[u8], many: bool) -> Attempt
-    ensures { λ r. ⌜ Tried (countFits many (counted (texts (now (s .entry))))) (commaTexts (now (s .entry))) (pen (now (out .entry)) at) (now (out .exit)) r ⌝ }
+    ensures { λ r. ⌜ Tried (guard (λ vs. many or single vs) (map? (map str) (texts (now (s .entry))))) valuesJson (pen (now (out .entry)) at) (now (out .exit)) r ⌝ }
 {
-    let mut p = put(out, at, b'"');
-    let mut i = 0;
-    while i < s.len() {
-        let e = past_run(s, i);
-        let q = put_all(out, p, &s[i..e]);
-        if e == s.len() {
-            return Attempt::Wrote(put(out, q, b'"'));
+    let first = put_all(out, at, b",\"");
+    match put_between(out, first, &*s, b',', b';') {
+        Texts::Wrote(q, n) => {
+            if many {
+                return Attempt::Wrote(q);
+            }
+            if n == 1 {
+                return Attempt::Wrote(q);
+            }
+            Attempt::Invalid
         }
-        let c = s[e];
-        if c == b'\\' {
-            if !is_escape(peek(s, e + 1)) {
-                return Attempt::Invalid;
-            }
-            p = put_escape(out, q, s, e + 1);
-            i = e + 2;
-        } else if c == b',' {
-            if !many {
-                return Attempt::Invalid;
-            }
-            p = put_all(out, q, b"\",\"");
-            i = e + 1;
-        } else {
-            if c == b';' {
-                return Attempt::Invalid;
-            }
-            if !is_plain_octet(c) {
-                return Attempt::Invalid;
-            }
-            p = put_escaped(out, q, c);
-            i = e + 1;
-        }
+        Texts::Invalid => Attempt::Invalid,
     }
-    Attempt::Wrote(put(out, p, b'"'))
+}
+
+// Tests the two or three texts of REQUEST-STATUS, between bare semicolons, and writes an array of them.
+pub fn put_tested_status(out: &mut [u8], at: usize, s: &[u8]) -> Attempt
+    ensures { λ r. ⌜ Tried (readStatus (now (s .entry))) print (pen (now (out .entry)) at) (now (out .exit)) r ⌝ }
+{
+    let first = put_all(out, at, b"[\"");
+    match put_between(out, first, &*s, b';', b',') {
+        Texts::Wrote(q, n) => {
+            if n < 2 {
+                return Attempt::Invalid;
+            }
+            if n > 3 {
+                return Attempt::Invalid;
+            }
+            Attempt::Wrote(put(out, q, b']'))
+        }
+        Texts::Invalid => Attempt::Invalid,
+    }
 }
 
 // Tests that no control character but tab stands there, and writes a string.
 pub fn put_tested_plain(out: &mut [u8], at: usize, s: &[u8]) -> Attempt
-    ensures { λ r. ⌜ Tried (all plainOctet (now (s .entry))) (printString (now (s .entry))) (pen (now (out .entry)) at) (now (out .exit)) r ⌝ }
+    ensures { λ r. ⌜ Tried (readPlain (now (s .entry))) print (pen (now (out .entry)) at) (now (out .exit)) r ⌝ }
 {
     let mut p = put(out, at, b'"');
     let mut i = 0;
-    while i < s.len() {
-        let e = past_run(s, i);
+    loop {
+        let e = past_run(&*s, i);
         let q = put_all(out, p, &s[i..e]);
         if e == s.len() {
             return Attempt::Wrote(put(out, q, b'"'));
@@ -253,28 +248,6 @@ pub fn put_tested_plain(out: &mut [u8], at: usize, s: &[u8]) -> Attempt
         p = put_escaped(out, q, c);
         i = e + 1;
     }
-    Attempt::Wrote(put(out, p, b'"'))
-}
-
-// How many texts stand between the bare commas; 0 where one is no text.
-pub fn count_texts(s: &[u8]) -> usize
-    ensures { λ r. ⌜ r ≡ counted (texts (now (s .entry))) ⌝ }
-{
-    count_between(s, b',', b';')
-}
-
-// How many texts stand between the bare semicolons; 0 where one is no text.
-pub fn count_fields(s: &[u8]) -> usize
-    ensures { λ r. ⌜ r ≡ counted (fields (now (s .entry))) ⌝ }
-{
-    count_between(s, b';', b',')
-}
-
-// Writes the texts between the bare semicolons.
-pub fn put_fields(out: &mut [u8], at: usize, s: &[u8]) -> usize
-    ensures { λ r. ⌜ Wrote (pen (now (out .entry)) at) (semicolonTexts (now (s .entry))) (pen (now (out .exit)) r) ⌝ }
-{
-    put_between(out, at, s, b';')
 }
 
 // Writes a string in uppercase.

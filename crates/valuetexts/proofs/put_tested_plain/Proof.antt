@@ -1,13 +1,11 @@
 -- `valuetexts::put_tested_plain` meets its contract.
+use borrow.Author.Needs.{needs}
 use Prim.Native.Nat.{_-_, _≤_, _<_}
 use mathlib.Core.Path.{_≡_, refl, sym, _∙_}
 use native.Mathlib.Omega.{arith}
 use lib.ListN.{length}
-use borrow.Author.Needs.{needs}
 use borrow.Author.Tests.{not-true, not-false}
 use Rattle.octets.specs.Pen.{pen}
-use Rattle.octets.proofs.Pen.{then}
-use Rattle.json.specs.Print.{printString}
 use Rattle.valuetexts.proofs.Plain.{Plainly, plainly-start, plainly-run, plainly-end, plainly-not, plainly-octet}
 use Rattle.valuetexts.proofs.put_tested_plain.Statement.{statement}
 use Rattle.valuetexts.proofs.put_tested_plain.Tie as tie
@@ -19,30 +17,24 @@ abbrev μ-loop : tie.MeasureT-loop
 μ-loop out₀ at s p₀ i₀ out p i = length s - i
 
 -- the run is passed and written
-passed : (c : tie.After-slice-known3 Inv-loop μ-loop)
-    → Plainly (c .before .before .before .before .before .before .before .before .before .before .before .before .before .before .args .s .now) (pen (c .before .before .before .before .before .before .before .before .before .before .put .last .0) (c .before .before .before .before .before .before .before .before .before .before .put .result)) (pen (c .before .before .put-all .last .0) (c .before .before .put-all .result)) (c .before .before .before .before .before .past-run .result)
-passed c = plainly-run _ (c .before .before .before .before .before .before .before .loop .inv .2) (c .before .before .before .before .before .past-run .ensures) (c .before .before .put-all .ensures)
+passed : (c : tie.After-slice-known3 Inv-loop μ-loop) → Plainly (c .before .before .before .before .before .before .before .before .before .before .before .before .before .args .s .now) (pen (c .before .before .before .before .before .before .before .before .before .put .last .0) (c .before .before .before .before .before .before .before .before .before .put .result)) (pen (c .before .before .put-all .last .0) (c .before .before .put-all .result)) (c .before .before .before .before .before .past-run .result)
+passed c = plainly-run _ (c .before .before .before .before .before .before .loop .inv .2) (c .before .before .before .before .before .past-run .ensures) (c .before .before .put-all .ensures)
 
 -- an octet stands behind the run
-inside : (c : tie.Else1 Inv-loop μ-loop) → c .before .before .before .before .before .before .past-run .result < length (c .before .before .before .before .before .before .before .before .before .before .before .before .before .before .before .args .s .now)
+inside : (c : tie.Else1 Inv-loop μ-loop) → c .before .before .before .before .before .before .past-run .result < length (c .before .before .before .before .before .before .before .before .before .before .before .before .before .before .args .s .now)
 inside c = omega (arith, c .before .before .before .before .before .before .past-run .ensures .below, c .if1 .left)
 
 loop-holds : tie.Need-loop-holds Inv-loop μ-loop
 loop-holds c = (omega arith, refl, plainly-start _)
 
 returns : tie.Need-returns Inv-loop μ-loop
-unfolding printString
-returns c = let end = plainly-end _ (passed (c .before .before .before .before .before)) (omega (arith, c .before .before .before .before .if1 .taken)) (c .before .before .put2 .ensures) in (end .0, then (c .before .before .before .before .before .before .before .before .before .before .before .before .before .before .before .put .ensures) (end .1))
+returns c = plainly-end _ (passed (c .before .before .before .before .before)) (c .before .before .before .before .before .before .before .before .before .before .before .before .before .before .put .ensures) (omega (arith, c .before .before .before .before .if1 .taken)) (c .before .before .put2 .ensures)
 
 returns-2 : tie.Need-returns-2 Inv-loop μ-loop
 returns-2 c = plainly-not _ (passed (c .before .before .before .before)) (inside (c .before .before .before)) (sym (c .before .is-plain-octet .ensures) ∙ not-true _ (c .if2 .taken))
 
 loop-again : tie.Need-loop-again Inv-loop μ-loop
 loop-again c = (omega (arith, inside (c .before .before .before .before .before .before .before)), omega arith, plainly-octet _ (passed (c .before .before .before .before .before .before .before .before)) (inside (c .before .before .before .before .before .before .before)) (sym (c .before .before .before .before .before .is-plain-octet .ensures) ∙ not-false _ (c .before .before .before .before .if2 .left)) (c .before .before .put-escaped .ensures))
-
-returns-3 : tie.Need-returns-3 Inv-loop μ-loop
-unfolding printString
-returns-3 c = let end = plainly-end _ (c .before .before .before .before .before .loop .inv .2) (c .before .before .before .before .loop-test .left) (c .before .before .put3 .ensures) in (end .0, then (c .before .before .before .before .before .before .before .before .put .ensures) (end .1))
 
 pub put-tested-plain-spec : {M : Type 1} → statement M
 put-tested-plain-spec =
@@ -67,7 +59,4 @@ put-tested-plain-spec =
     (λ c κs. search needs)
     (λ c. search needs)
     (λ c. search needs)
-    loop-again
-    (λ c κs. search needs)
-    (λ c. search needs)
-    returns-3)
+    loop-again)

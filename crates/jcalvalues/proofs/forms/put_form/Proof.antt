@@ -1,7 +1,7 @@
 -- `jcalvalues::forms::put_form` meets its contract.
+use borrow.Author.Needs.{needs}
 use Rattle.octets.proofs.Pen.{as-text}
 use Rattle.jcalvalues.proofs.Quoting.{short-shown}
-use borrow.Author.Needs.{needs}
 use Rattle.jcalvalues.proofs.forms.put_form.Statement.{statement}
 use Rattle.jcalvalues.proofs.forms.put_form.Tie as tie
 

@@ -1,30 +1,24 @@
 -- `jcalvalues::forms::put_tested_form` meets its contract.
-use Prim.Native.Char.{code}
-use mathlib.Core.Bool.{not}
-use mathlib.Core.List.{[], _∷_, _++_}
-use mathlib.Core.Path.{ap, _∙_}
 use borrow.Author.Needs.{needs}
-use borrow.Author.Tests.{eq-eqb, ne-eqb}
+use Prim.Native.Char.{code}
+use mathlib.Core.List.{[], _∷_, _++_}
+use mathlib.Core.Path.{ap}
 use Rattle.octets.specs.Classes.{upper}
 use Rattle.octets.proofs.Pen.{as-text}
 use Rattle.octets.proofs.Positions.{upto}
 use Rattle.values.proofs.Halves.{wrapped}
-use Rattle.jcalvalues.proofs.FormStrings.{form-string}
-use Rattle.jcalvalues.proofs.Quoting.{short-there}
+use Rattle.jcalvalues.proofs.FormStrings.{form-none, form-written}
 use Rattle.jcalvalues.proofs.forms.put_tested_form.Statement.{statement}
 use Rattle.jcalvalues.proofs.forms.put_tested_form.Tie as tie
 
 returns : tie.Need-returns
-returns c = short-there _ _ (c .before .before .extended .ensures) ∙ ap not (eq-eqb _ 0 (c .if1 .taken))
+returns c = form-none (c .before .before .before .before .before .args .form) _ _ (c .before .before .extended .ensures) (c .if1 .taken)
 
 returns-2 : tie.Need-returns-2
 returns-2 c =
-    let args = c .before .before .before .before .before .before .before .before .before .before .before .before .before .before .before .before .before .before .before .args in
-    let t = c .before .before .before .before .before .before .before .before .before .before .before .before .before .before .before .before .extended in
-    let if1 = c .before .before .before .before .before .before .before .before .before .before .before .before .before .before .if1 in
-    let text = form-string (args .form) (upper (args .s .now)) (t .result) (t .ensures) (if1 .left) in
-    let part = ap (λ l. code "\"" ∷ (l ++ code "\"" ∷ [])) (upto (t .result .octets) (t .result .len)) in
-    (short-there _ _ (t .ensures) ∙ ap not (ne-eqb _ 0 (if1 .left)), as-text (wrapped _ _ (c .before .before .before .before .before .before .before .before .before .before .before .before .put .ensures) (c .before .before .before .before .before .before .put-all .ensures) (c .before .before .put2 .ensures)) (part ∙ text))
+    let t = c .before .before .before .before .before .before .before .before .before .before .before .before .before .before .before .before .extended .result in
+    form-written (c .before .before .before .before .before .before .before .before .before .before .before .before .before .before .before .before .before .before .before .args .form) (upper (c .before .before .before .before .before .before .before .before .before .before .before .before .before .before .before .before .before .before .before .args .s .now)) t (c .before .before .before .before .before .before .before .before .before .before .before .before .before .before .before .before .extended .ensures) (c .before .before .before .before .before .before .before .before .before .before .before .before .before .before .if1 .left)
+    (as-text (wrapped _ _ (c .before .before .before .before .before .before .before .before .before .before .before .before .put .ensures) (c .before .before .before .before .before .before .put-all .ensures) (c .before .before .put2 .ensures)) (ap (λ l. code "\"" ∷ (l ++ code "\"" ∷ [])) (upto (t .octets) (t .len))))
 
 pub put-tested-form-spec : {M : Type 1} → statement M
 put-tested-form-spec =

@@ -46,7 +46,7 @@ returns c =
     let loop = c .before .before .before .before .before .before .before .before .loop in
     let find = c .before .before .before .before .before .before .find in
     let f = itemJsonShown (sortSaid (args .sort)) in
-    leads-last (loop .inv .2) (c .before .before .before .put-item-json .ensures) (list-last f (code ",") (args .v .now) (loop .i) (find .result) (find .ensures) (c .if1 .taken))
+    leads-last (loop .inv .2) (c .before .before .before .put-item-json .ensures) (list-last (code ",") (args .v .now) (loop .i) (find .result) (find .ensures) f (c .if1 .taken))
 
 loop-again : tie.Need-loop-again Inv-loop μ-loop
 loop-again c =
@@ -56,7 +56,7 @@ loop-again c =
     let put-item-json = c .before .before .before .before .before .before .before .put-item-json in
     let f = itemJsonShown (sortSaid (args .sort)) in
     let e = ahead c in
-    let m = list-more f (code ",") (args .v .now) (loop .i) (find .result) (find .ensures) (c .before .before .before .before .if1 .left) in
+    let m = list-more (code ",") (args .v .now) (loop .i) (find .result) (find .ensures) f (c .before .before .before .before .if1 .left) in
     (omega arith, omega arith, leads-on (loop .inv .2) (then (put-item-json .ensures) (c .before .before .put .ensures)) m)
 
 pub put-item-list-spec : {M : Type 1} → statement M

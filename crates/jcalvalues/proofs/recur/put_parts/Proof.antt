@@ -44,7 +44,7 @@ returns c =
     let loop = c .before .before .before .before .before .before .before .before .loop in
     let args = c .before .before .before .before .before .before .before .before .before .before .before .args in
     let find = c .before .before .before .before .before .before .find in
-    leads-last (loop .inv .2) (c .before .before .before .put-part .ensures) (list-last partShown (code ";") (args .s .now) (loop .i) (find .result) (find .ensures) (c .if1 .taken))
+    leads-last (loop .inv .2) (c .before .before .before .put-part .ensures) (list-last (code ";") (args .s .now) (loop .i) (find .result) (find .ensures) partShown (c .if1 .taken))
 
 loop-again : tie.Need-loop-again Inv-loop μ-loop
 loop-again c =
@@ -53,7 +53,7 @@ loop-again c =
     let find = c .before .before .before .before .before .before .before .before .before .before .find in
     let put-part = c .before .before .before .before .before .before .before .put-part in
     let e = ahead c in
-    let m = list-more partShown (code ";") (args .s .now) (loop .i) (find .result) (find .ensures) (c .before .before .before .before .if1 .left) in
+    let m = list-more (code ";") (args .s .now) (loop .i) (find .result) (find .ensures) partShown (c .before .before .before .before .if1 .left) in
     (omega arith, omega arith, leads-on (loop .inv .2) (then (put-part .ensures) (c .before .before .put .ensures)) m)
 
 pub put-parts-spec : {M : Type 1} → statement M

@@ -1,0 +1,95 @@
+-- Values between commas that are read and written one after another.
+use Prim.Native.Nat.{ℕ, _+_, _-_, _≤_, _<_}
+use Prim.Native.Char.{code}
+use mathlib.Core.Path.{_≡_, refl, ap, _∙_}
+use mathlib.Core.Bool.{Bool, true, false}
+use mathlib.Core.List.{List, [], _∷_}
+use mathlib.Core.Option.{Option, none, some}
+use native.Mathlib.Omega.{arith}
+use borrow.Author.Tests.{ltb-true, ltb-false}
+use lib.Dec.{ltb}
+use lib.ListN.{length, take, drop}
+use Rattle.octets.specs.Basics.{_or_, filled, single}
+use Rattle.octets.specs.Optional.{map?, both?, when, guard, each}
+use Rattle.octets.specs.Pen.{Pen, Wrote}
+use Rattle.octets.specs.Pieces.{split}
+use Rattle.octets.proofs.Cases.{cases, or-true-right}
+use Rattle.octets.proofs.Optional.{each-is}
+use Rattle.octets.proofs.Pen.{Leads, leads-start, leads-on, leads-end}
+use Rattle.octets.proofs.Pieces.{split-filled}
+use Rattle.calendar.specs.Walk.{before}
+use Rattle.json.specs.Tree.{Json}
+use Rattle.json.specs.Print.{print}
+use Rattle.values.specs.Read.{listed}
+use Rattle.values.specs.Shown.{valuesJson}
+use Rattle.valuetexts.proofs.Going.{Going, going-start, going-on}
+use Rattle.jcalvalues.proofs.Lists.{pieces-more, pieces-last}
+
+each-filled : (f : List ℕ → Option Json) (ls : List (List ℕ)) → (ls ≡ [] → ⊥) → each f ls ≡ some [] → ⊥
+each-filled f [] n e = n refl
+each-filled f (l ∷ ls) n e = each-is f l ls [] e (λ c cs a b q. let z : _≡_ {A = ℕ} 0 1 = cc in omega arith)
+
+-- the first value and the others, one only where there may not be many
+module _ (many : Bool) where
+  abbrev fit : Option (List Json) → Option (List Json)
+  fit r = guard (λ vs. many or single vs) r
+
+  first-wrong : (o : Option Json) (r : Option (List Json)) → o ≡ none → fit (both? _∷_ o r) ≡ none
+  unfolding both? guard
+  first-wrong o r e = rw e
+
+  only-one : (j : Json) → fit (both? _∷_ (some j) (some [])) ≡ some (j ∷ [])
+  unfolding both? guard single filled when
+  only-one j = rw (or-true-right many)
+
+  not-alone : (o : Option Json) (r : Option (List Json)) → (r ≡ some [] → ⊥) → many ≡ false → fit (both? _∷_ o r) ≡ none
+  unfolding both? guard single filled when
+  not-alone none r n m = refl
+  not-alone (some j) none n m = refl
+  not-alone (some j) (some []) n m = absurd (n refl)
+  not-alone (some j) (some (v ∷ vs)) n m = rw m
+
+  others-left : (j : Json) (r : Option (List Json)) → many ≡ true → fit (both? _∷_ (some j) r) ≡ map? (λ vs. j ∷ vs) (fit r)
+  unfolding both? guard when map?
+  others-left j none m = refl
+  others-left j (some vs) m = rw m
+
+module _ (f : List ℕ → Option Json) (many : Bool) (s : List ℕ) where
+  -- what is read and written up to i
+  pub record Listed (p q : Pen) (i : ℕ) : Type 0 where
+    pub going : Going (λ us vs. Leads p (valuesJson us) q (valuesJson vs)) (guard (λ vs. many or single vs) (listed f s)) (guard (λ vs. many or single vs) (listed f (drop i s)))
+
+  pub listed-start : {p : Pen} → Listed p p 0
+  listed-start = record { going = going-start (λ vs. leads-start) }
+
+  -- a turn, which reads the value at i
+  module _ {p q : Pen} {i : ℕ} (g : Listed p q i) (e : ℕ) (is : e ≡ length (before (code ",") (take (length s - i) (drop i s)))) where
+    abbrev value : List ℕ
+    value = take (e - 0) (drop 0 (take (length s - i) (drop i s)))
+
+    last : length (take (length s - i) (drop i s)) ≤ e → listed f (drop i s) ≡ both? _∷_ (f value) (some [])
+    unfolding listed each
+    last h = rw (pieces-last (code ",") s i e is h)
+
+    more : e < length (take (length s - i) (drop i s)) → listed f (drop i s) ≡ both? _∷_ (f value) (listed f (drop (i + e + 1) s))
+    unfolding listed each
+    more h = rw (pieces-more (code ",") s i e is h)
+
+    pub value-wrong : f value ≡ none → guard (λ vs. many or single vs) (listed f s) ≡ none
+    value-wrong w = g .going .fails (cases (ltb e (length (take (length s - i) (drop i s))))
+        (λ h. ap (fit many) (more (ltb-true e _ h)) ∙ first-wrong many _ _ w)
+        (λ h. ap (fit many) (last (ltb-false e _ h)) ∙ first-wrong many _ _ w))
+
+    pub value-alone : e < length (take (length s - i) (drop i s)) → many ≡ false → guard (λ vs. many or single vs) (listed f s) ≡ none
+    value-alone h m = g .going .fails (ap (fit many) (more h) ∙ not-alone many _ _ (unfold listed in each-filled f (split (code ",") (drop (i + e + 1) s)) (split-filled (code ",") _)) m)
+
+    module _ {r : Pen} (j : Json) (w : f value ≡ some j) (u : Wrote q (code "," ∷ print j) r) where
+      pub value-last : length (take (length s - i) (drop i s)) ≤ e → (vs : List Json) × (guard (λ vs. many or single vs) (listed f s) ≡ some vs) × Wrote p (valuesJson vs) r
+      unfolding valuesJson
+      value-last h =
+          let b = g .going .stands (j ∷ []) (ap (fit many) (last h ∙ rw w) ∙ only-one many j) in
+          (b .0, b .1, leads-end (leads-on (b .2) u refl) refl)
+
+      pub value-on : e < length (take (length s - i) (drop i s)) → many ≡ true → Listed p r (i + e + 1)
+      unfolding valuesJson
+      value-on h m = record { going = going-on (λ vs. j ∷ vs) _ (g .going) (ap (fit many) (more h ∙ rw w) ∙ others-left many j _ m) (λ vs us a l. leads-on l u refl) }

@@ -1,0 +1,94 @@
+-- Texts that are read and counted: one or many, and the two or three of REQUEST-STATUS.
+use Prim.Native.Nat.{ℕ, _+_, _≤_, _<_}
+use Prim.Native.Char.{code}
+use mathlib.Core.Path.{_≡_, refl, sym, ap, _∙_}
+use mathlib.Core.Bool.{Bool, true, false}
+use mathlib.Core.List.{List, [], _∷_, _++_, map, append-assoc}
+use mathlib.Core.Option.{none, some}
+use native.Mathlib.Omega.{arith}
+use borrow.Author.Tests.{ne-eqb}
+use lib.Dec.{eqb}
+use lib.ListN.{length}
+use Rattle.octets.specs.Basics.{octets, _or_, filled, single}
+use Rattle.octets.specs.Optional.{map?, when, guard}
+use Rattle.octets.specs.Pen.{Pen, pen, Wrote}
+use Rattle.octets.proofs.Pen.{then, as-text}
+use Rattle.json.specs.Tree.{Json, str, arr, itemsOf}
+use Rattle.json.specs.Print.{quoted, printString, print, firstItem, moreItems}
+use Rattle.values.specs.Read.{twoOrThree, readStatus}
+use Rattle.values.specs.Shown.{valuesJson}
+use Rattle.values.specs.Texts.{texts, fields, textsFrom}
+use Rattle.valuetexts.specs.Trying.{Tried, WroteTexts}
+use Rattle.valuetexts.specs.declared.Attempt.the-variants.{Wrote as Done}
+use Rattle.valuetexts.specs.declared.Texts.the-variants.{Wrote as Counted}
+
+-- one, by the number
+one-text : (t : List ℕ) (ts : List (List ℕ)) → single (map str (t ∷ ts)) ≡ eqb (length ts + 1) 1
+unfolding single filled
+one-text t [] = refl
+one-text t (u ∷ ts) = rw (ne-eqb (length (u ∷ ts) + 1) 1 (λ e. omega arith))
+
+module _ {q : Pen} (many : Bool) (s out : List ℕ) (e n : ℕ) (w : WroteTexts (textsFrom (code ",") (code ";") false s) q out (Counted e n)) where
+  fits : (many or single (map str (w .0 ∷ w .1))) ≡ (many or eqb n 1)
+  fits = rw (one-text (w .0) (w .1), w .3)
+
+  pub texts-stand : {p : Pen} → Wrote p (octets ",\"") q → (many or eqb n 1) ≡ true → Tried (guard (λ vs. many or single vs) (map? (map str) (texts s))) valuesJson p out (Done e)
+  unfolding texts map? guard when valuesJson print printString
+  texts-stand u h = (map str (w .0 ∷ w .1), rw (w .2, fits ∙ h), then u (w .4))
+
+  pub texts-differ : (many or eqb n 1) ≡ false → guard (λ vs. many or single vs) (map? (map str) (texts s)) ≡ none
+  unfolding texts map? guard when
+  texts-differ h = rw (w .2, fits ∙ h)
+
+pub no-texts : (many : Bool) (s : List ℕ) → textsFrom (code ",") (code ";") false s ≡ none → guard (λ vs. many or single vs) (map? (map str) (texts s)) ≡ none
+unfolding texts map? guard
+no-texts many s e = rw e
+
+-- the values of an array
+pub items-json : (vs : List Json) → moreItems (itemsOf vs) ≡ valuesJson vs ++ octets "]"
+unfolding moreItems itemsOf valuesJson
+items-json [] = refl
+items-json (v ∷ vs) = rw (items-json vs) (ap (λ (l : List ℕ). code "," ∷ l) (sym (append-assoc (print v) (valuesJson vs) (octets "]"))))
+
+-- REQUEST-STATUS
+few : (t : List ℕ) (ts : List (List ℕ)) → length ts + 1 < 2 → twoOrThree (t ∷ ts) ≡ false
+unfolding twoOrThree
+few t [] h = refl
+few t (u ∷ ts) h = absurd (omega arith)
+
+many : (t : List ℕ) (ts : List (List ℕ)) → 3 < length ts + 1 → twoOrThree (t ∷ ts) ≡ false
+unfolding twoOrThree
+many t [] h = refl
+many t (u ∷ []) h = absurd (omega arith)
+many t (u ∷ v ∷ []) h = absurd (omega arith)
+many t (u ∷ v ∷ x ∷ ts) h = refl
+
+two-or-three : (t : List ℕ) (ts : List (List ℕ)) → 2 ≤ length ts + 1 → length ts + 1 ≤ 3 → twoOrThree (t ∷ ts) ≡ true
+unfolding twoOrThree
+two-or-three t [] h l = absurd (omega arith)
+two-or-three t (u ∷ []) h l = refl
+two-or-three t (u ∷ v ∷ []) h l = refl
+two-or-three t (u ∷ v ∷ x ∷ ts) h l = absurd (omega arith)
+
+array : (t : List ℕ) (ts : List (List ℕ)) → octets "[\"" ++ (quoted t ++ valuesJson (map str ts)) ++ octets "]" ≡ print (arr (itemsOf (map str (t ∷ ts))))
+unfolding print printString firstItem itemsOf
+array t ts = rw (items-json (map str ts)) (ap (λ (l : List ℕ). octets "[\"" ++ l) (append-assoc (quoted t) (valuesJson (map str ts)) (octets "]")))
+
+module _ {q : Pen} (s out : List ℕ) (e n : ℕ) (w : WroteTexts (textsFrom (code ";") (code ",") false s) q out (Counted e n)) where
+  status-none : twoOrThree (w .0 ∷ w .1) ≡ false → readStatus s ≡ none
+  unfolding readStatus fields map? guard when
+  status-none h = rw (w .2, h)
+
+  pub status-few : n < 2 → readStatus s ≡ none
+  status-few h = status-none (few (w .0) (w .1) (rw (w .3) h))
+
+  pub status-many : 3 < n → readStatus s ≡ none
+  status-many h = status-none (many (w .0) (w .1) (rw (w .3) h))
+
+  pub status-stands : {p r : Pen} → 2 ≤ n → n ≤ 3 → Wrote p (octets "[\"") q → Wrote (pen out e) (octets "]") r → (j : Json) × (readStatus s ≡ some j) × Wrote p (print j) r
+  unfolding readStatus fields map? guard when
+  status-stands h l u v = (arr (itemsOf (map str (w .0 ∷ w .1))), rw (w .2, two-or-three (w .0) (w .1) (rw (w .3) h) (rw (w .3) l)), as-text (then (then u (w .4)) v) (array (w .0) (w .1)))
+
+pub no-fields : (s : List ℕ) → textsFrom (code ";") (code ",") false s ≡ none → readStatus s ≡ none
+unfolding readStatus fields map? guard
+no-fields s e = rw e
