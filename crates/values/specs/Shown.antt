@@ -1,7 +1,7 @@
 -- Values as they stand in a property's array; and the octets that are written for a raw value, valid or not.
 use Prim.Native.Nat.{ℕ, _+_, _-_}
 use Prim.Native.Char.{code}
-use mathlib.Core.Bool.{Bool, true, false, not}
+use mathlib.Core.Bool.{Bool, not}
 use mathlib.Core.List.{List, [], _∷_, _++_, map}
 use mathlib.Core.Option.{Option}
 use lib.Dec.{eqb, leb, ltb}
@@ -10,14 +10,12 @@ use Rattle.octets.specs.Basics.{octets, pick, _and_, _or_, same}
 use Rattle.octets.specs.Pieces.{split, joined}
 use Rattle.octets.specs.Optional.{given}
 use Rattle.octets.specs.Classes.{upper, lower}
-use Rattle.octets.specs.Decimal.{minus, unsigned, trim, minusIf, integerText}
-use Rattle.calendar.specs.Dates.{dateOf, timeOf, dateTimeOf, offsetOf, momentOf}
+use Rattle.octets.specs.Decimal.{minus, unsigned, trim, minusIf}
+use Rattle.calendar.specs.Dates.{dateTimeOf, momentOf}
 use Rattle.calendar.specs.Recurrence.{Sort as Kind, frequency, moment, count, weekday, ordinal, numbers}
 use Rattle.calendar.specs.Walk.{before, keyAt, firstPart, itemShown}
 use Rattle.json.specs.Tree.{Json}
-use Rattle.json.specs.Print.{escaped, printString, print}
-use Rattle.values.specs.Sorts.{Sort, plain, binary, boolean, date, dateTime, duration, float, geo, integer, period, recur, text, status, time, utcOffset, splits}
-use Rattle.values.specs.Single.{isText}
+use Rattle.json.specs.Print.{printString, print}
 
 -- each value with a comma before it
 unfoldable pub valuesJson : List Json → List ℕ
@@ -27,36 +25,6 @@ valuesJson (j ∷ js) = code "," ∷ (print j ++ valuesJson js)
 -- an octet of a text that is written as it stands, and neither escapes nor separates
 unfoldable pub runOctet : ℕ → Bool
 runOctet c = leb 32 c and not (eqb c (code "\"") or eqb c (code ",") or eqb c (code ";") or eqb c (code "\\") or eqb c 127)
-
--- Texts: the flag says that a backslash stands before.
-unfoldable pub unescaped : ℕ → ℕ
-unescaped c = pick (eqb c (code "n") or eqb c (code "N")) (code "\n") c
-
-unfoldable pub octetShown : ℕ → Bool → ℕ → List ℕ
-octetShown sep false c = pick (eqb c (code "\\")) [] (pick (eqb c sep) (octets "\",\"") (escaped c))
-octetShown sep true c = escaped (unescaped c)
-
-unfoldable pub opens : Bool → ℕ → Bool
-opens e c = not e and eqb c (code "\\")
-
-unfoldable pub textsFromShown : ℕ → Bool → List ℕ → List ℕ
-textsFromShown sep e [] = octets "\""
-textsFromShown sep e (c ∷ s) = octetShown sep e c ++ textsFromShown sep (opens e c) s
-
--- the texts between bare separators, as strings with a comma between them
-unfoldable pub textsShown : ℕ → List ℕ → List ℕ
-textsShown sep s = code "\"" ∷ textsFromShown sep false s
-
-abbrev pub commaTexts : List ℕ → List ℕ
-commaTexts s = textsShown (code ",") s
-
-abbrev pub semicolonTexts : List ℕ → List ℕ
-semicolonTexts s = textsShown (code ";") s
-
--- what stands behind a backslash
-unfoldable pub escapeShown : List ℕ → List ℕ
-escapeShown [] = []
-escapeShown (c ∷ s) = escaped (unescaped c)
 
 -- what lies behind the first `sep`
 unfoldable pub behind : ℕ → List ℕ → List ℕ
@@ -111,27 +79,3 @@ partShown p =
 
 unfoldable pub recurShown : List ℕ → List ℕ
 recurShown s = code "{" ∷ (listShown partShown (code ";") s ++ octets "}")
-
-unfoldable pub statusShown : List ℕ → List ℕ
-statusShown s = code "[" ∷ (textsShown (code ";") s ++ octets "]")
-
-unfoldable pub oneShown : Sort → List ℕ → List ℕ
-oneShown plain s = printString s
-oneShown binary s = printString s
-oneShown boolean s = booleanShown s
-oneShown date s = stringShown (dateOf (upper s))
-oneShown dateTime s = stringShown (dateTimeOf (upper s))
-oneShown duration s = printString (upper s)
-oneShown float s = floatShown s
-oneShown geo s = geoShown s
-oneShown integer s = integerText s
-oneShown period s = periodShown s
-oneShown recur s = recurShown s
-oneShown text s = []
-oneShown status s = statusShown s
-oneShown time s = stringShown (timeOf (upper s))
-oneShown utcOffset s = stringShown (offsetOf (upper s))
-
-unfoldable pub valuesShown : Sort → List ℕ → List ℕ
-valuesShown sort s =
-    code "," ∷ pick (isText sort) (textsShown (code ",") s) (pick (splits sort) (listShown (oneShown sort) (code ",") s) (oneShown sort s))
