@@ -1,6 +1,6 @@
 -- Lines that pass number 6 make a component of at most as many levels.
 use Prim.Native.Nat.{ℕ, zero, suc, max, _+_, _≤_, _<_}
-use mathlib.Core.Path.{_≡_, refl, sym, ap, _∙_}
+use mathlib.Core.Path.{_≡_, refl, sym, _∙_}
 use mathlib.Core.Bool.{Bool, true, false}
 use mathlib.Core.List.{List, [], _∷_}
 use native.Mathlib.Nat.{max-le, add-max-add-right}
@@ -11,10 +11,9 @@ use lib.ListN.{length}
 use Rattle.octets.specs.Basics.{octets, pick, same}
 use Rattle.octets.specs.Limits.{mostLevels}
 use Rattle.octets.specs.Answers.{Answer}
-use Rattle.octets.proofs.Cases.{cases}
 use Rattle.octets.proofs.Limits.{most-levels}
 use Rattle.content.specs.Line.{Line}
-use Rattle.converter.specs.Tree.{Property, Component, component, leaf, grow, levels, levelsIn}
+use Rattle.converter.specs.Tree.{Property, levels, levelsIn}
 use Rattle.converter.specs.Structure.{Event, begins, ends, holds, stray, Nest, fresh, closed, inside, fault, left, nest, nestAfter}
 use Rattle.jcal.specs.Walk.{behindEnd, levelAt, componentAt}
 use Rattle.jcal.proofs.Levels.{level-ends, level-left, level-holds, level-passed, level-begins, level-entered}

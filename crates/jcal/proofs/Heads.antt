@@ -1,5 +1,5 @@
 -- The head of a line: where its name ends, and what stands behind it.
-use Prim.Native.Nat.{ℕ, zero, suc, _+_, _-_, _≤_, _<_}
+use Prim.Native.Nat.{ℕ, zero, suc, _+_, _≤_, _<_}
 use Prim.Native.Char.{code}
 use mathlib.Core.Path.{_≡_, refl, sym, ap, _∙_}
 use mathlib.Core.Bool.{Bool, true, false, not}
@@ -9,14 +9,13 @@ use native.Mathlib.Omega.{arith}
 use borrow.Author.Tests.{eq-eqb, ne-eqb, eqb-true, eqb-false, ltb-true, ltb-false}
 use lib.Dec.{eqb, ltb}
 use lib.ListN.{length, getD, take, drop}
-use lib.Seq.{take-append-seam}
-use Rattle.octets.specs.Basics.{pick, _and_, _or_, all, filled}
+use Rattle.octets.specs.Basics.{_or_, all, filled}
 use Rattle.octets.specs.Pieces.{cut}
 use Rattle.octets.specs.Classes.{between, isDigit, isLower, isUpper, isLetter, nameOctet, isName, upperOctet, upper, sameName}
 use Rattle.octets.proofs.Cases.{cases, same?, never, both, either, apart, alike, or-first, or-second}
-use Rattle.octets.proofs.Positions.{here, ended, upto}
-use Rattle.octets.proofs.Classes.{name-is, name-same, name-length, name-upper, upper-octet-other}
-use Rattle.content.specs.Line.{Param, Line, quoteAfter, bare, before, behind, pieces, paramOf, headed, lineOf}
+use Rattle.octets.proofs.Positions.{here, ended}
+use Rattle.octets.proofs.Classes.{name-is, name-length, name-upper, upper-octet-other}
+use Rattle.content.specs.Line.{quoteAfter, bare, before, behind, pieces, paramOf, headed, lineOf}
 use Rattle.content.specs.Scan.{untilBare}
 use Rattle.content.specs.Parts.{others}
 use Rattle.content.proofs.Scanning.{bare-le, bare-take, bare-stop}

@@ -1,22 +1,22 @@
 -- The component that the lines from a place on make, line by line.
-use Prim.Native.Nat.{ℕ, zero, suc, max, _+_, _-_, _≤_}
+use Prim.Native.Nat.{ℕ, zero, suc, max, _-_, _≤_}
 use mathlib.Core.Path.{_≡_, refl, sym, ap, _∙_}
 use mathlib.Core.Bool.{Bool, true, false}
 use mathlib.Core.List.{List, [], _∷_, _++_, map, append-assoc}
 use native.Mathlib.Nat.{le-max-left, le-max-right}
 use native.Mathlib.Omega.{arith}
-use Rattle.octets.specs.Basics.{octets, _and_, all}
+use Rattle.octets.specs.Basics.{octets, all}
 use Rattle.octets.specs.Answers.{Answer, refused, accepted}
 use Rattle.octets.proofs.Cases.{never, both}
 use Rattle.octets.proofs.Answers.{not-accepted, accepted-same, then-accepted}
 use Rattle.json.specs.Tree.{Json, Items, noItems, item, itemsOf}
-use Rattle.json.specs.Print.{print, firstItem, moreItems, printString}
+use Rattle.json.specs.Print.{print, firstItem, moreItems}
 use Rattle.content.specs.Line.{Line}
-use Rattle.converter.specs.Tree.{Property, component, leaf, grow, levels, levelsIn}
+use Rattle.converter.specs.Tree.{Property, leaf, grow, levels, levelsIn}
 use Rattle.converter.specs.Structure.{Event, begins, ends, holds, stray}
 use Rattle.converter.specs.Growth.{behindEvent, eachProperty, Level, level, innermost, around, withProperty, withComponent, levelsFrom, outermost, treeOf}
 use Rattle.converter.specs.Jcal.{propertyJson, jcalOf, jcalsOf}
-use Rattle.jcal.specs.Walk.{propertyOr, isAccepted, readEvent, reads, behindEnd, outward, levelAt, componentAt, comma, listed, propertiesText, subsText, headText}
+use Rattle.jcal.specs.Walk.{propertyOr, isAccepted, readEvent, reads, behindEnd, outward, levelAt, componentAt, comma, listed, propertiesText, subsText, nameText}
 
 outward-none : (k : ℕ) → outward k [] ≡ []
 unfolding outward around
@@ -109,68 +109,42 @@ listed-item false j js = refl
 
 -- the text of the properties, line by line
 module _ (f : Line → Answer Property) (first : Bool) where
-  pub properties-none : (k : ℕ) → propertiesText f first k [] ≡ octets "]"
+  pub properties-none : propertiesText f first [] ≡ octets "]"
   unfolding propertiesText itemsOf
-  properties-none k = rw (level-none f k) (listed-none first)
+  properties-none = rw (level-none f 0) (listed-none first)
 
-  pub properties-stray : (k : ℕ) (es : List (Event Line)) → propertiesText f first k (stray ∷ es) ≡ propertiesText f first k es
+  pub properties-stray : (es : List (Event Line)) → propertiesText f first (stray ∷ es) ≡ propertiesText f first es
   unfolding propertiesText
-  properties-stray k es = rw (level-stray f k es)
+  properties-stray es = rw (level-stray f 0 es)
 
-  pub properties-ends : (n : List ℕ) (es : List (Event Line)) → propertiesText f first 0 (ends n ∷ es) ≡ octets "]"
+  pub properties-ends : (n : List ℕ) (es : List (Event Line)) → propertiesText f first (ends n ∷ es) ≡ octets "]"
   unfolding propertiesText itemsOf
   properties-ends n es = rw (level-ends f n es) (listed-none first)
 
-  pub properties-left : (k : ℕ) (n : List ℕ) (es : List (Event Line)) → propertiesText f first (suc k) (ends n ∷ es) ≡ propertiesText f first k es
+  pub properties-begins : (n : List ℕ) (es : List (Event Line)) → propertiesText f first (begins n ∷ es) ≡ propertiesText f first (behindEnd 0 es)
   unfolding propertiesText
-  properties-left k n es = rw (level-left f k n es)
-
-  pub properties-begins : (k : ℕ) (n : List ℕ) (es : List (Event Line)) → propertiesText f first k (begins n ∷ es) ≡ propertiesText f first (suc k) es
-  unfolding propertiesText
-  properties-begins zero n es = rw (level-begins f n es)
-  properties-begins (suc k) n es = rw (level-entered f k n es)
-
-  pub properties-passed : (k : ℕ) (l : Line) (es : List (Event Line)) → propertiesText f first (suc k) (holds l ∷ es) ≡ propertiesText f first (suc k) es
-  unfolding propertiesText
-  properties-passed k l es = rw (level-passed f k l es)
+  properties-begins n es = rw (level-begins f n es, level-behind f 0 es)
 
   pub properties-holds : (l : Line) (es : List (Event Line))
-      → propertiesText f first 0 (holds l ∷ es) ≡ comma first ++ (print (propertyJson (propertyOr (f l))) ++ propertiesText f false 0 es)
+      → propertiesText f first (holds l ∷ es) ≡ comma first ++ (print (propertyJson (propertyOr (f l))) ++ propertiesText f false es)
   unfolding propertiesText itemsOf
   properties-holds l es = rw (level-holds f l es) (listed-item first _ _)
 
   -- the text of the sub-components
-  pub subs-none : subsText f first [] ≡ octets "]"
-  unfolding subsText jcalsOf
-  subs-none = rw (level-none f 0) (listed-none first)
-
-  pub subs-stray : (es : List (Event Line)) → subsText f first (stray ∷ es) ≡ subsText f first es
-  unfolding subsText
-  subs-stray es = rw (level-stray f 0 es)
-
   pub subs-ends : (n : List ℕ) (es : List (Event Line)) → subsText f first (ends n ∷ es) ≡ octets "]"
   unfolding subsText jcalsOf
   subs-ends n es = rw (level-ends f n es) (listed-none first)
-
-  pub subs-holds : (l : Line) (es : List (Event Line)) → subsText f first (holds l ∷ es) ≡ subsText f first es
-  unfolding subsText
-  subs-holds l es = rw (level-holds f l es)
 
   pub subs-begins : (n : List ℕ) (es : List (Event Line))
       → subsText f first (begins n ∷ es) ≡ comma first ++ (print (jcalOf (componentAt f n es)) ++ subsText f false (behindEnd 0 es))
   unfolding subsText jcalsOf
   subs-begins n es = rw (level-begins f n es, level-behind f 0 es) (listed-item first _ _)
 
--- the text of a component
+-- the text of a component: its name, its properties, its sub-components
 pub component-text : (f : Line → Answer Property) (n : List ℕ) (es : List (Event Line))
-    → print (jcalOf (componentAt f n es)) ≡ octets "[" ++ (printString n ++ (octets ",[" ++ (propertiesText f true 0 es ++ (octets ",[" ++ (subsText f true es ++ octets "]")))))
-unfolding componentAt jcalOf print firstItem moreItems propertiesText subsText listed
-component-text f n es = refl
-
-pub component-head : (f : Line → Answer Property) (n : List ℕ) (es : List (Event Line))
-    → print (jcalOf (componentAt f n es)) ≡ headText f n es ++ (subsText f true es ++ octets "]")
-unfolding headText
-component-head f n es = component-text f n es ∙ simp append-assoc
+    → print (jcalOf (componentAt f n es)) ≡ (nameText n ++ (propertiesText f true es ++ octets ",[")) ++ (subsText f true es ++ octets "]")
+unfolding componentAt jcalOf print firstItem moreItems nameText propertiesText subsText listed
+component-text f n es = simp append-assoc
 
 -- an answer that is accepted
 pub not-refused {ℓ} : {P : Type ℓ} {A : Type 0} (a : Answer A) (n : ℕ) → isAccepted a ≡ true → a ≡ refused n → P

@@ -4,8 +4,8 @@ pub mod Stacks
 pub mod Levels
 pub mod Depths
 pub mod Order
+pub mod Turns
+pub mod Ahead
 pub mod Walking
 pub mod Subcomponents
-pub mod Turns
-pub mod Bodies
 pub mod Stages

@@ -46,7 +46,7 @@ module _ (f : Line → Answer Property) where
   none-left k b (stray ∷ es) l h = rw (level-stray f k es) (none-left k b es l h)
 
   -- the first sub-component ends the properties
-  pub properties-end : (first : Bool) (n : List ℕ) (es : List (Event Line)) → orderedFrom false es ≡ true → propertiesText f first 0 (begins n ∷ es) ≡ octets "]"
+  pub properties-end : (first : Bool) (n : List ℕ) (es : List (Event Line)) → orderedFrom false es ≡ true → propertiesText f first (begins n ∷ es) ≡ octets "]"
   unfolding propertiesText itemsOf
   properties-end first n es h = rw (level-begins f n es, none-left 1 false es tt h) (listed-none first)
 

@@ -2,20 +2,21 @@
 use Prim.Native.Nat.{ℕ, _+_, _-_, _≤_, _<_}
 use mathlib.Core.Path.{_≡_, refl, sym, ap, _∙_}
 use mathlib.Core.Bool.{Bool, true, false}
-use mathlib.Core.List.{List, [], _∷_, _++_}
+use mathlib.Core.List.{List, [], _∷_}
 use native.Mathlib.Omega.{arith}
 use borrow.Author.Tests.{le-leb, lt-leb}
 use lib.ListN.{length, take, drop}
 use Rattle.octets.specs.Basics.{all}
 use Rattle.octets.specs.Utf8.{clean}
 use Rattle.octets.specs.Limits.{mostText, mostLevels}
-use Rattle.octets.specs.Answers.{Answer, refused, accepted, then, unless, number, zeroed, answer, outcome}
+use Rattle.octets.specs.Pen.{pen}
+use Rattle.octets.specs.Answers.{Answer, refused, accepted, then, unless, number, zeroed, answer, outcome, finished}
 use Rattle.octets.specs.declared.Refusal.{Refusal}
 use Rattle.octets.specs.declared.Converted.{Converted}
 use Rattle.octets.specs.declared.Converted.the-variants.{Written, Refused}
 use Rattle.octets.proofs.Cases.{never}
 use Rattle.octets.proofs.Positions.{upto}
-use Rattle.octets.proofs.Answers.{not-accepted, accepted-same}
+use Rattle.octets.proofs.Answers.{not-accepted, accepted-same, finished-answer}
 use Rattle.json.specs.Print.{print}
 use Rattle.types.specs.Rows.{tableOf}
 use Rattle.types.specs.Table.{Table}
@@ -31,23 +32,24 @@ use Rattle.content.specs.declared.reading.Lines.the-variants.{Laid, NotClean, N
 use Rattle.content.proofs.Unfolding.{laid-short}
 use Rattle.converter.specs.Tree.{Property, Component, levels}
 use Rattle.converter.specs.Structure.{Event, begins, ends, holds, stray, Nest, fresh, closed, inside, fault, nestAfter, verdict, structured}
-use Rattle.converter.specs.Growth.{eachProperty, treeOf}
+use Rattle.converter.specs.Growth.{behindEvent, eachProperty, treeOf}
 use Rattle.converter.specs.Jcal.{jcalOf}
 use Rattle.converter.specs.Property.{readProperty}
 use Rattle.converter.specs.ToJcal.{readLinesBy, readLines, reading, toJcal}
 use Rattle.jcal.specs.Events.{eventsIn, lineFrom, LineAt, nameFrom, told, Tells}
-use Rattle.jcal.specs.Walk.{isAccepted, reads, eachTested, behindEnd, componentAt, nameText, restText}
+use Rattle.jcal.specs.Walk.{isAccepted, reads, eventTested, eachTested, behindEnd, nextOf, componentAt}
+use Rattle.jcal.specs.Walked.{ready, placeOf, Stands}
+use Rattle.jcal.specs.declared.components.Next.{Next}
 use Rattle.jcal.specs.Order.{mayStand, endsHere, orderedFrom, ordered}
 use Rattle.jcal.specs.Stages.{propertiesJcal, eventsJcal, linesJcal}
 use Rattle.jcal.specs.Nesting.{paired}
 use Rattle.jcal.specs.declared.nesting.Structure.{Structure}
 use Rattle.jcal.specs.declared.nesting.Structure.the-variants.{Paired, Failed}
 use Rattle.jcal.specs.declared.events.Kind.the-variants.{Opens, Closes, Plain, Broken}
-use Rattle.jcal.proofs.Levels.{Grown, grown, tree-is}
+use Rattle.jcal.proofs.Levels.{grown, tree-is}
 use Rattle.jcal.proofs.Depths.{Passes, passes}
 use Rattle.jcal.proofs.Stacks.{events-told}
-use Rattle.jcal.proofs.Turns.{turn-on, opens-tested}
-use Rattle.jcal.proofs.Bodies.{body-text}
+use Rattle.jcal.proofs.Turns.{turn-passed}
 
 refused-same : {A : Type 0} {m n : ℕ} → _≡_ {A = Answer A} (refused m) (refused n) → m ≡ n
 refused-same e = cc
@@ -68,14 +70,28 @@ unfolding then isAccepted
 then-accepts (refused m) g b e = not-accepted (sym e)
 then-accepts (accepted x) g b e = refl
 
--- 7, 8 and 9
-pub properties-passed : (f : Line → Answer Property) (es : List (Event Line)) → accepted tt ≡ then (eachProperty f es) (λ _. accepted (tt {0})) → isAccepted (eachProperty f es) ≡ true
-properties-passed f es e = then-accepts (eachProperty f es) (λ _. tt {0}) tt e
+accepted-is {ℓ} : {P : Type ℓ} {A : Type 0} (a : Answer A) → isAccepted a ≡ true → ((x : A) → a ≡ accepted x → P) → P
+unfolding isAccepted
+accepted-is (refused n) h k = never h refl
+accepted-is (accepted x) h k = k x refl
 
+-- 7, 8 and 9
 module _ (f : Line → Answer Property) (es : List (Event Line)) where
-  pub properties-failed : (n : ℕ) → refused n ≡ then (eachProperty f es) (λ _. accepted (tt {0})) → refused n ≡ propertiesJcal f es
+  properties-passed : accepted tt ≡ eachTested f es → isAccepted (eachProperty f es) ≡ true
+  properties-passed e = then-accepts (eachProperty f es) (λ _. tt {0}) tt e
+
+  pub properties-failed : (n : ℕ) → refused n ≡ eachTested f es → refused n ≡ propertiesJcal f es
   unfolding propertiesJcal
   properties-failed n e = then-refused (eachProperty f es) (λ _. tt {0}) _ n e
+
+  -- lines that can be written
+  pub ready-tested : (b : Bool) → b ≡ false → accepted tt ≡ eachTested f es → ready f b false es ≡ true
+  unfolding ready
+  ready-tested b o e = rw o (accepted-is (eachProperty f es) (properties-passed e) (λ ps a. grown f es ps a .accepts))
+
+  pub ready-ordered : (b : Bool) → b ≡ true → b ≡ ordered es → ready f b false es ≡ true
+  unfolding ready ordered
+  ready-ordered b o e = rw o (sym e ∙ o)
 
 -- 5 and 6
 verdict-refused : {A B C : Type 0} (s : Nest) (a : A) (b : B) (h : B → Answer C) (n : ℕ) → refused n ≡ verdict s a → refused n ≡ then (verdict s b) h
@@ -198,11 +214,6 @@ unfolding eventsIn linesIn nestAfter
 some-line [] h = not-fresh h
 some-line (c ∷ s) h = omega arith
 
-accepted-is {ℓ} : {P : Type ℓ} {A : Type 0} (a : Answer A) → isAccepted a ≡ true → ((x : A) → a ≡ accepted x → P) → P
-unfolding isAccepted
-accepted-is (refused n) h k = never h refl
-accepted-is (accepted x) h k = k x refl
-
 -- the first line is a BEGIN
 module _ (s : List ℕ) (e : ℕ) (h : LineAt s 0 e) (p : nestAfter fresh (eventsIn s) ≡ closed) where
   other-first {ℓ} : {P : Type ℓ} (v : Event Line) → eventsIn s ≡ v ∷ eventsIn (drop (e + 1) s) → ((n : List ℕ) → v ≡ begins n → P) → P
@@ -249,30 +260,26 @@ module _ (f : Line → Answer Property) (s : List ℕ) (e : ℕ) (h : LineAt s 0
         let c : begun .body ≡ next = cc in
         rw (← c) (begun .alone)
 
-    module _ (q : isAccepted (eachProperty f (eventsIn s)) ≡ true) where
-      grows {ℓ} : {P : Type ℓ} → ((ps : List (Event Property)) → eachProperty f (eventsIn s) ≡ accepted ps → Grown f (begins (nameFrom s n) ∷ next) ps → P) → P
-      grows k = accepted-is (eachProperty f (eventsIn s)) q (λ ps a. k ps a (grown f (begins (nameFrom s n) ∷ next) ps (rw first-opens at a)))
+    calendar-grows : isAccepted (eachProperty f (eventsIn s)) ≡ true → accepted (print (jcalOf (componentAt f (nameFrom s n) next))) ≡ propertiesJcal f (eventsIn s)
+    unfolding propertiesJcal then
+    calendar-grows q = accepted-is (eachProperty f (eventsIn s)) q (λ ps a. rw (a, tree-is f (nameFrom s n) next ps (grown f (begins (nameFrom s n) ∷ next) ps (rw first-opens at a))))
 
-      pub calendar-accepts : all (reads f) next ≡ true
-      unfolding all reads
-      calendar-accepts = grows (λ ps a g. g .accepts)
-
-      pub calendar-text : accepted (print (jcalOf (componentAt f (nameFrom s n) next))) ≡ propertiesJcal f (eventsIn s)
-      unfolding propertiesJcal then
-      calendar-text = grows (λ ps a g. rw (a, tree-is f (nameFrom s n) next ps g))
-
-    -- the properties tested where they are written
-    pub calendar-order : ordered (eventsIn s) ≡ true → ordered next ≡ true
-    unfolding ordered orderedFrom mayStand endsHere
-    calendar-order o = rw first-opens at o
+    pub calendar-ready : (b : Bool) → ready f b false (eventsIn s) ≡ true → ready f b false next ≡ true
+    unfolding ready orderedFrom mayStand endsHere all reads
+    calendar-ready b h = rw first-opens at h
 
     calendar-tested : eachTested f (eventsIn s) ≡ eachTested f next
-    calendar-tested = turn-on f s 0 e h (opens-tested f s 0 e n t)
+    unfolding eventTested
+    calendar-tested = ap (eachTested f) first-opens ∙ turn-passed f (begins (nameFrom s n)) next refl
 
-    pub calendar-refused : (k : ℕ) → eachTested f next ≡ refused k → refused k ≡ propertiesJcal f (eventsIn s)
-    calendar-refused k r = properties-failed f (eventsIn s) k (sym (calendar-tested ∙ r))
+    pub calendar-refused : (k : ℕ) → eachTested f next ≡ refused k → (o out : List ℕ) → length out ≡ length o → answer (refused k) out ≡ answer (propertiesJcal f (eventsIn s)) o
+    calendar-refused k r o out l = refused-alike k out o l ∙ ap (λ (a : Answer (List ℕ)). answer a o) (properties-failed f (eventsIn s) k (sym (calendar-tested ∙ r)))
 
-    pub calendar-placed : eachTested f next ≡ eachTested f (behindEnd 0 next) → accepted (nameText (nameFrom s n) ++ restText f false true next) ≡ propertiesJcal f (eventsIn s)
-    calendar-placed r =
-        let a : eachTested f (behindEnd 0 next) ≡ accepted tt = ap (eachTested f) calendar-alone ∙ (unfold eachProperty then in refl) in
-        ap accepted (sym (body-text f (nameFrom s n) next)) ∙ calendar-text (properties-passed f (eventsIn s) (sym (calendar-tested ∙ r ∙ a)))
+    calendar-text : eachTested f next ≡ eachTested f (nextOf (behindEnd 0 next)) → accepted (print (jcalOf (componentAt f (nameFrom s n) next))) ≡ propertiesJcal f (eventsIn s)
+    calendar-text r =
+        let a : eachTested f (nextOf (behindEnd 0 next)) ≡ accepted tt = ap (λ (es : List (Event Line)). eachTested f (nextOf es)) calendar-alone ∙ (unfold nextOf eachProperty behindEvent then in refl) in
+        calendar-grows (properties-passed f (eventsIn s) (sym (calendar-tested ∙ r ∙ a)))
+
+    pub calendar-placed : (o out : List ℕ) (r : Next) → Stands f s (e + 1) next (behindEnd 0 next) (pen o 0) (print (jcalOf (componentAt f (nameFrom s n) next))) out r
+        → finished (placeOf r) out ≡ answer (propertiesJcal f (eventsIn s)) o
+    calendar-placed o out r z = finished-answer o (print (jcalOf (componentAt f (nameFrom s n) next))) out (placeOf r) (z .wrote) ∙ ap (λ (a : Answer (List ℕ)). answer a o) (calendar-text (z .tested))

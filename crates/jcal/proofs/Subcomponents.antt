@@ -1,147 +1,153 @@
--- The walk over the lines of a component for its sub-components: what each line adds to what is left to write.
-use Prim.Native.Nat.{ℕ, suc, _+_, _-_, _≤_}
+-- The walk over the sub-components of a component: what each adds to what is left to write, and to what is tested.
+use Prim.Native.Nat.{ℕ, suc, _+_, _-_, _≤_, _<_}
 use mathlib.Core.Path.{_≡_, refl, sym, ap, _∙_}
 use mathlib.Core.Bool.{Bool, true, false}
 use mathlib.Core.List.{List, [], _∷_, _++_, append-assoc}
+use native.Mathlib.Omega.{arith}
 use lib.ListN.{length, drop}
 use Rattle.octets.specs.Basics.{octets, all}
 use Rattle.octets.specs.Pen.{Pen, pen, Wrote}
-use Rattle.octets.specs.Answers.{Answer}
-use Rattle.octets.proofs.Cases.{both}
+use Rattle.octets.specs.Answers.{Answer, refused, number}
 use Rattle.octets.proofs.Pen.{then, as-text, Leads, leads-start, leads-on, leads-same, leads-last}
-use Rattle.json.specs.Print.{print, printString}
-use Rattle.content.specs.Line.{Line, lineOf}
+use Rattle.json.specs.Print.{print}
+use Rattle.content.specs.Line.{Line}
 use Rattle.converter.specs.Tree.{Property, Component, levels, levelsIn}
-use Rattle.converter.specs.Structure.{Event, begins, ends, holds, stray}
+use Rattle.converter.specs.Structure.{Event, begins, ends}
 use Rattle.converter.specs.Jcal.{jcalOf}
-use Rattle.jcal.specs.Events.{eventsIn, lineFrom, LineAt, nameFrom, told, Tells}
-use Rattle.jcal.specs.Walk.{isAccepted, reads, behindEnd, levelAt, componentAt, comma, propertiesText, subsText, headText}
-use Rattle.jcal.specs.Walked.{Walked}
-use Rattle.jcal.specs.declared.components.Progress.{Progress}
-use Rattle.jcal.specs.declared.events.Kind.the-variants.{Opens, Closes, Plain, Broken}
-use Rattle.jcal.proofs.Stacks.{events-none, events-told}
-use Rattle.jcal.proofs.Levels.{level-holds, level-stray, few-opens, reads-behind, component-head, subs-none, subs-stray, subs-ends, subs-holds, subs-begins}
+use Rattle.jcal.specs.Events.{eventsIn, nameFrom, Named}
+use Rattle.jcal.specs.Order.{mayStand, endsHere, orderedFrom}
+use Rattle.jcal.specs.Walk.{reads, eventTested, eachTested, behindEnd, nextOf, levelAt, componentAt, comma, propertiesText, subsText, nameText}
+use Rattle.jcal.specs.Walked.{ready, Finds, placeOf, Found, Stands, Places}
+use Rattle.jcal.specs.declared.components.Next.{Next}
+use Rattle.jcal.specs.declared.components.Next.the-variants.{Sub, End, Refused}
+use Rattle.jcal.proofs.Levels.{few-opens, behind-within, subs-ends, subs-begins, component-text}
+use Rattle.jcal.proofs.Turns.{turn-passed}
+use Rattle.jcal.proofs.Ahead.{next-subs, next-text, next-behind, ready-next, ready-behind, next-tested}
+use Rattle.jcal.proofs.Walking.{finds-from, places-found}
 
--- a component up to its sub-components
-pub head-text : (f : Line → Answer Property) (n : List ℕ) (es : List (Event Line))
-    → (((octets "[" ++ printString n) ++ octets ",") ++ (octets "[" ++ propertiesText f true 0 es)) ++ octets ",[" ≡ headText f n es
-unfolding headText
-head-text f n es =
-    ap (λ (r : List ℕ). octets "[" ++ r) (append-assoc (printString n ++ octets ",") (octets "[" ++ propertiesText f true 0 es) (octets ",[") ∙ append-assoc (printString n) (octets ",") (octets "[" ++ (propertiesText f true 0 es ++ octets ",[")))
+-- no refusal
+abbrev Told : Next → Type 0
+Told (Sub n e at) = Unit {0}
+Told (End j at) = Unit {0}
+Told (Refused why) = ⊥
 
--- the sub-components from the line at i on, with so many levels left
-pub record Subs (f : Line → Answer Property) (s : List ℕ) (from : ℕ) (p : Pen) (left i : ℕ) (first : Bool) (q : Pen) : Type 0 where
-  pub leads : Leads p (subsText f true (eventsIn (drop from s)) ++ octets "]") q (subsText f first (eventsIn (drop i s)) ++ octets "]")
-  pub accepts : all (reads f) (eventsIn (drop i s)) ≡ true
-  pub few : suc (levelsIn ((levelAt f 0 (eventsIn (drop i s))) .subs)) ≤ left
+wrote-told : (f : Line → Answer Property) (s : List ℕ) (i : ℕ) (es fs : List (Event Line)) (p : Pen) (text out : List ℕ) (r : Next) → Told r → Places f s i es fs p text out r
+    → Wrote p text (pen out (placeOf r))
+wrote-told f s i es fs p text out (Sub n e at) k z = z .wrote
+wrote-told f s i es fs p text out (End j at) k z = z .wrote
+wrote-told f s i es fs p text out (Refused why) k z = absurd k
 
-pub subs-start : (f : Line → Answer Property) (s : List ℕ) (from : ℕ) (p : Pen) (left : ℕ) (n : List ℕ) → all (reads f) (eventsIn (drop from s)) ≡ true
-    → levels (componentAt f n (eventsIn (drop from s))) ≤ left → Subs f s from p left from true p
-unfolding levels componentAt
-subs-start f s from p left n h k = record { leads = leads-start; accepts = h; few = k }
+-- what is left of the sub-components from the events ns on, with so many levels left
+pub record Subs (f : Line → Answer Property) (b : Bool) (es : List (Event Line)) (r₀ : Next) (out₀ : List ℕ) (left : ℕ) (first : Bool) (ns : List (Event Line)) (q : Pen) : Type 0 where
+  pub begun : Told r₀
+  pub leads : Leads (pen out₀ (placeOf r₀)) (subsText f true es ++ octets "]") q (subsText f first ns ++ octets "]")
+  pub behind : behindEnd 0 ns ≡ behindEnd 0 es
+  pub tested : eachTested f es ≡ eachTested f ns
+  pub fit : ready f b true ns ≡ true
+  pub few : suc (levelsIn ((levelAt f 0 ns) .subs)) ≤ left
 
-module _ (f : Line → Answer Property) (s : List ℕ) (from : ℕ) (p : Pen) (left i : ℕ) (first : Bool) (q : Pen) (g : Subs f s from p left i first q) where
-  -- what is left to write where the events are known
-  text-is : (es : List (Event Line)) (ys : List ℕ) → eventsIn (drop i s) ≡ es → subsText f first es ≡ ys → subsText f first (eventsIn (drop i s)) ++ octets "]" ≡ ys ++ octets "]"
-  text-is es ys v x = ap (λ (r : List ℕ). r ++ octets "]") (ap (subsText f first) v ∙ x)
+-- by what stands next
+abbrev pub Going : (Line → Answer Property) → List ℕ → ℕ → Bool → List (Event Line) → Next → List ℕ → ℕ → Bool → List ℕ → Next → Type 0
+Going f s from b es r₀ out₀ left first out (Sub n e at) = Named s n e × (from ≤ e) × Subs f b es r₀ out₀ left first (begins (nameFrom s n) ∷ eventsIn (drop (e + 1) s)) (pen out at)
+Going f s from b es r₀ out₀ left first out (End j at) = (from ≤ j) × Subs f b es r₀ out₀ left first (ends [] ∷ eventsIn (drop j s)) (pen out at)
+Going f s from b es r₀ out₀ left first out (Refused why) = eachTested f es ≡ refused (number why)
 
-  accepts-is : (es : List (Event Line)) → eventsIn (drop i s) ≡ es → all (reads f) es ≡ true
-  accepts-is es v = rw v at (g .accepts)
+-- how much stands behind it: nothing where the walk ends
+abbrev pub behindIt : List ℕ → Next → ℕ
+behindIt s (Sub n e at) = suc (length s - e)
+behindIt s (End j at) = 0
+behindIt s (Refused why) = 0
 
-  few-is : (es : List (Event Line)) → eventsIn (drop i s) ≡ es → suc (levelsIn ((levelAt f 0 es) .subs)) ≤ left
-  few-is es v = rw v at (g .few)
+module _ (f : Line → Answer Property) (s : List ℕ) (from : ℕ) (b : Bool) (es : List (Event Line)) (r₀ : Next) (out₀ : List ℕ) (left : ℕ) where
+  -- the events from what stands next in fs on
+  subs-next : (first : Bool) (k : Bool) (fs : List (Event Line)) (q : Pen) → Told r₀ → Leads (pen out₀ (placeOf r₀)) (subsText f true es ++ octets "]") q (subsText f first fs ++ octets "]")
+      → behindEnd 0 fs ≡ behindEnd 0 es → eachTested f es ≡ eachTested f (nextOf fs) → ready f b k fs ≡ true → suc (levelsIn ((levelAt f 0 fs) .subs)) ≤ left
+      → Subs f b es r₀ out₀ left first (nextOf fs) q
+  subs-next first k fs q t l h x y z = record {
+    begun = t;
+    leads = leads-same l (ap (λ (r : List ℕ). r ++ octets "]") (sym (next-text f first fs)));
+    behind = next-behind f fs ∙ h;
+    tested = x;
+    fit = ready-next f b k fs y;
+    few = rw (next-subs f fs) z;
+  }
 
-  module _ (e : ℕ) (h : LineAt s i e) where
+  going-next : (i : ℕ) (fs : List (Event Line)) (first : Bool) (out : List ℕ) (r : Next) → from ≤ i → Finds s i fs r → Subs f b es r₀ out₀ left first (nextOf fs) (pen out (placeOf r))
+      → Going f s from b es r₀ out₀ left first out r
+  going-next i fs first out (Sub n e at) l x g = (x .named, omega (arith, x .further), rw (x .is) g)
+  going-next i fs first out (End j at) l x g = (omega (arith, x .further), rw (x .is) g)
+  going-next i fs first out (Refused why) l x g = absurd x
+
+-- the first one
+module _ (f : Line → Answer Property) (s : List ℕ) (from : ℕ) (b : Bool) (es : List (Event Line)) (left : ℕ) (n : List ℕ) (p : Pen) (text out : List ℕ) where
+  start-stands : (r : Next) → Told r → Stands f s from es es p text out r → ready f b false es ≡ true → levels (componentAt f n es) ≤ left → Going f s from b es r out left true out r
+  unfolding levels componentAt
+  start-stands r t z h k =
+      going-next f s from b es r out left from es true out r (omega arith) (z .finds) (subs-next f s from b es r out left true false es (pen out (placeOf r)) t leads-start refl (z .tested) h k)
+
+  pub going-start : (r : Next) → Places f s from es es p text out r → ready f b false es ≡ true → levels (componentAt f n es) ≤ left → Going f s from b es r out left true out r
+  going-start (Sub m e at) z h k = start-stands (Sub m e at) tt z h k
+  going-start (End j at) z h k = start-stands (End j at) tt z h k
+  going-start (Refused why) z h k = z
+
+module _ (f : Line → Answer Property) (s : List ℕ) (from : ℕ) (b : Bool) (es : List (Event Line)) (r₀ : Next) (out₀ : List ℕ) (left : ℕ) (first : Bool) (out : List ℕ) where
+  -- a sub-component
+  module _ (n e at : ℕ) (g : Going f s from b es r₀ out₀ left first out (Sub n e at)) where
     abbrev next : List (Event Line)
     next = eventsIn (drop (e + 1) s)
 
-    -- a BEGIN
-    module _ (n : ℕ) (t : Tells s i e (Opens n)) where
-      abbrev sub : Component
-      sub = componentAt f (nameFrom s n) next
+    abbrev sub : Component
+    sub = componentAt f (nameFrom s n) next
 
-      opens : eventsIn (drop i s) ≡ begins (nameFrom s n) ∷ next
-      unfolding told
-      opens = events-told s i e (Opens n) h t
+    pub sub-ready : ready f b false next ≡ true
+    unfolding ready orderedFrom mayStand endsHere all reads
+    sub-ready = g .2 .fit
 
-      pub sub-accepts : all (reads f) next ≡ true
-      unfolding all reads
-      sub-accepts = accepts-is (begins (nameFrom s n) ∷ next) opens
+    sub-levels : (levels sub ≤ left - 1) × (1 ≤ left) × (suc (levelsIn ((levelAt f 0 (behindEnd 0 next)) .subs)) ≤ left)
+    unfolding levels componentAt
+    sub-levels = few-opens f left (nameFrom s n) next (g .2 .few)
 
-      sub-levels : (levels sub ≤ left - 1) × (1 ≤ left) × (suc (levelsIn ((levelAt f 0 (behindEnd 0 next)) .subs)) ≤ left)
-      unfolding levels componentAt
-      sub-levels = few-opens f left (nameFrom s n) next (few-is (begins (nameFrom s n) ∷ next) opens)
+    pub sub-few : levels sub ≤ left - 1
+    sub-few = sub-levels .0
 
-      pub sub-few : levels sub ≤ left - 1
-      sub-few = sub-levels .0
+    pub left-some : 1 ≤ left
+    left-some = sub-levels .1
 
-      pub left-some : 1 ≤ left
-      left-some = sub-levels .1
+    sub-text : subsText f first (begins (nameFrom s n) ∷ next) ++ octets "]" ≡ comma first ++ (print (jcalOf sub) ++ (subsText f false (behindEnd 0 next) ++ octets "]"))
+    sub-text = ap (λ (r : List ℕ). r ++ octets "]") (subs-begins f first (nameFrom s n) next) ∙ append-assoc (comma first) _ _ ∙ ap (λ (v : List ℕ). comma first ++ v) (append-assoc (print (jcalOf sub)) _ _)
 
-      sub-text : subsText f first (eventsIn (drop i s)) ++ octets "]" ≡ comma first ++ (print (jcalOf sub) ++ (subsText f false (behindEnd 0 next) ++ octets "]"))
-      sub-text =
-          text-is (begins (nameFrom s n) ∷ next) _ opens (subs-begins f first (nameFrom s n) next)
-          ∙ append-assoc (comma first) _ _ ∙ ap (λ (v : List ℕ). comma first ++ v) (append-assoc (print (jcalOf sub)) _ _)
+    sub-behind : behindEnd 0 (behindEnd 0 next) ≡ behindEnd 0 es
+    unfolding behindEnd
+    sub-behind = sym (behind-within f 0 next) ∙ g .2 .behind
 
-      pub sub-goes : (m : Pen) (out : List ℕ) (r : Progress) → Wrote q (comma first) m → Walked s (e + 1) (behindEnd 0 next) m (print (jcalOf sub)) out r
-          → Subs f s from p left (r .next) false (pen out (r .at))
-      sub-goes m out r w z = record {
-        leads = rw (z .rest) (leads-on (leads-on (g .leads) w sub-text) (z .wrote) refl);
-        accepts = rw (z .rest) (reads-behind f 0 next sub-accepts);
-        few = rw (z .rest) (sub-levels .2);
-      }
+    sub-tested : eachTested f es ≡ eachTested f next
+    unfolding eventTested
+    sub-tested = g .2 .tested ∙ turn-passed f (begins (nameFrom s n)) next refl
 
-    -- a property
-    module _ (t : Tells s i e Plain) where
-      abbrev line : Line
-      line = lineOf (lineFrom s i)
+    sub-stands : (m : Pen) (o : List ℕ) (r : Next) → Wrote (pen out at) (comma first) m → Stands f s (e + 1) next (behindEnd 0 next) m (print (jcalOf sub)) o r
+        → Going f s from b es r₀ out₀ left false o r
+    sub-stands m o r w z =
+        going-next f s from b es r₀ out₀ left (e + 1) (behindEnd 0 next) false o r (omega (arith, g .1)) (z .finds)
+        (subs-next f s from b es r₀ out₀ left false true (behindEnd 0 next) (pen o (placeOf r)) (g .2 .begun) (leads-on (leads-on (g .2 .leads) w sub-text) (z .wrote) refl) sub-behind (sub-tested ∙ z .tested) (ready-behind f b false next sub-ready) (sub-levels .2))
 
-      holds-here : eventsIn (drop i s) ≡ holds line ∷ next
-      unfolding told
-      holds-here = events-told s i e Plain h t
+    pub sub-less : (m : Pen) (o : List ℕ) (r : Next) → Places f s (e + 1) next (behindEnd 0 next) m (print (jcalOf sub)) o r → behindIt s r < suc (length s - e)
+    sub-less m o (Sub k j a) z = omega (arith, z .finds .named .high, z .finds .further)
+    sub-less m o (End j a) z = omega arith
+    sub-less m o (Refused why) z = omega arith
 
-      holds-accepts : all (reads f) next ≡ true
-      unfolding all reads
-      holds-accepts = both (isAccepted (f line)) (all (reads f) next) (accepts-is (holds line ∷ next) holds-here) .1
+    pub sub-goes : (m : Pen) (o : List ℕ) (r : Next) → Wrote (pen out at) (comma first) m → Places f s (e + 1) next (behindEnd 0 next) m (print (jcalOf sub)) o r
+        → Going f s from b es r₀ out₀ left false o r
+    sub-goes m o (Sub k j a) w z = sub-stands m o (Sub k j a) w z
+    sub-goes m o (End j a) w z = sub-stands m o (End j a) w z
+    sub-goes m o (Refused why) w z = sub-tested ∙ z
 
-      pub sub-plain : Subs f s from p left (e + 1) first q
-      sub-plain = record {
-        leads = leads-same (g .leads) (text-is (holds line ∷ next) _ holds-here (subs-holds f first line next));
-        accepts = holds-accepts;
-        few = rw (level-holds f line next) at (few-is (holds line ∷ next) holds-here);
-      }
-
-    -- a BEGIN or END that is neither
-    module _ (t : Tells s i e Broken) where
-      stray-here : eventsIn (drop i s) ≡ stray ∷ next
-      unfolding told
-      stray-here = events-told s i e Broken h t
-
-      stray-accepts : all (reads f) next ≡ true
-      unfolding all reads
-      stray-accepts = accepts-is (stray ∷ next) stray-here
-
-      pub sub-broken : Subs f s from p left (e + 1) first q
-      sub-broken = record {
-        leads = leads-same (g .leads) (text-is (stray ∷ next) _ stray-here (subs-stray f first next));
-        accepts = stray-accepts;
-        few = rw (level-stray f 0 next) at (few-is (stray ∷ next) stray-here);
-      }
-
-    -- the END of the component
-    module _ (n : ℕ) (t : Tells s i e (Closes n)) where
-      ends-here : eventsIn (drop i s) ≡ ends (nameFrom s n) ∷ next
-      unfolding told
-      ends-here = events-told s i e (Closes n) h t
-
-      pub sub-ends : (r : Pen) → Wrote q (octets "]]") r → Wrote p (subsText f true (eventsIn (drop from s)) ++ octets "]") r
-      sub-ends r w = leads-last (g .leads) w (text-is (ends (nameFrom s n) ∷ next) (octets "]") ends-here (subs-ends f first (nameFrom s n) next))
-
-  -- no line is left
-  pub sub-none : (r : Pen) → length s ≤ i → Wrote q (octets "]]") r → Wrote p (subsText f true (eventsIn (drop from s)) ++ octets "]") r
-  sub-none r h w = leads-last (g .leads) w (text-is [] (octets "]") (events-none s i h) (subs-none f first))
-
--- the whole component
-pub component-wrote : (f : Line → Answer Property) (n : List ℕ) (es : List (Event Line)) {p q r : Pen}
-    → Wrote p (headText f n es) q → Wrote q (subsText f true es ++ octets "]") r → Wrote p (print (jcalOf (componentAt f n es))) r
-component-wrote f n es v w = as-text (then v w) (sym (component-head f n es))
+  -- the END of the component
+  pub sub-ends : (j at : ℕ) → Going f s from b es r₀ out₀ left first out (End j at) → (n : List ℕ) (p m : Pen) → Wrote p (nameText n) m → Places f s from es es m (propertiesText f true es ++ octets ",[") out₀ r₀
+      → (o : List ℕ) (a : ℕ) → Wrote (pen out at) (octets "]]") (pen o a) → (r : Next) → Found s j a r → Places f s from es (behindEnd 0 es) p (print (jcalOf (componentAt f n es))) o r
+  unfolding ready orderedFrom mayStand endsHere all reads eventTested behindEnd
+  sub-ends j at g n p m v w o a x r z =
+      let rest = eventsIn (drop j s) in
+      let t : eachTested f es ≡ eachTested f (nextOf rest) = g .1 .tested ∙ turn-passed f (ends []) rest refl ∙ next-tested f b rest (g .1 .fit) in
+      places-found f s from es (behindEnd 0 es) p _ o r (finds-from s from j rest (behindEnd 0 es) r (g .0) (g .1 .behind) (z .finds))
+      (rw (z .place) (as-text (then (then v (wrote-told f s from es es m _ out₀ r₀ (g .1 .begun) w)) (leads-last (g .1 .leads) x (ap (λ (y : List ℕ). y ++ octets "]") (subs-ends f first [] rest)))) (sym (component-text f n es))))
+      (rw (g .1 .behind) at t)

@@ -1,6 +1,5 @@
 -- What a line of a buffer is, by its places.
-use Prim.Native.Nat.{ℕ, zero, suc, _+_, _-_, _≤_, _<_}
-use Prim.Native.Char.{code}
+use Prim.Native.Nat.{ℕ, zero, suc, _+_, _-_, _≤_}
 use mathlib.Core.Path.{_≡_, refl, sym, ap, _∙_}
 use mathlib.Core.Bool.{Bool, true, false}
 use mathlib.Core.List.{List, [], _∷_}
@@ -8,13 +7,13 @@ use native.Mathlib.Omega.{arith}
 use lib.ListN.{length, take, drop, length-drop}
 use lib.Seq.{drop-drop}
 use Rattle.octets.specs.Basics.{octets, pick}
-use Rattle.octets.specs.Classes.{lower, sameName}
-use Rattle.content.specs.Line.{Line, lineOf}
+use Rattle.octets.specs.Classes.{sameName}
+use Rattle.content.specs.Line.{lineOf}
 use Rattle.content.specs.Scan.{until}
-use Rattle.content.specs.Buffer.{isLf, linesIn}
-use Rattle.content.proofs.Scanning.{scan-is, scan-high, until-le}
-use Rattle.converter.specs.Structure.{Event, begins, ends, holds, stray, bounds, eventOf}
-use Rattle.jcal.specs.Events.{eventAt, lineFrom, LineAt, nameFrom, told, NameOf, restOf, Tells}
+use Rattle.content.specs.Buffer.{isLf}
+use Rattle.content.proofs.Scanning.{scan-is, scan-high}
+use Rattle.converter.specs.Structure.{bounds, eventOf}
+use Rattle.jcal.specs.Events.{lineFrom, LineAt, nameFrom, told, NameOf, Tells}
 use Rattle.jcal.specs.declared.events.Kind.{Kind}
 use Rattle.jcal.specs.declared.events.Kind.the-variants.{Opens, Closes, Plain, Broken}
 use Rattle.jcal.proofs.Heads.{alike-length, Bound, bound-at}

@@ -44,20 +44,24 @@ module _ (f : Line → Answer Property) where
   turn (holds l) es = holds-tested (f l) es
   turn stray es = unfold then in refl
 
+  -- an event that passes, and one that fails
+  pub turn-passed : (e : Event Line) (es : List (Event Line)) → accepted tt ≡ eventTested f e → eachTested f (e ∷ es) ≡ eachTested f es
+  turn-passed e es t = turn e es ∙ ap (λ (a : Answer (Unit {0})). then a (λ _. eachTested f es)) (sym t) ∙ (unfold then in refl)
+
+  pub turn-failed : (e : Event Line) (es : List (Event Line)) (n : ℕ) → refused n ≡ eventTested f e → eachTested f (e ∷ es) ≡ refused n
+  turn-failed e es n t = turn e es ∙ ap (λ (a : Answer (Unit {0})). then a (λ _. eachTested f es)) (sym t) ∙ (unfold then in refl)
+
   module _ (s : List ℕ) (i : ℕ) where
     pub turn-none : length s ≤ i → accepted tt ≡ eachTested f (eventsIn (drop i s))
     unfolding eachProperty then
     turn-none h = rw (events-none s i h)
 
     module _ (e : ℕ) (h : LineAt s i e) where
-      here : eachTested f (eventsIn (drop i s)) ≡ then (eventTested f (eventAt (lineFrom s i))) (λ _. eachTested f (eventsIn (drop (e + 1) s)))
-      here = ap (eachTested f) (events-here s i e h) ∙ turn (eventAt (lineFrom s i)) (eventsIn (drop (e + 1) s))
-
       pub turn-on : accepted tt ≡ eventTested f (eventAt (lineFrom s i)) → eachTested f (eventsIn (drop i s)) ≡ eachTested f (eventsIn (drop (e + 1) s))
-      turn-on t = here ∙ ap (λ (a : Answer (Unit {0})). then a (λ _. eachTested f (eventsIn (drop (e + 1) s)))) (sym t) ∙ (unfold then in refl)
+      turn-on t = ap (eachTested f) (events-here s i e h) ∙ turn-passed (eventAt (lineFrom s i)) (eventsIn (drop (e + 1) s)) t
 
       pub turn-off : (n : ℕ) → refused n ≡ eventTested f (eventAt (lineFrom s i)) → refused n ≡ eachTested f (eventsIn (drop i s))
-      turn-off n t = sym (here ∙ ap (λ (a : Answer (Unit {0})). then a (λ _. eachTested f (eventsIn (drop (e + 1) s)))) (sym t) ∙ (unfold then in refl))
+      turn-off n t = sym (ap (eachTested f) (events-here s i e h) ∙ turn-failed (eventAt (lineFrom s i)) (eventsIn (drop (e + 1) s)) n t)
 
 -- the test of a line of which is told
 module _ (f : Line → Answer Property) (s : List ℕ) (i e : ℕ) where

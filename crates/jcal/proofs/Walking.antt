@@ -1,115 +1,192 @@
--- The walks over the lines of a component: what each line adds to what is left to write.
-use Prim.Native.Nat.{ℕ, suc, _+_, _-_, _≤_}
-use mathlib.Core.Path.{_≡_, refl, sym, ap, _∙_}
+-- The walk over the lines of a component for its properties: what each line adds to what is left to write, and to what is tested.
+use Prim.Native.Nat.{ℕ, _+_, _≤_}
+use mathlib.Core.Path.{_≡_, refl, ap, _∙_}
 use mathlib.Core.Bool.{Bool, true, false}
-use mathlib.Core.List.{List, _∷_, _++_, append-assoc}
-use native.Mathlib.Numerals.{add-one}
+use mathlib.Core.List.{List, [], _∷_, _++_, append-assoc}
 use native.Mathlib.Omega.{arith}
 use lib.ListN.{length, drop}
 use Rattle.octets.specs.Basics.{octets, all}
-use Rattle.octets.specs.Pen.{Pen, Wrote}
-use Rattle.octets.specs.Answers.{Answer}
-use Rattle.octets.proofs.Cases.{both}
-use Rattle.octets.proofs.Pen.{Leads, leads-start, leads-on, leads-same, leads-last}
-use Rattle.json.specs.Print.{print}
+use Rattle.octets.specs.Pen.{Pen, pen, Wrote}
+use Rattle.octets.specs.Answers.{Answer, refused, then}
+use Rattle.octets.proofs.Cases.{never, both}
+use Rattle.octets.proofs.Pen.{then as behind-it, Leads, leads-start, leads-on, leads-same, leads-last}
+use Rattle.types.specs.Table.{Table}
 use Rattle.content.specs.Line.{Line, lineOf}
 use Rattle.converter.specs.Tree.{Property}
-use Rattle.converter.specs.Structure.{Event, ends, holds}
-use Rattle.converter.specs.Jcal.{propertyJson}
+use Rattle.converter.specs.Structure.{Event, begins, ends, holds, stray}
+use Rattle.converter.specs.Property.{readProperty}
+use Rattle.jcalproperties.specs.Placed.{Places as PlacesProperty}
+use Rattle.jcalproperties.specs.declared.Placed.{Placed}
+use Rattle.jcalproperties.specs.declared.Placed.the-variants.{At, Failed}
 use Rattle.jcal.specs.Events.{eventsIn, lineFrom, LineAt, nameFrom, told, Tells}
-use Rattle.jcal.specs.Walk.{propertyOr, isAccepted, reads, behindEnd, comma, propertiesText}
+use Rattle.jcal.specs.Order.{mayStand, endsHere, orderedFrom}
+use Rattle.jcal.specs.Walk.{propertyOr, isAccepted, reads, eventTested, eachTested, nextOf, comma, propertiesText}
+use Rattle.jcal.specs.Walked.{ready, ItemStands, PlacesItem, Behind, EndNext, Finds, placeOf, Places}
+use Rattle.jcal.specs.declared.components.Next.{Next}
+use Rattle.jcal.specs.declared.components.Next.the-variants.{Sub, End, Refused}
 use Rattle.jcal.specs.declared.events.Kind.{Kind}
 use Rattle.jcal.specs.declared.events.Kind.the-variants.{Opens, Closes, Plain, Broken}
+use Rattle.jcal.proofs.Telling.{name-of}
 use Rattle.jcal.proofs.Stacks.{events-none, events-told}
-use Rattle.jcal.proofs.Levels.{properties-none, properties-stray, properties-ends, properties-left, properties-begins, properties-passed, properties-holds}
+use Rattle.jcal.proofs.Levels.{reads-behind, properties-none, properties-stray, properties-ends, properties-begins, properties-holds, not-refused}
+use Rattle.jcal.proofs.Order.{properties-end}
+use Rattle.jcal.proofs.Turns.{turn-passed, turn-failed}
+use Rattle.jcal.proofs.Ahead.{accepts-tested, next-tested}
 
--- from the line at i on, with `within` components open
-pub record Going (f : Line → Answer Property) (s : List ℕ) (from : ℕ) (p : Pen) (i within : ℕ) (first : Bool) (q : Pen) : Type 0 where
-  pub leads : Leads p (propertiesText f true 0 (eventsIn (drop from s))) q (propertiesText f first within (eventsIn (drop i s)))
-  pub behind : behindEnd within (eventsIn (drop i s)) ≡ behindEnd 0 (eventsIn (drop from s))
-  pub accepts : all (reads f) (eventsIn (drop i s)) ≡ true
-  pub few : within ≤ i
-  pub low : from ≤ i
+-- a comma and a property are an item
+pub item-placed : (t : Table) (l : Line) (first : Bool) (out : List ℕ) (r : Placed) {p m : Pen} → Wrote p (comma first) m → PlacesProperty t l m out r → PlacesItem (readProperty t l) first p out r
+unfolding isAccepted propertyOr
+item-placed t l first out (At q) w z = record { accepts = rw (z .read); wrote = rw (z .read) (behind-it w (z .wrote)) }
+item-placed t l first out (Failed why) w z = z
 
-pub going-start : (f : Line → Answer Property) (s : List ℕ) (from : ℕ) (p : Pen) → all (reads f) (eventsIn (drop from s)) ≡ true → Going f s from p from 0 true p
-going-start f s from p h = record { leads = leads-start; behind = refl; accepts = h; few = omega arith; low = omega arith }
+-- what stands next is found from an earlier line on
+pub finds-from : (s : List ℕ) (i j : ℕ) (es fs : List (Event Line)) (r : Next) → i ≤ j → es ≡ fs → Finds s j es r → Finds s i fs r
+finds-from s i j es fs (Sub n e at) l v z = record { is = rw v at (z .is); named = z .named; further = omega (arith, z .further) }
+finds-from s i j es fs (End k at) l v z = record { is = rw v at (z .is); further = omega (arith, z .further) }
+finds-from s i j es fs (Refused why) l v z = z
 
-module _ (f : Line → Answer Property) (s : List ℕ) (from : ℕ) (p : Pen) (i within : ℕ) (first : Bool) (q : Pen) (g : Going f s from p i within first q) where
+-- a part of a component is written, and what stands next is found
+pub places-found : (f : Line → Answer Property) (s : List ℕ) (i : ℕ) (es fs : List (Event Line)) (p : Pen) (text out : List ℕ) (r : Next)
+    → Finds s i fs r → Wrote p text (pen out (placeOf r)) → eachTested f es ≡ eachTested f (nextOf fs) → Places f s i es fs p text out r
+places-found f s i es fs p text out (Sub n e at) z w t = record { finds = z; wrote = w; tested = t }
+places-found f s i es fs p text out (End k at) z w t = record { finds = z; wrote = w; tested = t }
+places-found f s i es fs p text out (Refused why) z w t = absurd z
+
+and-more : {x y : List ℕ} → x ≡ y → x ++ octets ",[" ≡ y ++ octets ",["
+and-more e = rw e
+
+-- from the events is on, of the events es of the component
+pub record Held (f : Line → Answer Property) (b : Bool) (es : List (Event Line)) (p : Pen) (is : List (Event Line)) (first : Bool) (q : Pen) : Type 0 where
+  pub leads : Leads p (propertiesText f true es ++ octets ",[") q (propertiesText f first is ++ octets ",[")
+  pub whole : ready f b false es ≡ true
+  pub fit : ready f b false is ≡ true
+  pub passed : b ≡ true → (nextOf is ≡ nextOf es) × (eachTested f es ≡ eachTested f is)
+
+pub held-start : (f : Line → Answer Property) (b : Bool) (es : List (Event Line)) (p : Pen) → ready f b false es ≡ true → Held f b es p es true p
+held-start f b es p h = record { leads = leads-start; whole = h; fit = h; passed = λ _. (refl, refl) }
+
+ready-held : (f : Line → Answer Property) (b : Bool) (l : Line) (fs : List (Event Line)) → ready f b false (holds l ∷ fs) ≡ true → ready f b false fs ≡ true
+unfolding ready orderedFrom mayStand endsHere all reads
+ready-held f true l fs h = h
+ready-held f false l fs h = both (isAccepted (f l)) (all (reads f) fs) h .1
+
+ready-accepts : (f : Line → Answer Property) (l : Line) (fs : List (Event Line)) → ready f false false (holds l ∷ fs) ≡ true → isAccepted (f l) ≡ true
+unfolding ready all reads
+ready-accepts f l fs h = both (isAccepted (f l)) (all (reads f) fs) h .0
+
+ready-none : (f : Line → Answer Property) (b : Bool) → ready f b true [] ≡ true
+unfolding ready orderedFrom all
+ready-none f true = refl
+ready-none f false = refl
+
+module _ (f : Line → Answer Property) (s : List ℕ) (from : ℕ) (b : Bool) (es : List (Event Line)) (p : Pen) (i : ℕ) (first : Bool) (q : Pen)
+    (g : Held f b es p (eventsIn (drop i s)) first q) where
+  -- what is tested up to here is all that is tested before what stands next
+  up-to : (o : Bool) (is : List (Event Line)) → Held f o es p is first q → ready f o true is ≡ true → eachTested f es ≡ eachTested f (nextOf es)
+  up-to true is x r = x .passed refl .1 ∙ next-tested f true is r ∙ ap (eachTested f) (x .passed refl .0)
+  up-to false is x r = next-tested f false es (unfold ready in x .whole)
+
   module _ (e : ℕ) (h : LineAt s i e) where
-    abbrev after : List (Event Line)
-    after = eventsIn (drop (e + 1) s)
+    abbrev next : List (Event Line)
+    next = eventsIn (drop (e + 1) s)
 
-    -- a line that leaves the text as it is
-    on : (k : Kind) (w : ℕ) → Tells s i e k → propertiesText f first within (told s i k ∷ after) ≡ propertiesText f first w after → behindEnd within (told s i k ∷ after) ≡ behindEnd w after
-        → all (reads f) after ≡ true → w ≤ e + 1 → Going f s from p (e + 1) w first q
-    on k w t x y z l =
-        let v = events-told s i e k h t in
-        record {
-          leads = leads-same (g .leads) (ap (propertiesText f first within) v ∙ x);
-          behind = sym y ∙ sym (ap (behindEnd within) v) ∙ g .behind;
-          accepts = z;
-          few = l;
-          low = omega (arith, g .low, h .ends);
-        }
+    here : (k : Kind) → Tells s i e k → Held f b es p (told s i k ∷ next) first q
+    here k t = rw (events-told s i e k h t) at g
 
-    accepts-told : (k : Kind) → Tells s i e k → all (reads f) (told s i k ∷ after) ≡ true
-    accepts-told k t = rw (events-told s i e k h t) at (g .accepts)
-
-    pub going-opens : (n : ℕ) → Tells s i e (Opens n) → Going f s from p (e + 1) (within + 1) first q
-    going-opens n t =
-        rw (add-one within) (on (Opens n) (suc within) t (unfold told in properties-begins f first within (nameFrom s n) after) (unfold told behindEnd in refl) (unfold told all reads in accepts-told (Opens n) t) (omega (arith, g .few, h .ends)))
-
-    less : (within ≡ 0 → ⊥) → within ≡ suc (within - 1)
-    less z = omega arith
-
-    pub going-closes : (n : ℕ) → Tells s i e (Closes n) → (within ≡ 0 → ⊥) → Going f s from p (e + 1) (within - 1) first q
-    going-closes n t z = on (Closes n) (within - 1) t (unfold told in (ap (λ (w : ℕ). propertiesText f first w (ends (nameFrom s n) ∷ after)) (less z) ∙ properties-left f first (within - 1) (nameFrom s n) after))
-        (unfold told behindEnd in ap (λ (w : ℕ). behindEnd w (ends (nameFrom s n) ∷ after)) (less z)) (unfold told all reads in accepts-told (Closes n) t) (omega (arith, g .few, h .ends))
-
-    pub going-broken : Tells s i e Broken → Going f s from p (e + 1) within first q
-    going-broken t = on Broken within t (unfold told in properties-stray f first within after) (unfold told behindEnd in refl) (unfold told all reads in accepts-told Broken t) (omega (arith, g .few, h .ends))
-
-    -- a property, of this component or of one within it
+    -- a property
     module _ (t : Tells s i e Plain) where
       abbrev line : Line
       line = lineOf (lineFrom s i)
 
-      pub reads-here : (isAccepted (f line) ≡ true) × (all (reads f) after ≡ true)
-      unfolding told all reads
-      reads-here = both (isAccepted (f line)) (all (reads f) after) (accepts-told Plain t)
+      holds-here : Held f b es p (holds line ∷ next) first q
+      unfolding told
+      holds-here = here Plain t
 
-      pub going-passed : (within ≡ 0 → ⊥) → Going f s from p (e + 1) within first q
-      going-passed z = on Plain within t
-          (unfold told in (ap (λ (w : ℕ). propertiesText f first w (holds line ∷ after)) (less z) ∙ properties-passed f first (within - 1) line after ∙ ap (λ (w : ℕ). propertiesText f first w after) (sym (less z))))
-          (unfold told behindEnd in refl) (reads-here .1) (omega (arith, g .few, h .ends))
+      pub held-item : (r : Pen) → ItemStands (f line) first q r → Held f b es p next false r
+      unfolding nextOf eventTested
+      held-item r w = record {
+        leads = leads-on (holds-here .leads) (w .wrote) (and-more (properties-holds f first line next) ∙ simp append-assoc);
+        whole = g .whole;
+        fit = ready-held f b line next (holds-here .fit);
+        passed = λ o. (holds-here .passed o .0, holds-here .passed o .1 ∙ turn-passed f (holds line) next (accepts-tested (f line) (w .accepts)));
+      }
 
-      pub going-held : (r : Pen) → within ≡ 0 → Wrote q (comma first ++ print (propertyJson (propertyOr (f line)))) r → Going f s from p (e + 1) within false r
-      going-held r z w =
-          let v = events-told s i e Plain h t in
-          let x : propertiesText f first within (eventsIn (drop i s)) ≡ (comma first ++ print (propertyJson (propertyOr (f line)))) ++ propertiesText f false within after
-          = rw (z, v) (unfold told in (properties-holds f first line after ∙ sym (append-assoc (comma first) _ _))) in
+      held-refused-by : (o : Bool) → Held f o es p (holds line ∷ next) first q → (n : ℕ) → f line ≡ refused n → eachTested f es ≡ refused n
+      unfolding eventTested then
+      held-refused-by true x n r = x .passed refl .1 ∙ turn-failed f (holds line) next n (rw r)
+      held-refused-by false x n r = not-refused (f line) n (ready-accepts f line next (x .fit)) r
+
+      pub held-refused : (n : ℕ) → f line ≡ refused n → eachTested f es ≡ refused n
+      held-refused n r = held-refused-by b holds-here n r
+
+    -- a BEGIN
+    module _ (n : ℕ) (t : Tells s i e (Opens n)) where
+      begins-here : Held f b es p (begins (nameFrom s n) ∷ next) first q
+      unfolding told
+      begins-here = here (Opens n) t
+
+      pub held-sub : b ≡ true → from ≤ i → (out : List ℕ) (at : ℕ) → Wrote q (octets "],[") (pen out at) → Places f s from es es p (propertiesText f true es ++ octets ",[") out (Sub n e at)
+      unfolding ready nextOf orderedFrom mayStand endsHere
+      held-sub o l out at w =
+          let x : Held f true es p (begins (nameFrom s n) ∷ next) first q = rw o at begins-here in
           record {
-            leads = leads-on (g .leads) w x;
-            behind = unfold told behindEnd in (sym (ap (behindEnd within) v) ∙ g .behind);
-            accepts = reads-here .1;
-            few = omega (arith, g .few, h .ends);
-            low = omega (arith, g .low, h .ends);
+            finds = record { is = x .passed refl .0; named = name-of s i e h (Opens n) t; further = omega (arith, h .ends) };
+            wrote = leads-last (x .leads) w (and-more (properties-end f first (nameFrom s n) next (x .fit)));
+            tested = up-to true (begins (nameFrom s n) ∷ next) x (x .fit);
           }
 
-    -- the END of this component
-    pub going-ends : (n : ℕ) (r : Pen) → Tells s i e (Closes n) → within ≡ 0 → Wrote q (octets "]") r
-        → Wrote p (propertiesText f true 0 (eventsIn (drop from s))) r × (after ≡ behindEnd 0 (eventsIn (drop from s)))
-    going-ends n r t z w =
-        let v = events-told s i e (Closes n) h t in (
-          leads-last (g .leads) w (rw (z, v) (unfold told in properties-ends f first (nameFrom s n) after)),
-          unfold told behindEnd in (sym (ap (behindEnd 0) v) ∙ (rw z at (g .behind))),
-        )
+      pub held-over : b ≡ false → (r : ℕ) → Behind s (e + 1) r → Held f b es p (eventsIn (drop r s)) first q
+      unfolding ready all reads
+      held-over o r z =
+          let x : Held f false es p (begins (nameFrom s n) ∷ next) first q = rw o at begins-here in
+          rw (z .rest) record {
+            leads = leads-same (x .leads) (and-more (properties-begins f first (nameFrom s n) next));
+            whole = g .whole;
+            fit = rw o (reads-behind f 0 next (x .fit));
+            passed = λ c. never c o;
+          }
+
+    -- the END of the component
+    module _ (n : ℕ) (t : Tells s i e (Closes n)) where
+      ends-here : Held f b es p (ends (nameFrom s n) ∷ next) first q
+      unfolding told
+      ends-here = here (Closes n) t
+
+      pub ends-next : b ≡ true → from ≤ i → EndNext s from es (e + 1)
+      unfolding nextOf
+      ends-next o l = record { is = ends-here .passed o .0; further = omega (arith, h .ends) }
+
+      pub held-ends : (out : List ℕ) (r : Next) → Finds s from es r → Wrote q (octets "],[") (pen out (placeOf r)) → Places f s from es es p (propertiesText f true es ++ octets ",[") out r
+      unfolding ready orderedFrom mayStand endsHere
+      held-ends out r z w =
+          places-found f s from es es p _ out r z (leads-last (ends-here .leads) w (and-more (properties-ends f first (nameFrom s n) next)))
+          (up-to b (ends (nameFrom s n) ∷ next) ends-here (ends-here .fit))
+
+    -- a BEGIN or END that is neither
+    module _ (t : Tells s i e Broken) where
+      stray-here : Held f b es p (stray ∷ next) first q
+      unfolding told
+      stray-here = here Broken t
+
+      pub held-broken : Held f b es p next first q
+      unfolding ready nextOf orderedFrom mayStand endsHere all reads eventTested
+      held-broken = record {
+        leads = leads-same (stray-here .leads) (and-more (properties-stray f first next));
+        whole = g .whole;
+        fit = stray-here .fit;
+        passed = λ o. (stray-here .passed o .0, stray-here .passed o .1 ∙ turn-passed f stray next refl);
+      }
 
   -- no line is left
-  pub going-none : (r : Pen) → length s ≤ i → Wrote q (octets "]") r
-      → Wrote p (propertiesText f true 0 (eventsIn (drop from s))) r × (eventsIn (drop i s) ≡ behindEnd 0 (eventsIn (drop from s)))
-  going-none r h w =
-      let v = events-none s i h in (
-        leads-last (g .leads) w (rw v (properties-none f first within)),
-        unfold behindEnd in (v ∙ sym (ap (behindEnd within) v) ∙ g .behind),
-      )
+  module _ (l : length s ≤ i) where
+    none-here : Held f b es p [] first q
+    none-here = rw (events-none s i l) at g
+
+    pub none-next : b ≡ true → from ≤ i → EndNext s from es i
+    unfolding nextOf
+    none-next o k = record { is = rw (events-none s i l) (none-here .passed o .0); further = k }
+
+    pub held-none : (out : List ℕ) (r : Next) → Finds s from es r → Wrote q (octets "],[") (pen out (placeOf r)) → Places f s from es es p (propertiesText f true es ++ octets ",[") out r
+    held-none out r z w =
+        places-found f s from es es p _ out r z (leads-last (none-here .leads) w (and-more (properties-none f first)))
+        (up-to b [] none-here (ready-none f b))

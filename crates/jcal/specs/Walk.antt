@@ -55,6 +55,14 @@ behindEnd (suc k) (ends n ∷ es) = behindEnd k es
 behindEnd k (holds l ∷ es) = behindEnd k es
 behindEnd k (stray ∷ es) = behindEnd k es
 
+-- the events from the next sub-component or END of a component on, an END without its name; an END where no line is left
+unfoldable pub nextOf : List (Event Line) → List (Event Line)
+nextOf [] = ends [] ∷ []
+nextOf (begins n ∷ es) = begins n ∷ es
+nextOf (ends n ∷ es) = ends [] ∷ es
+nextOf (holds l ∷ es) = nextOf es
+nextOf (stray ∷ es) = nextOf es
+
 unfoldable pub outward : ℕ → List Level → List Level
 outward zero ls = ls
 outward (suc k) ls = outward k (around ls)
@@ -75,27 +83,12 @@ comma first = pick first [] (octets ",")
 unfoldable pub listed : Bool → Items → List ℕ
 listed first js = pick first (firstItem js) (moreItems js)
 
-unfoldable pub propertiesText : (Line → Answer Property) → Bool → ℕ → List (Event Line) → List ℕ
-propertiesText f first k es = listed first (itemsOf (map propertyJson ((levelAt f k es) .properties)))
+unfoldable pub propertiesText : (Line → Answer Property) → Bool → List (Event Line) → List ℕ
+propertiesText f first es = listed first (itemsOf (map propertyJson ((levelAt f 0 es) .properties)))
 
 unfoldable pub subsText : (Line → Answer Property) → Bool → List (Event Line) → List ℕ
 subsText f first es = listed first (jcalsOf ((levelAt f 0 es) .subs))
 
--- what stands before a sub-component, up to its properties: the first sub-component ends the properties around it
+-- a component up to its properties
 unfoldable pub nameText : List ℕ → List ℕ
 nameText n = octets "[" ++ (printString n ++ octets ",[")
-
-unfoldable pub subText : Bool → List ℕ → List ℕ
-subText subs n = pick subs (octets ",") (octets "],[") ++ nameText n
-
--- what closes a component, with sub-components or without
-unfoldable pub closing : Bool → List ℕ
-closing subs = pick subs (octets "]]") (octets "],[]]")
-
--- a component from its properties on, where the first property is due or some stand already, or where some sub-components do
-unfoldable pub restText : (Line → Answer Property) → Bool → Bool → List (Event Line) → List ℕ
-restText f subs first es = pick subs (subsText f false es ++ octets "]") (propertiesText f first 0 es ++ (octets ",[" ++ (subsText f true es ++ octets "]")))
-
--- a component up to its sub-components
-unfoldable pub headText : (Line → Answer Property) → List ℕ → List (Event Line) → List ℕ
-headText f n es = octets "[" ++ (printString n ++ (octets ",[" ++ (propertiesText f true 0 es ++ octets ",[")))

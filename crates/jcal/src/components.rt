@@ -1,10 +1,10 @@
 // Components as jCal: the name, then the properties, then the sub-components, each in order.
 ghost use mathlib.Core.Path.{_≡_};
-ghost use mathlib.Core.Bool.{true};
+ghost use mathlib.Core.Bool.{true, false};
 ghost use mathlib.Core.List.{_++_};
 ghost use Prim.Native.Nat.{_+_, _≤_};
 ghost use lib.ListN.{drop};
-ghost use Rattle.octets.specs.Basics.{octets, all};
+ghost use Rattle.octets.specs.Basics.{octets};
 ghost use Rattle.octets.specs.Pen.{pen, Wrote};
 ghost use Rattle.octets.specs.Answers.{outcome, answer};
 ghost use Rattle.json.specs.Print.{print};
@@ -12,13 +12,12 @@ ghost use Rattle.types.specs.Laid.{tableIn};
 ghost use Rattle.content.specs.Line.{lineOf};
 ghost use Rattle.converter.specs.Tree.{levels};
 ghost use Rattle.converter.specs.Structure.{fresh, closed, nestAfter};
-ghost use Rattle.converter.specs.Growth.{eachProperty};
 ghost use Rattle.converter.specs.Property.{readProperty};
-ghost use Rattle.converter.specs.Jcal.{propertyJson, jcalOf};
+ghost use Rattle.converter.specs.Jcal.{jcalOf};
 ghost use Rattle.jcal.specs.Events.{eventsIn, LineAt, nameFrom, Named, Outermost};
-ghost use Rattle.jcal.specs.Walk.{isAccepted, propertyOr, reads, comma, propertiesText, behindEnd, componentAt, headText};
+ghost use Rattle.jcal.specs.Walk.{behindEnd, componentAt, comma, propertiesText, nameText};
+ghost use Rattle.jcal.specs.Walked.{ready, PlacesItem, Behind, EndNext, Found, Ended, Places};
 ghost use Rattle.jcal.specs.Stages.{propertiesJcal};
-ghost use Rattle.jcal.specs.Walked.{Walked};
 use crate::events::Kind;
 use crate::events::kind_at;
 use content::line_end;
@@ -27,18 +26,22 @@ use jcalproperties::place_property;
 use jcalproperties::put_name;
 use octets::Converted;
 use octets::MOST_LEVELS;
+use octets::Refusal;
 use octets::finish;
 use octets::put;
 use octets::put_all;
+use octets::refuse;
 
-// The next line, and the place of the next octet to write.
-pub(crate) struct Progress {
-    pub next: usize,
-    pub at: usize,
+// What stands next in a component, with the place of the next octet to write: a sub-component, by the place of its name and the end of that line,
+// or the END of the component, by the line behind it. Or why a property is refused.
+pub(crate) enum Next {
+    Sub(usize, usize, usize),
+    End(usize, usize),
+    Refused(Refusal),
 }
 
 // Writes a comma, but before the first item.
-pub(crate) fn put_comma(out: &mut [u8], at: usize, first: bool) -> usize
+fn put_comma(out: &mut [u8], at: usize, first: bool) -> usize
     ensures { λ r. ⌜ Wrote (pen (now (out .entry)) at) (comma first) (pen (now (out .exit)) r) ⌝ }
 {
     if first {
@@ -47,27 +50,20 @@ pub(crate) fn put_comma(out: &mut [u8], at: usize, first: bool) -> usize
     put(out, at, b',')
 }
 
-// Writes a property as an item.
-fn put_item(line: &[u8], rows: &[u8], first: bool, out: &mut [u8], at: usize) -> usize
-    requires { ⌜ isAccepted (readProperty (tableIn (now rows)) (lineOf (now line))) ≡ true ⌝ }
-    ensures { λ r. ⌜ Wrote (pen (now (out .entry)) at) (comma first ++ print (propertyJson (propertyOr (readProperty (tableIn (now (rows .entry))) (lineOf (now (line .entry))))))) (pen (now (out .exit)) r) ⌝ }
+// Tests and writes a property as an item.
+fn place_item(line: &[u8], rows: &[u8], first: bool, out: &mut [u8], at: usize) -> Placed
+    ensures { λ r. ⌜ PlacesItem (readProperty (tableIn (now (rows .entry))) (lineOf (now (line .entry)))) first (pen (now (out .entry)) at) (now (out .exit)) r ⌝ }
 {
     let to = put_comma(out, at, first);
-    match place_property(line, rows, out, to) {
-        Placed::At(q) => q,
-        Placed::Failed(_) => to,
-    }
+    place_property(line, rows, out, to)
 }
 
-// Writes the properties of the component whose lines begin at `from`, and finds the line behind its END.
-fn put_properties(buf: &[u8], rows: &[u8], from: usize, out: &mut [u8], at: usize) -> Progress
-    requires { ⌜ all (reads (readProperty (tableIn (now rows)))) (eventsIn (drop from (now buf))) ≡ true ⌝ }
-    ensures { λ r. ⌜ Walked (now (buf .entry)) from (behindEnd 0 (eventsIn (drop from (now (buf .entry))))) (pen (now (out .entry)) at) (octets "[" ++ propertiesText (readProperty (tableIn (now (rows .entry)))) true 0 (eventsIn (drop from (now (buf .entry))))) (now (out .exit)) r ⌝ }
+// The line behind the END of the component whose lines begin at `from`.
+fn behind_end(buf: &[u8], from: usize) -> usize
+    ensures { λ r. ⌜ Behind (now (buf .entry)) from r ⌝ }
 {
-    let mut to = put(out, at, b'[');
     let mut i = from;
     let mut within: usize = 0;
-    let mut first = true;
     while i < buf.len() {
         let e = line_end(buf, i);
         match kind_at(buf, i, e) {
@@ -77,89 +73,143 @@ fn put_properties(buf: &[u8], rows: &[u8], from: usize, out: &mut [u8], at: usiz
             }
             Kind::Closes(_) => {
                 if within == 0 {
-                    let end = put(out, to, b']');
-                    return Progress {
-                        next: e + 1,
-                        at: end,
-                    };
+                    return e + 1;
                 }
                 within -= 1;
                 i = e + 1;
             }
-            Kind::Plain => if within == 0 {
-                to = put_item(&buf[i..e], rows, first, out, to);
-                first = false;
-                i = e + 1;
-            } else {
-                i = e + 1;
-            },
+            Kind::Plain => i = e + 1,
             Kind::Broken => i = e + 1,
         }
     }
-    let end = put(out, to, b']');
-    Progress { next: i, at: end }
+    i
 }
 
-// Writes a component up to its sub-components.
-fn put_head(buf: &[u8], rows: &[u8], name: usize, e: usize, out: &mut [u8], at: usize) -> Progress
+// What stands next from the line at `from` on, whatever properties come first.
+fn next_at(buf: &[u8], from: usize, at: usize) -> Next
+    ensures { λ r. ⌜ Found (now (buf .entry)) from at r ⌝ }
+{
+    let mut i = from;
+    while i < buf.len() {
+        let e = line_end(buf, i);
+        match kind_at(buf, i, e) {
+            Kind::Opens(name) => return Next::Sub(name, e, at),
+            Kind::Closes(_) => return Next::End(e + 1, at),
+            Kind::Plain => i = e + 1,
+            Kind::Broken => i = e + 1,
+        }
+    }
+    Next::End(i, at)
+}
+
+// Writes a component up to its properties.
+fn open_component(buf: &[u8], name: usize, e: usize, out: &mut [u8], at: usize) -> usize
     requires { ⌜ Named (now buf) name e ⌝ }
-    requires { ⌜ all (reads (readProperty (tableIn (now rows)))) (eventsIn (drop (e + 1) (now buf))) ≡ true ⌝ }
-    ensures { λ r. ⌜ Walked (now (buf .entry)) (e + 1) (behindEnd 0 (eventsIn (drop (e + 1) (now (buf .entry))))) (pen (now (out .entry)) at) (headText (readProperty (tableIn (now (rows .entry)))) (nameFrom (now (buf .entry)) name) (eventsIn (drop (e + 1) (now (buf .entry))))) (now (out .exit)) r ⌝ }
+    ensures { λ r. ⌜ Wrote (pen (now (out .entry)) at) (nameText (nameFrom (now (buf .entry)) name)) (pen (now (out .exit)) r) ⌝ }
 {
     let a = put(out, at, b'[');
     let b = put_name(out, a, &buf[name..e]);
-    let c = put(out, b, b',');
-    let p = put_properties(buf, rows, e + 1, out, c);
-    let next = p.next;
-    let q = p.at;
-    let d = put_all(out, q, b",[");
-    Progress { next: next, at: d }
+    put_all(out, b, b",[")
 }
 
-// Writes the component whose name stands from `name` to `e`, and its sub-components by the same rule; at most `left` levels are left.
-fn put_component(
+// Ends the properties of the component whose lines begin at `from`. In order, its END stands next, before the line `end`;
+// else what stands next is looked for from the first line on.
+fn end_properties(
+    buf: &[u8],
+    from: usize,
+    in_order: bool,
+    end: usize,
+    out: &mut [u8],
+    at: usize,
+) -> Next
+    requires { ⌜ (in_order ≡ true → EndNext (now buf) from (eventsIn (drop from (now buf))) end) ⌝ }
+    ensures { λ r. ⌜ Ended (now (buf .entry)) from (pen (now (out .entry)) at) (now (out .exit)) r ⌝ }
+{
+    let to = put_all(out, at, b"],[");
+    if in_order {
+        return Next::End(end, to);
+    }
+    next_at(buf, from, to)
+}
+
+// Tests and writes the properties of the component whose lines begin at `from`, and finds what stands next in it.
+// In order, no property stands behind a sub-component; else the lines of sub-components are passed over.
+fn place_properties(
+    buf: &[u8],
+    rows: &[u8],
+    from: usize,
+    in_order: bool,
+    out: &mut [u8],
+    at: usize,
+) -> Next
+    requires { ⌜ ready (readProperty (tableIn (now rows))) in_order false (eventsIn (drop from (now buf))) ≡ true ⌝ }
+    ensures { λ r. ⌜ Places (readProperty (tableIn (now (rows .entry)))) (now (buf .entry)) from (eventsIn (drop from (now (buf .entry)))) (eventsIn (drop from (now (buf .entry)))) (pen (now (out .entry)) at) (propertiesText (readProperty (tableIn (now (rows .entry)))) true (eventsIn (drop from (now (buf .entry)))) ++ octets ",[") (now (out .exit)) r ⌝ }
+{
+    let mut to = at;
+    let mut i = from;
+    let mut first = true;
+    while i < buf.len() {
+        let e = line_end(&*buf, i);
+        match kind_at(&*buf, i, e) {
+            Kind::Plain => match place_item(&buf[i..e], &*rows, first, out, to) {
+                Placed::At(q) => {
+                    to = q;
+                    first = false;
+                    i = e + 1;
+                }
+                Placed::Failed(why) => return Next::Refused(why),
+            },
+            Kind::Opens(name) => {
+                if in_order {
+                    return Next::Sub(name, e, put_all(out, to, b"],["));
+                }
+                i = behind_end(&*buf, e + 1);
+            }
+            Kind::Closes(_) => return end_properties(&*buf, from, in_order, e + 1, out, to),
+            Kind::Broken => i = e + 1,
+        }
+    }
+    end_properties(&*buf, from, in_order, i, out, to)
+}
+
+// Tests and writes the component whose name stands from `name` to `e`, and its sub-components by the same rule; at most `left` levels are left.
+// Answers what stands next in the component around.
+fn place_component(
     buf: &[u8],
     rows: &[u8],
     name: usize,
     e: usize,
+    in_order: bool,
     left: usize,
     out: &mut [u8],
     at: usize,
-) -> Progress
+) -> Next
     requires { ⌜ Named (now buf) name e ⌝ }
-    requires { ⌜ all (reads (readProperty (tableIn (now rows)))) (eventsIn (drop (e + 1) (now buf))) ≡ true ⌝ }
+    requires { ⌜ ready (readProperty (tableIn (now rows))) in_order false (eventsIn (drop (e + 1) (now buf))) ≡ true ⌝ }
     requires { ⌜ levels (componentAt (readProperty (tableIn (now rows))) (nameFrom (now buf) name) (eventsIn (drop (e + 1) (now buf)))) ≤ left ⌝ }
-    ensures { λ r. ⌜ Walked (now (buf .entry)) (e + 1) (behindEnd 0 (eventsIn (drop (e + 1) (now (buf .entry))))) (pen (now (out .entry)) at) (print (jcalOf (componentAt (readProperty (tableIn (now (rows .entry)))) (nameFrom (now (buf .entry)) name) (eventsIn (drop (e + 1) (now (buf .entry))))))) (now (out .exit)) r ⌝ }
+    ensures { λ r. ⌜ Places (readProperty (tableIn (now (rows .entry)))) (now (buf .entry)) (e + 1) (eventsIn (drop (e + 1) (now (buf .entry)))) (behindEnd 0 (eventsIn (drop (e + 1) (now (buf .entry))))) (pen (now (out .entry)) at) (print (jcalOf (componentAt (readProperty (tableIn (now (rows .entry)))) (nameFrom (now (buf .entry)) name) (eventsIn (drop (e + 1) (now (buf .entry))))))) (now (out .exit)) r ⌝ }
 {
-    let p = put_head(&*buf, &*rows, name, e, out, at);
-    let n = p.next;
-    let mut to = p.at;
-    let mut i = e + 1;
+    let a = open_component(&*buf, name, e, out, at);
+    let mut next = place_properties(&*buf, &*rows, e + 1, in_order, out, a);
     let mut first = true;
-    while i < buf.len() {
-        let f = line_end(&*buf, i);
-        match kind_at(&*buf, i, f) {
-            Kind::Opens(inner) => {
+    loop {
+        match next {
+            Next::Sub(inner, f, to) => {
                 let item = put_comma(out, to, first);
-                let q = put_component(&*buf, &*rows, inner, f, left - 1, out, item);
-                to = q.at;
-                i = q.next;
+                next = place_component(&*buf, &*rows, inner, f, in_order, left - 1, out, item);
                 first = false;
             }
-            Kind::Closes(_) => {
+            Next::End(i, to) => {
                 let end = put_all(out, to, b"]]");
-                return Progress { next: n, at: end };
+                return next_at(&*buf, i, end);
             }
-            Kind::Plain => i = f + 1,
-            Kind::Broken => i = f + 1,
+            Next::Refused(why) => return Next::Refused(why),
         }
     }
-    let end = put_all(out, to, b"]]");
-    Progress { next: n, at: end }
 }
 
 // The place of the outermost component's name in the first line, which ends at e.
-pub(crate) fn outermost_name(lines: &[u8], e: usize) -> usize
+fn outermost_name(lines: &[u8], e: usize) -> usize
     requires { ⌜ LineAt (now lines) 0 e ⌝ }
     requires { ⌜ nestAfter fresh (eventsIn (now lines)) ≡ closed ⌝ }
     ensures { λ r. ⌜ Outermost (now (lines .entry)) e r ⌝ }
@@ -172,15 +222,17 @@ pub(crate) fn outermost_name(lines: &[u8], e: usize) -> usize
     }
 }
 
-// Writes the calendar of lines that pass every test.
-pub(crate) fn write_calendar(lines: &[u8], rows: &[u8], out: &mut [u8]) -> Converted
+// Converts lines that pair: tests 7, 8 and 9 if they are in order; other lines have passed these.
+pub(crate) fn place_calendar(lines: &[u8], rows: &[u8], in_order: bool, out: &mut [u8]) -> Converted
     requires { ⌜ nestAfter fresh (eventsIn (now lines)) ≡ closed ⌝ }
-    requires { ⌜ isAccepted (eachProperty (readProperty (tableIn (now rows))) (eventsIn (now lines))) ≡ true ⌝ }
+    requires { ⌜ ready (readProperty (tableIn (now rows))) in_order false (eventsIn (now lines)) ≡ true ⌝ }
     ensures { λ r. ⌜ outcome r (now (out .exit)) ≡ answer (propertiesJcal (readProperty (tableIn (now (rows .entry)))) (eventsIn (now (lines .entry)))) (now (out .entry)) ⌝ }
 {
     let e = line_end(lines, 0);
     let name = outermost_name(lines, e);
-    let p = put_component(lines, rows, name, e, MOST_LEVELS, out, 0);
-    let at = p.at;
-    finish(out, at)
+    match place_component(lines, rows, name, e, in_order, MOST_LEVELS, out, 0) {
+        Next::Sub(_, _, at) => finish(out, at),
+        Next::End(_, at) => finish(out, at),
+        Next::Refused(why) => refuse(out, why),
+    }
 }

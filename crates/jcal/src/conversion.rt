@@ -12,10 +12,9 @@ ghost use Rattle.converter.specs.ToJcal.{toJcal};
 ghost use Rattle.jcal.specs.Events.{eventsIn};
 ghost use Rattle.jcal.specs.Order.{ordered};
 ghost use Rattle.jcal.specs.Stages.{propertiesJcal, eventsJcal, linesJcal};
-use crate::components::write_calendar;
+use crate::components::place_calendar;
 use crate::nesting::Structure;
 use crate::nesting::test_structure;
-use crate::placing::place_calendar;
 use crate::testing::test_properties;
 use content::Lines;
 use content::read_lines;
@@ -32,13 +31,12 @@ fn convert_paired(lines: &[u8], rows: &[u8], in_order: bool, out: &mut [u8]) -> 
     requires { ⌜ in_order ≡ ordered (eventsIn (now lines)) ⌝ }
     ensures { λ r. ⌜ outcome r (now (out .exit)) ≡ answer (propertiesJcal (readProperty (tableIn (now (rows .entry)))) (eventsIn (now (lines .entry)))) (now (out .entry)) ⌝ }
 {
-    if in_order {
-        return place_calendar(lines, rows, out);
+    if !in_order {
+        if let Tested::Failed(why) = test_properties(lines, rows) {
+            return refuse(out, why);
+        }
     }
-    match test_properties(lines, rows) {
-        Tested::Passed => write_calendar(lines, rows, out),
-        Tested::Failed(why) => refuse(out, why),
-    }
+    place_calendar(lines, rows, in_order, out)
 }
 
 // Converts clean content lines: tests 5 and 6.

@@ -3,7 +3,6 @@ mod components;
 mod conversion;
 mod events;
 mod nesting;
-mod placing;
 mod testing;
 
 pub use conversion::to_jcal;

@@ -1,5 +1,4 @@
 -- `jcal::nesting::is_behind` meets its contract.
-use mathlib.Core.Path.{refl}
 use borrow.Author.Needs.{needs}
 use Rattle.jcal.specs.Order.{endsHere}
 use Rattle.jcal.specs.Events.{told}

@@ -1,10 +1,10 @@
--- `jcal::placing::place_item` meets its contract.
+-- `jcal::components::place_item` meets its contract.
 use borrow.Author.Needs.{needs}
 use Rattle.types.specs.Laid.{tableIn}
 use Rattle.content.specs.Line.{lineOf}
-use Rattle.jcal.proofs.Bodies.{item-placed}
-use Rattle.jcal.proofs.placing.place_item.Statement.{statement}
-use Rattle.jcal.proofs.placing.place_item.Tie as tie
+use Rattle.jcal.proofs.Walking.{item-placed}
+use Rattle.jcal.proofs.components.place_item.Statement.{statement}
+use Rattle.jcal.proofs.components.place_item.Tie as tie
 
 put-comma-requires : tie.Need-put-comma-requires
 put-comma-requires c κs = search needs

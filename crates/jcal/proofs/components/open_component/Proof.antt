@@ -1,6 +1,6 @@
--- `jcal::placing::open_component` meets its contract.
+-- `jcal::components::open_component` meets its contract.
 use mathlib.Core.List.{append-assoc}
-use mathlib.Core.Path.{ap, _∙_}
+use mathlib.Core.Path.{ap}
 use borrow.Author.Needs.{needs}
 use Rattle.octets.proofs.Pen.{then, as-text}
 use Rattle.octets.specs.Basics.{octets}
@@ -8,8 +8,8 @@ use Rattle.json.specs.Print.{printString}
 use Rattle.jcal.specs.Events.{nameFrom}
 use Rattle.jcal.specs.Walk.{nameText}
 use Rattle.jcal.proofs.Stacks.{name-part}
-use Rattle.jcal.proofs.placing.open_component.Statement.{statement}
-use Rattle.jcal.proofs.placing.open_component.Tie as tie
+use Rattle.jcal.proofs.components.open_component.Statement.{statement}
+use Rattle.jcal.proofs.components.open_component.Tie as tie
 
 put-requires : tie.Need-put-requires
 put-requires c κs = search needs

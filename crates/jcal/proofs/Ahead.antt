@@ -1,0 +1,137 @@
+-- What stands next in a component: the properties before it are passed over.
+use Prim.Native.Nat.{ℕ, suc, _+_, _-_, _≤_}
+use mathlib.Core.Path.{_≡_, refl, sym, ap, _∙_}
+use mathlib.Core.Bool.{Bool, true, false, not}
+use mathlib.Core.List.{List, [], _∷_}
+use native.Mathlib.Numerals.{add-one}
+use native.Mathlib.Omega.{arith}
+use lib.ListN.{length, drop}
+use Rattle.octets.specs.Basics.{all}
+use Rattle.octets.specs.Answers.{Answer, refused, accepted, then}
+use Rattle.octets.proofs.Cases.{never, both}
+use Rattle.content.specs.Line.{Line}
+use Rattle.converter.specs.Tree.{Property}
+use Rattle.converter.specs.Structure.{Event, begins, ends, holds, stray}
+use Rattle.jcal.specs.Events.{eventsIn, LineAt, nameFrom, told, Tells}
+use Rattle.jcal.specs.Order.{mayStand, endsHere, orderedFrom}
+use Rattle.jcal.specs.Walk.{isAccepted, reads, eventTested, eachTested, behindEnd, nextOf, levelAt, subsText}
+use Rattle.jcal.specs.Walked.{ready, Behind, SubNext, EndNext}
+use Rattle.jcal.specs.declared.events.Kind.{Kind}
+use Rattle.jcal.specs.declared.events.Kind.the-variants.{Opens, Closes, Plain, Broken}
+use Rattle.jcal.proofs.Telling.{name-of}
+use Rattle.jcal.proofs.Stacks.{events-none, events-told}
+use Rattle.jcal.proofs.Levels.{level-none, level-stray, level-ends, level-holds, reads-behind}
+use Rattle.jcal.proofs.Order.{ordered-behind}
+use Rattle.jcal.proofs.Turns.{turn-passed}
+
+-- what an accepted answer tests
+pub accepts-tested : {A : Type 0} (a : Answer A) → isAccepted a ≡ true → accepted (tt {0}) ≡ then a (λ _. accepted tt)
+unfolding isAccepted then
+accepts-tested (refused n) h = never h refl
+accepts-tested (accepted x) h = refl
+
+module _ (f : Line → Answer Property) where
+  pub next-subs : (es : List (Event Line)) → (levelAt f 0 (nextOf es)) .subs ≡ (levelAt f 0 es) .subs
+  unfolding nextOf
+  next-subs [] = rw (level-ends f [] [], level-none f 0)
+  next-subs (begins n ∷ es) = refl
+  next-subs (ends n ∷ es) = rw (level-ends f [] es, level-ends f n es)
+  next-subs (holds l ∷ es) = rw (level-holds f l es) (next-subs es)
+  next-subs (stray ∷ es) = rw (level-stray f 0 es) (next-subs es)
+
+  pub next-text : (first : Bool) (es : List (Event Line)) → subsText f first (nextOf es) ≡ subsText f first es
+  unfolding subsText
+  next-text first es = rw (next-subs es)
+
+  pub next-behind : (es : List (Event Line)) → behindEnd 0 (nextOf es) ≡ behindEnd 0 es
+  unfolding nextOf behindEnd
+  next-behind [] = refl
+  next-behind (begins n ∷ es) = refl
+  next-behind (ends n ∷ es) = refl
+  next-behind (holds l ∷ es) = next-behind es
+  next-behind (stray ∷ es) = next-behind es
+
+  pub ready-next : (b k : Bool) (es : List (Event Line)) → ready f b k es ≡ true → ready f b true (nextOf es) ≡ true
+  unfolding ready nextOf orderedFrom mayStand endsHere all reads
+  ready-next true k [] h = refl
+  ready-next false k [] h = refl
+  ready-next b k (begins n ∷ es) h = h
+  ready-next b k (ends n ∷ es) h = h
+  ready-next true k (holds l ∷ es) h = ready-next true false es (both (not k) (orderedFrom false es) h .1)
+  ready-next false k (holds l ∷ es) h = ready-next false k es (both (isAccepted (f l)) (all (reads f) es) h .1)
+  ready-next b k (stray ∷ es) h = ready-next b k es h
+
+  pub ready-behind : (b k : Bool) (es : List (Event Line)) → ready f b k es ≡ true → ready f b true (behindEnd 0 es) ≡ true
+  unfolding ready
+  ready-behind true k es h = ordered-behind k 0 es h
+  ready-behind false k es h = reads-behind f 0 es h
+
+  -- no property in fault is passed over
+  pub next-tested : (b : Bool) (es : List (Event Line)) → ready f b true es ≡ true → eachTested f es ≡ eachTested f (nextOf es)
+  unfolding ready nextOf orderedFrom mayStand endsHere all reads eventTested
+  next-tested b [] h = sym (turn-passed f (ends []) [] refl)
+  next-tested b (begins n ∷ es) h = refl
+  next-tested b (ends n ∷ es) h = turn-passed f (ends n) es refl ∙ sym (turn-passed f (ends []) es refl)
+  next-tested true (holds l ∷ es) h = never h refl
+  next-tested false (holds l ∷ es) h =
+      let a = both (isAccepted (f l)) (all (reads f) es) h in
+      turn-passed f (holds l) es (accepts-tested (f l) (a .0)) ∙ next-tested false es (a .1)
+  next-tested b (stray ∷ es) h = turn-passed f stray es refl ∙ next-tested b es h
+
+-- the walk to the END of a component, with `within` components open in it, and to what stands next
+module _ (s : List ℕ) (from i : ℕ) (low : from ≤ i) where
+  module _ (within : ℕ) (g : behindEnd within (eventsIn (drop i s)) ≡ behindEnd 0 (eventsIn (drop from s))) where
+    module _ (e : ℕ) (h : LineAt s i e) where
+      over : (k : Kind) → Tells s i e k → behindEnd within (told s i k ∷ eventsIn (drop (e + 1) s)) ≡ behindEnd 0 (eventsIn (drop from s))
+      over k t = sym (ap (behindEnd within) (events-told s i e k h t)) ∙ g
+
+      pub over-opens : (n : ℕ) → Tells s i e (Opens n) → behindEnd (within + 1) (eventsIn (drop (e + 1) s)) ≡ behindEnd 0 (eventsIn (drop from s))
+      unfolding told behindEnd
+      over-opens n t = rw (add-one within) (over (Opens n) t)
+
+      pub over-closes : (n : ℕ) → Tells s i e (Closes n) → (within ≡ 0 → ⊥) → behindEnd (within - 1) (eventsIn (drop (e + 1) s)) ≡ behindEnd 0 (eventsIn (drop from s))
+      unfolding told behindEnd
+      over-closes n t z =
+          let k : suc (within - 1) ≡ within = omega arith in
+          ap (λ (w : ℕ). behindEnd w (ends (nameFrom s n) ∷ eventsIn (drop (e + 1) s))) k ∙ over (Closes n) t
+
+      pub over-end : (n : ℕ) → Tells s i e (Closes n) → within ≡ 0 → Behind s from (e + 1)
+      unfolding told behindEnd
+      over-end n t z = record { rest = rw z at (over (Closes n) t); further = omega (arith, h .ends) }
+
+      pub over-plain : Tells s i e Plain → behindEnd within (eventsIn (drop (e + 1) s)) ≡ behindEnd 0 (eventsIn (drop from s))
+      unfolding told behindEnd
+      over-plain t = over Plain t
+
+      pub over-broken : Tells s i e Broken → behindEnd within (eventsIn (drop (e + 1) s)) ≡ behindEnd 0 (eventsIn (drop from s))
+      unfolding told behindEnd
+      over-broken t = over Broken t
+
+    pub over-none : length s ≤ i → Behind s from i
+    unfolding behindEnd
+    over-none h = let v = events-none s i h in record { rest = v ∙ sym (ap (behindEnd within) v) ∙ g; further = low }
+
+  module _ (g : nextOf (eventsIn (drop i s)) ≡ nextOf (eventsIn (drop from s))) where
+    module _ (e : ℕ) (h : LineAt s i e) where
+      upto : (k : Kind) → Tells s i e k → nextOf (told s i k ∷ eventsIn (drop (e + 1) s)) ≡ nextOf (eventsIn (drop from s))
+      upto k t = sym (ap nextOf (events-told s i e k h t)) ∙ g
+
+      pub next-plain : Tells s i e Plain → nextOf (eventsIn (drop (e + 1) s)) ≡ nextOf (eventsIn (drop from s))
+      unfolding told nextOf
+      next-plain t = upto Plain t
+
+      pub next-broken : Tells s i e Broken → nextOf (eventsIn (drop (e + 1) s)) ≡ nextOf (eventsIn (drop from s))
+      unfolding told nextOf
+      next-broken t = upto Broken t
+
+      pub next-opens : (n : ℕ) → Tells s i e (Opens n) → SubNext s from (eventsIn (drop from s)) n e
+      unfolding told nextOf
+      next-opens n t = record { is = upto (Opens n) t; named = name-of s i e h (Opens n) t; further = omega (arith, h .ends) }
+
+      pub next-closes : (n : ℕ) → Tells s i e (Closes n) → EndNext s from (eventsIn (drop from s)) (e + 1)
+      unfolding told nextOf
+      next-closes n t = record { is = upto (Closes n) t; further = omega (arith, h .ends) }
+
+    pub next-none : length s ≤ i → EndNext s from (eventsIn (drop from s)) i
+    unfolding nextOf
+    next-none h = let v = events-none s i h in record { is = rw v (sym (ap nextOf v) ∙ g); further = low }

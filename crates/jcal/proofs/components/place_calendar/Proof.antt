@@ -1,0 +1,109 @@
+-- `jcal::components::place_calendar` meets its contract.
+use native.Mathlib.Omega.{arith}
+use mathlib.Core.Path.{_∙_}
+use borrow.Author.Needs.{needs}
+use Rattle.octets.proofs.Limits.{most-levels}
+use Rattle.types.specs.Laid.{tableIn}
+use Rattle.converter.specs.Property.{readProperty}
+use Rattle.jcal.specs.Events.{LineAt}
+use Rattle.jcal.specs.declared.components.Next.the-variants.{Sub, End}
+use Rattle.jcal.proofs.Telling.{name-of}
+use Rattle.jcal.proofs.Stages.{some-line, calendar-few, calendar-ready, calendar-refused, calendar-placed}
+use Rattle.jcal.proofs.components.place_calendar.Statement.{statement}
+use Rattle.jcal.proofs.components.place_calendar.Tie as tie
+
+-- the first line
+line : (c : tie.After-line-end) → LineAt (c .before .before .before .before .args .lines .now) 0 (c .line-end .result)
+line c = record { within = some-line _ (c .before .before .before .before .pre .0); ends = c .line-end .ensures }
+
+line-end-requires : tie.Need-line-end-requires
+line-end-requires c κs = search needs
+
+outermost-name-requires : tie.Need-outermost-name-requires
+outermost-name-requires c κs = (line c, c .before .before .before .before .pre .0)
+
+place-component-requires : tie.Need-place-component-requires
+place-component-requires c κs =
+    let at-outermost-name = c .before in
+    let at-line-end = at-outermost-name .before in
+    let at-start = at-line-end .before .before .before .before in
+    let told = at-outermost-name .outermost-name .ensures in
+    let f = readProperty (tableIn (at-start .args .rows .now)) in
+    (name-of _ _ _ (line at-line-end) _ told, (calendar-ready f _ _ (line at-line-end) (at-start .pre .0) _ told _ (at-start .pre .1), omega (arith, most-levels, calendar-few f _ _ (line at-line-end) (at-start .pre .0) _ told)))
+
+enum-known-at : tie.Need-enum-known-at
+enum-known-at c = search needs
+
+finish-requires : tie.Need-finish-requires
+finish-requires c κs = search needs
+
+enum-known-at-2 : tie.Need-enum-known-at-2
+enum-known-at-2 c = search needs
+
+finish-requires-2 : tie.Need-finish-requires-2
+finish-requires-2 c κs = search needs
+
+enum-known-why : tie.Need-enum-known-why
+enum-known-why c = search needs
+
+refuse-requires : tie.Need-refuse-requires
+refuse-requires c κs = search needs
+
+same-length : tie.Need-same-length
+same-length c = search needs
+
+returns : tie.Need-returns
+returns c =
+    let at-finish = c .before .before in
+    let at-at = at-finish .before .before .before in
+    let at-place-component = at-at .before .before .before .before in
+    let at-outermost-name = at-place-component .before .before in
+    let at-line-end = at-outermost-name .before in
+    let at-start = at-line-end .before .before .before .before in
+    at-finish .finish .ensures ∙ calendar-placed _ _ _ (line at-line-end) (at-start .pre .0) _ (at-outermost-name .outermost-name .ensures) _ _ (Sub _ _ _) (rw (at-at .at .given .1) at (at-place-component .place-component .ensures))
+
+same-length-2 : tie.Need-same-length-2
+same-length-2 c = search needs
+
+returns-2 : tie.Need-returns-2
+returns-2 c =
+    let at-finish2 = c .before .before in
+    let at-at2 = at-finish2 .before .before .before in
+    let at-place-component = at-at2 .before .before .before .before in
+    let at-outermost-name = at-place-component .before .before in
+    let at-line-end = at-outermost-name .before in
+    let at-start = at-line-end .before .before .before .before in
+    at-finish2 .finish2 .ensures ∙ calendar-placed _ _ _ (line at-line-end) (at-start .pre .0) _ (at-outermost-name .outermost-name .ensures) _ _ (End _ _) (rw (at-at2 .at2 .given .1) at (at-place-component .place-component .ensures))
+
+same-length-3 : tie.Need-same-length-3
+same-length-3 c = search needs
+
+returns-3 : tie.Need-returns-3
+returns-3 c =
+    let at-refuse = c .before .before in
+    let at-why = at-refuse .before .before .before in
+    let at-place-component = at-why .before .before .before .before in
+    let at-outermost-name = at-place-component .before .before in
+    let at-line-end = at-outermost-name .before in
+    let at-start = at-line-end .before .before .before .before in
+    at-refuse .refuse .ensures ∙ calendar-refused _ _ _ (line at-line-end) (at-start .pre .0) _ (at-outermost-name .outermost-name .ensures) _ (rw (at-why .why .given .1) at (at-place-component .place-component .ensures)) (at-start .args .out .now) _ (omega (arith, at-place-component .place-component .kept .1 .1 .1 .1 .1 .1 .0))
+
+pub place-calendar-spec : {M : Type 1} → statement M
+place-calendar-spec =
+    tie.close
+    (tie.spec
+    line-end-requires
+    outermost-name-requires
+    place-component-requires
+    enum-known-at
+    finish-requires
+    enum-known-at-2
+    finish-requires-2
+    enum-known-why
+    refuse-requires
+    same-length
+    returns
+    same-length-2
+    returns-2
+    same-length-3
+    returns-3)
