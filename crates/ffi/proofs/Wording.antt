@@ -1,8 +1,7 @@
 -- The word of an answer: a refusal's number is never 0, so its word tells it.
 use Prim.Native.Nat.{ℕ, _-_}
-use mathlib.Core.Path.{_≡_, refl, sym, ap, _∙_}
+use mathlib.Core.Path.{_≡_, refl, ap, _∙_}
 use mathlib.Core.List.{List}
-use Rattle.octets.specs.Basics.{pick}
 use Rattle.octets.specs.Answers.{number, Settled, settled, outcome}
 use Rattle.octets.specs.declared.Refusal.{Refusal}
 use Rattle.octets.specs.declared.Refusal.the-variants.{TextTooLong, RowsMalformed, NotClean, NotContentLine, NotPaired, TooDeep, BadParameter, BadEncoding, BadValue, NoRoom, NotJson, NotJcal, BadStart, BadRule, NotServed}

@@ -1,9 +1,6 @@
 // The library for other languages: the jobs on octet slices, each of which passes as a pointer and a length.
 use octets::Converted;
-ghost use mathlib.Core.Path.{_≡_};
-ghost use Prim.Native.Nat.{_≤_};
-ghost use lib.ListN.{length};
-ghost use Rattle.octets.specs.Answers.{answer, outcome};
+ghost use Rattle.octets.specs.Answers.{answer};
 ghost use Rattle.octets.specs.Pen.{pen, Wrote};
 ghost use Rattle.stoplist.specs.Stops.{listOf};
 ghost use Rattle.stopspage.specs.Printing.{answerShown, printed};

@@ -1,7 +1,7 @@
 -- A name in lowercase as a JSON string, octet by octet.
 use Prim.Native.Nat.{ℕ, _+_, _≤_, _<_}
-use mathlib.Core.Path.{_≡_, refl}
-use mathlib.Core.List.{List, [], _∷_, _++_}
+use mathlib.Core.Path.{_≡_}
+use mathlib.Core.List.{List, _++_}
 use lib.ListN.{length, getD, drop}
 use Rattle.octets.specs.Basics.{octets}
 use Rattle.octets.specs.Classes.{lowerOctet, lower}

@@ -9,7 +9,7 @@ use native.Mathlib.Omega.{arith}
 use borrow.Author.Tests.{leb-true, leb-false, not-true, not-false}
 use lib.Dec.{leb}
 use lib.ListN.{length, take, drop}
-use Rattle.octets.specs.Basics.{octets, pick, _and_, _or_, all, any, same, filled, twice}
+use Rattle.octets.specs.Basics.{octets, pick, _or_, all, any, same, filled, twice}
 use Rattle.octets.specs.Optional.{map?}
 use Rattle.octets.specs.Classes.{isName, lower, lowerNameOctet, isLowerName, isLower, isDigit, between}
 use Rattle.octets.specs.Answers.{Answer, refused, accepted, then, orElse, unless}

@@ -9,7 +9,7 @@ use mathlib.Core.Option.{Option, some}
 use native.Mathlib.Omega.{arith}
 use borrow.Author.Tests.{ne-eqb}
 use lib.Dec.{eqb}
-use Rattle.octets.specs.Basics.{octets, _and_, all, same}
+use Rattle.octets.specs.Basics.{octets, all, same}
 use Rattle.octets.specs.Pieces.{split, joined}
 use Rattle.octets.specs.Optional.{map?, or?, isSome, when, holds, given}
 use Rattle.octets.specs.Classes.{isLower, plainOctet, upperOctet, upper}

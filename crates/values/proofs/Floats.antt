@@ -1,27 +1,26 @@
 -- Floats and integers.
-use Prim.Native.Nat.{ℕ, suc, _+_, _-_, _≤_, _<_, min}
+use Prim.Native.Nat.{ℕ, _+_, _-_, _≤_, _<_, min}
 use Prim.Native.Char.{code}
 use mathlib.Core.Path.{_≡_, refl, sym, ap, _∙_}
 use mathlib.Core.Bool.{Bool, true, false}
 use mathlib.Core.List.{List, [], _∷_}
-use mathlib.Core.Option.{Option, none, some}
 use native.Mathlib.Omega.{arith}
-use borrow.Author.Tests.{le-leb, leb-true, leb-false, eq-eqb, ne-eqb}
-use lib.Dec.{eqb, leb}
+use borrow.Author.Tests.{le-leb, leb-true, leb-false, ne-eqb}
+use lib.Dec.{leb}
 use lib.ListN.{length, getD, take, drop}
-use Rattle.octets.specs.Basics.{_and_, all}
+use Rattle.octets.specs.Basics.{_and_}
 use Rattle.octets.specs.Pieces.{split, joined}
 use Rattle.octets.specs.Optional.{isSome}
 use Rattle.octets.specs.Classes.{between, isDigit}
 use Rattle.octets.specs.Decimal.{digits, valueOf, minus, unsigned, trim, minusIf}
 use Rattle.octets.specs.Limits.{mostInteger}
-use Rattle.octets.proofs.Cases.{cases, never, alike, apart, All, All-weaker, all-All}
+use Rattle.octets.proofs.Cases.{cases, alike, apart, All-weaker, all-All}
 use Rattle.octets.proofs.Decimal.{digits-all}
-use Rattle.octets.proofs.Pieces.{Free, split-filled, joined-split, split-last as split-alone}
+use Rattle.octets.proofs.Pieces.{split-filled, joined-split, split-last as split-alone}
 use Rattle.octets.proofs.Positions.{from, upto}
 use Rattle.calendar.specs.Walk.{before}
 use Rattle.calendar.proofs.Options.{some-when}
-use Rattle.calendar.proofs.Pieces.{before-take, split-more, split-last, before-all}
+use Rattle.calendar.proofs.Pieces.{before-take, split-more, split-last}
 use Rattle.values.specs.Simple.{pointed, floatOf, inRange, integerOf}
 use Rattle.values.specs.Shown.{floatShown}
 

@@ -1,17 +1,16 @@
 -- Binary values: groups of four octets; and booleans.
 use Prim.Native.Nat.{ℕ, _+_, _≤_, _<_}
 use Prim.Native.Char.{code}
-use mathlib.Core.Path.{_≡_, refl, sym, ap, _∙_}
-use mathlib.Core.Bool.{Bool, true, false}
-use mathlib.Core.List.{List, [], _∷_}
+use mathlib.Core.Path.{_≡_, refl}
+use mathlib.Core.Bool.{true, false}
+use mathlib.Core.List.{List}
 use lib.Dec.{eqb}
 use lib.ListN.{length, getD, drop}
-use Rattle.octets.specs.Basics.{octets, pick, _or_, same}
+use Rattle.octets.specs.Basics.{octets, _or_, same}
 use Rattle.octets.specs.Classes.{between, isDigit, isUpper, isLower, isLetter, upperOctet, upper, sameName}
 use Rattle.octets.specs.Optional.{or?, isSome, when}
 use Rattle.octets.proofs.Cases.{cases, apart}
 use Rattle.octets.proofs.Positions.{here, ended}
-use Rattle.json.specs.Tree.{truth, falsity}
 use Rattle.values.specs.Simple.{Group, whole, one, two, three, pad, padded, broken, base64Octet, group, groupAfter, booleanOf}
 use Rattle.values.specs.Steps.{filledGroup, closedGroup}
 use Rattle.values.specs.Shown.{booleanShown}

@@ -1,16 +1,16 @@
 -- Names in either case, and the sort of a value by the type's code.
 use Prim.Native.Nat.{ℕ, _+_, _≤_}
 use mathlib.Core.Path.{_≡_, refl, sym, ap, _∙_}
-use mathlib.Core.Bool.{Bool, true, false}
+use mathlib.Core.Bool.{false}
 use mathlib.Core.List.{List, [], _∷_}
 use native.Mathlib.Omega.{arith}
 use borrow.Author.Tests.{eq-eqb, ne-eqb, eqb-true}
 use lib.Dec.{eqb}
-use Rattle.octets.specs.Basics.{octets, pick, same}
+use Rattle.octets.specs.Basics.{octets, same}
 use Rattle.octets.specs.Classes.{between, isUpper, upperOctet, lowerOctet, upper, lower, sameName}
 use Rattle.octets.proofs.Cases.{alike}
 use Rattle.octets.proofs.Classes.{upper-of-lower, lower-of-upper}
-use Rattle.values.specs.Sorts.{Sort, plain, sortOf}
+use Rattle.values.specs.Sorts.{plain, sortOf}
 
 octet-case : (c d : ℕ) → eqb (lowerOctet c) (lowerOctet d) ≡ eqb (upperOctet c) (upperOctet d)
 octet-case c d = alike (eqb (lowerOctet c) (lowerOctet d)) (eqb (upperOctet c) (upperOctet d))

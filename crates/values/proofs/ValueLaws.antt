@@ -1,7 +1,6 @@
 -- The laws of a property's values, whatever their sort: values that were read are taken by jCal's tests, are written, and are read again; those of a
 -- clean line are neat, and are written clean. The same by the property's name and the type's code.
 use Prim.Native.Nat.{ℕ}
-use Prim.Native.Char.{code}
 use mathlib.Core.Path.{_≡_, refl}
 use mathlib.Core.Bool.{Bool, true, false}
 use mathlib.Core.List.{List, [], _∷_}

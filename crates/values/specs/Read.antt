@@ -3,7 +3,7 @@ use Prim.Native.Nat.{ℕ}
 use Prim.Native.Char.{code}
 use mathlib.Core.Bool.{Bool, true, false}
 use mathlib.Core.List.{List, [], _∷_, map}
-use mathlib.Core.Option.{Option, none, some}
+use mathlib.Core.Option.{Option, none}
 use Rattle.octets.specs.Basics.{_or_, all, single}
 use Rattle.octets.specs.Pieces.{split}
 use Rattle.octets.specs.Optional.{map?, both?, when, guard, each}

@@ -3,9 +3,8 @@ use Prim.Native.Nat.{ℕ}
 use Prim.Native.Char.{code}
 use mathlib.Core.Bool.{Bool, true, false}
 use mathlib.Core.List.{List, [], _∷_, _++_, map}
-use mathlib.Core.Option.{Option, none, some}
-use lib.Dec.{eqb}
-use Rattle.octets.specs.Basics.{pick, _and_, _or_, all}
+use mathlib.Core.Option.{Option}
+use Rattle.octets.specs.Basics.{_and_, _or_, all}
 use Rattle.octets.specs.Pieces.{joined}
 use Rattle.octets.specs.Optional.{map?, isSome, holds, given}
 use Rattle.octets.specs.Classes.{isLetter, isDigit, isLowerName, upper, lower}

@@ -3,7 +3,7 @@ use Prim.Native.Nat.{ℕ, suc}
 use Prim.Native.Char.{code}
 use mathlib.Core.Bool.{Bool, true, false}
 use mathlib.Core.List.{List, [], _∷_}
-use mathlib.Core.Option.{Option, none, some}
+use mathlib.Core.Option.{Option}
 use lib.Dec.{eqb, leb}
 use Rattle.octets.specs.Basics.{octets, pick, _and_, _or_, same}
 use Rattle.octets.specs.Pieces.{split}

@@ -1,9 +1,9 @@
 -- Values from jCal (01, Values; RFC 5545 3.3; RFC 7265 3.6): which JSON values each sort takes, and how iCalendar writes them.
 use Prim.Native.Nat.{ℕ}
 use Prim.Native.Char.{code}
-use mathlib.Core.Bool.{Bool, true, false}
-use mathlib.Core.List.{List, [], _∷_, _++_, map}
-use mathlib.Core.Option.{Option, none, some}
+use mathlib.Core.Bool.{Bool, false}
+use mathlib.Core.List.{List, [], _∷_, map}
+use mathlib.Core.Option.{Option}
 use Rattle.octets.specs.Basics.{_and_, _or_, all, single}
 use Rattle.octets.specs.Pieces.{joined}
 use Rattle.octets.specs.Optional.{isSome, holds, given}
@@ -11,7 +11,7 @@ use Rattle.octets.specs.Classes.{plainOctet, upper}
 use Rattle.octets.specs.Decimal.{integerText}
 use Rattle.calendar.specs.Dates.{dateIs, timeIs, dateTimeIs, offsetIs, dateText, timeText, dateTimeText, offsetText}
 use Rattle.calendar.specs.Durations.{durationIs, periodEndIs, periodEndText}
-use Rattle.json.specs.Tree.{Json, Items, noItems, item, Members, noMembers, string?, number?, boolean?, array?, object?, listOf, octetsOf, elements}
+use Rattle.json.specs.Tree.{Json, string?, number?, boolean?, array?, object?, listOf, octetsOf, elements}
 use Rattle.values.specs.Sorts.{Sort, plain, binary, boolean, date, dateTime, duration, float, geo, integer, period, recur, text, status, time, utcOffset, splits}
 use Rattle.values.specs.Texts.{textIs, textText}
 use Rattle.values.specs.Simple.{binaryIs, booleanText, floatOf, integerOf}
