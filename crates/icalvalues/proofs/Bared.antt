@@ -1,8 +1,9 @@
 -- Texts run by run: the octets that stand as they are, and the one behind them.
 use Prim.Native.Nat.{ℕ, _+_, _-_, _≤_, _<_}
 use Prim.Native.Char.{code}
-use mathlib.Core.Path.{_≡_, refl, sym, ap, _∙_}
+use mathlib.Core.Path.{_≡_, refl, ap, _∙_}
 use mathlib.Core.Bool.{true, false, not}
+use mathlib.Core.Logic.{_⊎_, ⊎-elim}
 use mathlib.Core.List.{List, [], _∷_, _++_}
 use native.Mathlib.Omega.{arith}
 use borrow.Author.Tests.{ltb-true, lt-leb, ne-eqb, eqb-false, not-true}
@@ -20,6 +21,11 @@ use Rattle.icalvalues.specs.Bare.{bareOctet, Bare}
 pub stays : (c : ℕ) → ((c ≡ code "\\") → ⊥) → ((c ≡ code ";") → ⊥) → ((c ≡ code ",") → ⊥) → ((c ≡ code "\n") → ⊥) → escapedOctet c ≡ c ∷ []
 unfolding escapedOctet
 stays c a b d e = rw (ne-eqb c (code "\\") a, ne-eqb c (code ";") b, ne-eqb c (code ",") d, ne-eqb c (code "\n") e)
+
+-- an octet that is escaped as it stands
+pub escaped : (c : ℕ) → (c ≡ code ",") ⊎ ((c ≡ code ";") ⊎ (c ≡ code "\\")) → (textOctet c ≡ true) × (escapedOctet c ≡ code "\\" ∷ c ∷ [])
+unfolding textOctet plainOctet isControl escapedOctet
+escaped c o = ⊎-elim (λ e. rw e (refl, refl)) (λ o. ⊎-elim (λ e. rw e (refl, refl)) (λ e. rw e (refl, refl)) o) o
 
 -- no newline
 pub text-plain : (c : ℕ) → ((c ≡ code "\n") → ⊥) → textOctet c ≡ plainOctet c

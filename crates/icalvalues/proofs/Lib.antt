@@ -1,7 +1,7 @@
+pub mod Sorts
 pub mod Places
-pub mod Listed
 pub mod Arrays
 pub mod Bared
-pub mod Escapes
-pub mod Strings
 pub mod Grouped
+pub mod Told
+pub mod Integers

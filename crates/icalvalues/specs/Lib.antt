@@ -1,3 +1,3 @@
-pub mod Written
+pub mod Parts
 pub mod Bare
 pub mod Valued

@@ -3,9 +3,11 @@
 use Prim.Native.Nat.{ℕ}
 use mathlib.Core.Path.{_≡_}
 use mathlib.Core.Bool.{Bool, true, false}
-use mathlib.Core.List.{List}
-use Rattle.octets.specs.Basics.{_and_}
+use mathlib.Core.List.{List, map}
+use Rattle.octets.specs.Basics.{_and_, _or_, all, single}
+use Rattle.octets.specs.Pieces.{joined}
 use Rattle.content.specs.Folding.{FoldPen, folding, Folded}
+use Rattle.json.specs.Tree.{Json}
 use Rattle.tape.specs.Decode.{valueAt, listAt}
 use Rattle.tape.specs.Promise.{Next, Left}
 use Rattle.values.specs.Sorts.{Sort}
@@ -24,6 +26,15 @@ FoldedIf stands xs f out Refused = stands ≡ false
 abbrev pub ValueAs : Sort → List ℕ → ℕ → FoldPen → List ℕ → Valued → Type 0
 ValueAs sort t i f out (Wrote e q) = (valueIs sort (valueAt t i) ≡ true) × Folded f (valueText sort (valueAt t i)) (folding out q) × Next t i e
 ValueAs sort t i f out Invalid = valueIs sort (valueAt t i) ≡ false
+
+-- values that all pass the test p; exactly one, but for `several`
+unfoldable pub taken : Bool → (Json → Bool) → List Json → Bool
+taken several p vs = (several or single vs) and all p vs
+
+-- the values of the group at i as w writes them, with `sep` between them, and e is behind its end
+abbrev pub ListedAs : ℕ → Bool → (Json → Bool) → (Json → List ℕ) → List ℕ → ℕ → FoldPen → List ℕ → Valued → Type 0
+ListedAs sep several p w t i f out (Wrote e q) = (taken several p (listAt t i) ≡ true) × Folded f (joined sep (map w (listAt t i))) (folding out q) × Left t i e
+ListedAs sep several p w t i f out Invalid = taken several p (listAt t i) ≡ false
 
 -- the values of the group at i, and e is behind its end; without room for a recurrence rule none are taken
 abbrev pub ValuedAs : Bool → Bool → Sort → List ℕ → ℕ → FoldPen → List ℕ → Valued → Type 0

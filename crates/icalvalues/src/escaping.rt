@@ -5,7 +5,7 @@ ghost use mathlib.Core.List.{[], _∷_};
 ghost use Prim.Native.Nat.{_≤_};
 ghost use lib.ListN.{length};
 ghost use Rattle.octets.specs.Basics.{_and_, all};
-ghost use Rattle.octets.specs.Classes.{plainOctet, textOctet};
+ghost use Rattle.octets.specs.Classes.{textOctet};
 ghost use Rattle.content.specs.Folding.{folding, Folded};
 ghost use Rattle.values.specs.Texts.{escapedOctet, textIs, textText};
 ghost use Rattle.icalvalues.specs.Bare.{bareOctet, Bare};
@@ -96,22 +96,15 @@ fn fold_escaped(out: &mut [u8], p: Folder, c: u8) -> Folds
     ensures { λ r. ⌜ FoldedIf (textOctet c) (escapedOctet c) (folding (now (out .entry)) p) (now (out .exit)) r ⌝ }
 {
     match c {
-        b'\\' => Folds::To(fold_pair(out, p, b'\\')),
-        b';' => Folds::To(fold_pair(out, p, b';')),
-        b',' => Folds::To(fold_pair(out, p, b',')),
+        b'\\' | b';' | b',' => Folds::To(fold_pair(out, p, c)),
         b'\n' => Folds::To(fold_pair(out, p, b'n')),
-        _ => fold_plain(out, p, c),
+        _ => {
+            if is_plain_octet(c) {
+                return Folds::To(fold_octet(out, p, c));
+            }
+            Folds::Refused
+        }
     }
-}
-
-// Writes an octet that is no control character but tab.
-fn fold_plain(out: &mut [u8], p: Folder, c: u8) -> Folds
-    ensures { λ r. ⌜ FoldedIf (plainOctet c) (c ∷ []) (folding (now (out .entry)) p) (now (out .exit)) r ⌝ }
-{
-    if is_plain_octet(c) {
-        return Folds::To(fold_octet(out, p, c));
-    }
-    Folds::Refused
 }
 
 // Writes a text.

@@ -1,12 +1,10 @@
 // Strings and numbers, tested and written.
-ghost use Rattle.octets.specs.Optional.{isSome};
+ghost use mathlib.Core.List.{_∷_};
 ghost use Rattle.octets.specs.Classes.{upper};
-ghost use Rattle.octets.specs.Decimal.{integerText};
-ghost use Rattle.calendar.specs.Durations.{durationIs};
+ghost use Rattle.calendar.specs.Durations.{periodEndIs, periodEndText};
 ghost use Rattle.calendar.specs.Texts.{formIs, formText};
 ghost use Rattle.content.specs.Folding.{folding};
 ghost use Rattle.json.specs.Tree.{num, str};
-ghost use Rattle.values.specs.Simple.{integerOf};
 ghost use Rattle.values.specs.Coded.{sortSaid};
 ghost use Rattle.values.specs.Write.{valueIs, valueText};
 ghost use Rattle.icalvalues.specs.Valued.{FoldedIf};
@@ -15,10 +13,12 @@ use crate::escaping::write_text;
 use crate::writing::fold_basic;
 use crate::writing::fold_integer;
 use calendar::durations::is_duration;
+use calendar::durations::is_forward;
 use calendar::texts::Form;
 use calendar::texts::is_extended;
 use content::Folder;
 use content::fold_all;
+use content::fold_octet;
 use content::fold_upper;
 use octets::all_plain;
 use values::Sort;
@@ -46,68 +46,54 @@ fn write_form(out: &mut [u8], p: Folder, form: Form, s: &[u8]) -> Folds
     Folds::Refused
 }
 
-// Writes a duration in uppercase.
-fn write_duration(out: &mut [u8], p: Folder, s: &[u8]) -> Folds
-    ensures { λ r. ⌜ FoldedIf (durationIs (upper (now (s .entry)))) (upper (now (s .entry))) (folding (now (out .entry)) p) (now (out .exit)) r ⌝ }
+// Writes a solidus and a period's end: a date-time in the basic form, a duration without minus in uppercase.
+pub(crate) fn write_end(out: &mut [u8], p: Folder, s: &[u8]) -> Folds
+    ensures { λ r. ⌜ FoldedIf (periodEndIs (upper (now (s .entry)))) (47 ∷ periodEndText (upper (now (s .entry)))) (folding (now (out .entry)) p) (now (out .exit)) r ⌝ }
 {
-    if is_duration(s) {
-        return Folds::To(fold_upper(out, p, s));
+    let q = fold_octet(out, p, b'/');
+    if is_extended(Form::DateTime, s) {
+        return Folds::To(fold_basic(out, q, Form::DateTime, s));
+    }
+    if is_forward(s) {
+        return Folds::To(fold_upper(out, q, s));
     }
     Folds::Refused
 }
 
-// Writes a number that is an integer.
-fn write_integer(out: &mut [u8], p: Folder, s: &[u8]) -> Folds
-    ensures { λ r. ⌜ FoldedIf (isSome (integerOf (now (s .entry)))) (integerText (now (s .entry))) (folding (now (out .entry)) p) (now (out .exit)) r ⌝ }
-{
-    if is_integer(s) {
-        return Folds::To(fold_integer(out, p, s));
-    }
-    Folds::Refused
-}
-
-// Writes a string, if the sort takes it.
-pub fn write_string(out: &mut [u8], p: Folder, sort: Sort, s: &[u8]) -> Folds
+// Writes a string, if the sort takes it: a duration in uppercase.
+pub(crate) fn write_string(out: &mut [u8], p: Folder, sort: Sort, s: &[u8]) -> Folds
     ensures { λ r. ⌜ FoldedIf (valueIs (sortSaid sort) (str (now (s .entry)))) (valueText (sortSaid sort) (str (now (s .entry)))) (folding (now (out .entry)) p) (now (out .exit)) r ⌝ }
 {
     match sort {
         Sort::Plain => fold_if(out, p, all_plain(s), s),
         Sort::Binary => fold_if(out, p, is_binary(s), s),
-        Sort::Boolean => Folds::Refused,
         Sort::Date => write_form(out, p, Form::Date, s),
         Sort::DateTime => write_form(out, p, Form::DateTime, s),
-        Sort::Duration => write_duration(out, p, s),
-        Sort::Float => Folds::Refused,
-        Sort::Geo => Folds::Refused,
-        Sort::Integer => Folds::Refused,
-        Sort::Period => Folds::Refused,
-        Sort::Recur => Folds::Refused,
+        Sort::Duration => {
+            if !is_duration(s) {
+                return Folds::Refused;
+            }
+            Folds::To(fold_upper(out, p, s))
+        }
         Sort::Text => write_text(out, p, s),
-        Sort::Status => Folds::Refused,
         Sort::Time => write_form(out, p, Form::Time, s),
         Sort::UtcOffset => write_form(out, p, Form::Offset, s),
+        _ => Folds::Refused,
     }
 }
 
-// Writes a number, if the sort takes it.
-pub fn write_number(out: &mut [u8], p: Folder, sort: Sort, s: &[u8]) -> Folds
+// Writes a number, if the sort takes it: a float as it stands, an integer's value.
+pub(crate) fn write_number(out: &mut [u8], p: Folder, sort: Sort, s: &[u8]) -> Folds
     ensures { λ r. ⌜ FoldedIf (valueIs (sortSaid sort) (num (now (s .entry)))) (valueText (sortSaid sort) (num (now (s .entry)))) (folding (now (out .entry)) p) (now (out .exit)) r ⌝ }
 {
     match sort {
-        Sort::Plain => Folds::Refused,
-        Sort::Binary => Folds::Refused,
-        Sort::Boolean => Folds::Refused,
-        Sort::Date => Folds::Refused,
-        Sort::DateTime => Folds::Refused,
-        Sort::Duration => Folds::Refused,
         Sort::Float => fold_if(out, p, is_float(s), s),
-        Sort::Geo => Folds::Refused,
-        Sort::Integer => write_integer(out, p, s),
-        Sort::Period => Folds::Refused,
-        Sort::Recur => Folds::Refused,
-        Sort::Text => Folds::Refused,
-        Sort::Status => Folds::Refused,
-        Sort::Time => Folds::Refused,
-        Sort::UtcOffset => Folds::Refused,
+        Sort::Integer => {
+            if !is_integer(s) {
+                return Folds::Refused;
+            }
+            Folds::To(fold_integer(out, p, s))
+        }
+        _ => Folds::Refused,
     }
 }

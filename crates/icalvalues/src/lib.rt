@@ -1,9 +1,8 @@
 // The values of a jCal property on the tape: tested by their sort, and written for iCalendar through the folding pen.
 mod escaping;
 mod leaves;
+mod single;
 mod tested;
-mod testing;
-mod texts;
 mod writing;
 
 use content::Folder;

@@ -1,14 +1,12 @@
 -- `icalvalues::tested::write_tested` meets its contract.
+use Rattle.icalvalues.proofs.Told.{rule-stop, rule-more, rule-alone}
+use Rattle.icalvalues.proofs.Sorts.{no-recur}
+use Rattle.icalrecur.proofs.Room.{room, first-short, second-short, both-there}
+use Rattle.values.specs.Coded.{sortSaid}
 use mathlib.Core.Path.{sym, _∙_}
 use borrow.Author.Needs.{needs}
-use borrow.Author.Tests.{not-true, not-false}
-use Rattle.values.specs.Write.{valuesText}
-use Rattle.icalrecur.proofs.Room.{room, first-short, second-short, both-there}
-use Rattle.icalvalues.proofs.Grouped.{left-here, values-none}
-use Rattle.icalvalues.proofs.Listed.{joined-none}
-use Rattle.content.proofs.Folding.{none, as-folded}
-use Rattle.icalvalues.proofs.tested.write_tested.Tie as tie
 use Rattle.icalvalues.proofs.tested.write_tested.Statement.{statement}
+use Rattle.icalvalues.proofs.tested.write_tested.Tie as tie
 
 returns : tie.Need-returns
 returns c = first-short _ _ _ _ (c .if1 .taken)
@@ -16,20 +14,41 @@ returns c = first-short _ _ _ _ (c .if1 .taken)
 returns-2 : tie.Need-returns-2
 returns-2 c = second-short _ _ _ _ (c .if2 .taken)
 
+write-values-requires : tie.Need-write-values-requires
+write-values-requires c κs = no-recur _ (c .before .match .keys2)
+
 returns-3 : tie.Need-returns-3
-returns-3 c = both-there _ _ _ _ (c .before .before .before .before .before .if1 .left) (c .before .before .before .before .if2 .left) ∙ values-none _ _ _ _ (sym (c .before .before .before .tag .ensures) ∙ c .before .before .if3 .taken) ∙ sym (c .before .may-be-several .ensures) ∙ not-true _ (c .if4 .taken)
+returns-3 c = rw (room _ _ (c .before .before .before .before .before .before .if1 .left), room _ _ (c .before .before .before .before .before .if2 .left)) (c .before .before .write-values .ensures)
 
 returns-4 : tie.Need-returns-4
-unfolding valuesText
-returns-4 c =
-    let z = sym (c .before .before .before .before .tag .ensures) ∙ c .before .before .before .if3 .taken in
-    (both-there _ _ _ _ (c .before .before .before .before .before .before .if1 .left) (c .before .before .before .before .before .if2 .left) ∙ values-none _ _ _ _ z ∙ sym (c .before .before .may-be-several .ensures) ∙ not-false _ (c .before .if4 .left), as-folded none (joined-none _ _ _ _ z), left-here z (c .after .ensures))
-
-write-some-requires : tie.Need-write-some-requires
-write-some-requires c κs = (λ z. c .before .before .before .if3 .left (c .before .before .before .before .tag .ensures ∙ z), c .before .before .before .before .before .before .if1 .left, c .before .before .before .before .before .if2 .left)
+unfolding sortSaid
+returns-4 c = rw (room _ _ (c .before .before .before .before .before .before .if1 .left), room _ _ (c .before .before .before .before .before .if2 .left), c .before .before .before .enum-told .given .1) (rule-more _ _ _ (c .before .before .behind .ensures) (λ z. c .if3 .taken (c .before .tag .ensures ∙ z)))
 
 returns-5 : tie.Need-returns-5
-returns-5 c = rw (room _ _ (c .before .before .before .before .before .before .before .before .before .before .before .before .before .if1 .left), room _ _ (c .before .before .before .before .before .before .before .before .before .before .before .before .if2 .left)) (c .before .before .before .before .before .before .write-some .ensures)
+unfolding sortSaid
+returns-5 c =
+    let at-w = c .before in
+    let at-write-rule = at-w .before .before .before .before .before .before .before .before in
+    let at-after = at-write-rule .before .before .before .before in
+    let at-if3 = at-after .before in
+    let at-tag = at-if3 .before in
+    let at-behind = at-tag .before in
+    let at-enum-told = at-behind .before in
+    let at-if2 = at-enum-told .before .before in
+    let at-if1 = at-if2 .before in
+    let w = rw (at-w .w .given .1) at (at-write-rule .write-rule .ensures) in
+    let v = sym (both-there _ _ _ _ (at-if1 .if1 .left) (at-if2 .if2 .left)) ∙ w .0 in
+    rw (room _ _ (at-if1 .if1 .left), room _ _ (at-if2 .if2 .left), at-enum-told .enum-told .given .1) (rule-alone _ _ _ (at-behind .behind .ensures) v (w .1) (sym (at-tag .tag .ensures) ∙ at-if3 .if3 .left) (at-after .after .ensures))
+
+returns-6 : tie.Need-returns-6
+unfolding sortSaid
+returns-6 c =
+    let at-write-rule = c .before .before .before .before .before .before .before .before in
+    let at-enum-told = at-write-rule .before .before .before .before .before .before .before .before in
+    let at-if2 = at-enum-told .before .before in
+    let at-if1 = at-if2 .before in
+    let v = sym (both-there _ _ _ _ (at-if1 .if1 .left) (at-if2 .if2 .left)) ∙ rw (c .enum-told2 .given .1) at (at-write-rule .write-rule .ensures) in
+    rw (room _ _ (at-if1 .if1 .left), room _ _ (at-if2 .if2 .left), at-enum-told .enum-told .given .1) (rule-stop _ _ _ v)
 
 pub write-tested-spec : {M : Type 1} → statement M
 write-tested-spec =
@@ -37,13 +56,22 @@ write-tested-spec =
     (tie.spec
     returns
     returns-2
-    (λ c κs. search needs)
-    (λ c κs. search needs)
+    (λ c. search needs)
+    write-values-requires
+    (λ c. search needs)
     returns-3
     (λ c κs. search needs)
+    (λ c κs. search needs)
     returns-4
-    write-some-requires
+    (λ c κs. search needs)
+    (λ c κs. search needs)
     (λ c. search needs)
     (λ c. search needs)
     (λ c. search needs)
-    returns-5)
+    (λ c. search needs)
+    (λ c. search needs)
+    returns-5
+    (λ c. search needs)
+    (λ c. search needs)
+    (λ c. search needs)
+    returns-6)

@@ -1,27 +1,18 @@
 -- `icalvalues::writing::fold_integer` meets its contract.
-use mathlib.Core.Path.{sym, _∙_}
-use borrow.Author.Needs.{needs}
-use Rattle.octets.proofs.Decimal.{negative-text, other-text}
+use Rattle.icalvalues.proofs.Integers.{integer-text}
 use Rattle.content.proofs.Folding.{then, as-folded}
-use Rattle.icalvalues.proofs.writing.fold_integer.Tie as tie
+use borrow.Author.Needs.{needs}
 use Rattle.icalvalues.proofs.writing.fold_integer.Statement.{statement}
+use Rattle.icalvalues.proofs.writing.fold_integer.Tie as tie
 
 returns : tie.Need-returns
 returns c =
-    let at-fold-trimmed = c .before .before in
-    let at-fold-octet = at-fold-trimmed .before .before .before .before .before in
-    let at-if1 = at-fold-octet .before .before in
-    let at-is-negative = at-if1 .before in
-    let at-sign-length = at-is-negative .before in
-    as-folded (then (at-fold-octet .fold-octet .ensures) (at-fold-trimmed .fold-trimmed .ensures)) (negative-text _ _ (at-sign-length .sign-length .ensures .1) (sym (at-is-negative .is-negative .ensures) ∙ at-if1 .if1 .taken))
-
-returns-2 : tie.Need-returns-2
-returns-2 c =
-    let at-fold-trimmed2 = c .before .before in
-    let at-if1 = at-fold-trimmed2 .before .before .before in
-    let at-is-negative = at-if1 .before in
-    let at-sign-length = at-is-negative .before in
-    as-folded (at-fold-trimmed2 .fold-trimmed2 .ensures) (other-text _ _ (at-sign-length .sign-length .ensures .1) (sym (at-is-negative .is-negative .ensures) ∙ at-if1 .if1 .left))
+    let at-fold-all = c .before .before in
+    let at-leading-zeros = at-fold-all .before .before .before in
+    let at-sign-length = at-leading-zeros .before .before in
+    let at-fold-minus = at-sign-length .before .before .before in
+    let at-is-negative = at-fold-minus .before in
+    as-folded (then (at-fold-minus .fold-minus .ensures) (at-fold-all .fold-all .ensures)) (integer-text _ _ _ (at-is-negative .is-negative .ensures) (at-sign-length .sign-length .ensures .1) (at-leading-zeros .leading-zeros .ensures .1))
 
 pub fold-integer-spec : {M : Type 1} → statement M
 fold-integer-spec =
@@ -35,10 +26,9 @@ fold-integer-spec =
     (λ c. search needs)
     (λ c κs. search needs)
     (λ c. search needs)
-    returns
     (λ c. search needs)
     (λ c. search needs)
     (λ c. search needs)
     (λ c κs. search needs)
     (λ c. search needs)
-    returns-2)
+    returns)
