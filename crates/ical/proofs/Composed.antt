@@ -1,7 +1,7 @@
 -- A component, its properties and its sub-components, by their places.
 use Prim.Native.Nat.{ℕ, zero, suc, _-_}
 use mathlib.Core.Path.{_≡_, refl, ap, _∙_}
-use mathlib.Core.Bool.{Bool, true}
+use mathlib.Core.Bool.{true}
 use mathlib.Core.Logic.{inl}
 use mathlib.Core.List.{List, [], _∷_, _++_, map}
 use native.Mathlib.Omega.{arith}
@@ -10,7 +10,7 @@ use lib.ListN.{length}
 use Rattle.octets.specs.Basics.{_and_}
 use Rattle.octets.specs.Optional.{isSome, holds}
 use Rattle.octets.specs.Classes.{isLowerName}
-use Rattle.octets.specs.Answers.{Answer, refused}
+use Rattle.octets.specs.Answers.{refused}
 use Rattle.octets.proofs.Cases.{never, both}
 use Rattle.types.specs.Table.{Table}
 use Rattle.json.specs.Tree.{Json, string?, array?, listOf, octetsOf, elements, element}
@@ -18,8 +18,8 @@ use Rattle.json.specs.Tape.{tagArray, tagEnd}
 use Rattle.tape.specs.Decode.{others, tagAt, valueAt, itemsAt, listAt}
 use Rattle.tape.specs.Promise.{After, Next, Left}
 use Rattle.tape.proofs.Values.{list-end, list-first, list-next}
-use Rattle.tape.proofs.Walks.{Along, along-start, along-next, along-left, elements-inside, next-inside}
-use Rattle.converter.specs.Tree.{Property, Component, component, Forest, forestOf, propertiesOf, propertiesIn}
+use Rattle.tape.proofs.Walks.{along-start, along-next, along-left, elements-inside, next-inside}
+use Rattle.converter.specs.Tree.{Property, component, forestOf, propertiesOf, propertiesIn}
 use Rattle.converter.specs.Skeleton.{isListOf, isProperty, isComponent, propertyFrom, componentFrom}
 use Rattle.converter.specs.ToIcal.{checkedAll}
 use Rattle.skeleton.proofs.Parts.{second-is, third-is}

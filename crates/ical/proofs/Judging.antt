@@ -21,10 +21,10 @@ use Rattle.types.specs.Table.{Row, Table, find}
 use Rattle.json.specs.Tree.{Json, null, falsity, truth, num, str, arr, obj, string?, number?, array?, object?, listOf, octetsOf, elements, element}
 use Rattle.json.specs.Tape.{tagEnd}
 use Rattle.tape.specs.Decode.{others, tagAt, valueAt, itemsAt, listAt, membersAt}
-use Rattle.tape.specs.Promise.{After, Next, Left, TextAt}
+use Rattle.tape.specs.Promise.{After, Next, Left}
 use Rattle.tape.specs.declared.Text.{Text}
 use Rattle.tape.proofs.Values.{list-end, list-first, list-next, no-text}
-use Rattle.tape.proofs.Walks.{Along, elements-inside, next-group}
+use Rattle.tape.proofs.Walks.{elements-inside, next-group}
 use Rattle.content.specs.Folding.{FoldPen}
 use Rattle.content.specs.Parameters.{isEncoded, mayReturn}
 use Rattle.content.specs.declared.fold.Folder.{Folder}

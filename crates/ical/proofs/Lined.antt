@@ -3,14 +3,13 @@ use Prim.Native.Nat.{ℕ, _-_}
 use mathlib.Core.Path.{_≡_, refl, sym, ap, _∙_}
 use mathlib.Core.Bool.{Bool, true, false}
 use mathlib.Core.List.{List, [], _∷_, _++_, map, append-nil, append-assoc}
-use mathlib.Core.Option.{Option, none, some}
+use mathlib.Core.Option.{none, some}
 use lib.ListN.{take, drop}
-use Rattle.octets.specs.Basics.{octets, pick, _and_, _or_}
+use Rattle.octets.specs.Basics.{octets, pick, _or_}
 use Rattle.octets.specs.Classes.{isName, upper}
 use Rattle.octets.specs.Optional.{isSome}
-use Rattle.octets.specs.Pen.{Pen, Wrote}
 use Rattle.octets.proofs.Classes.{name-upper}
-use Rattle.types.specs.Table.{Table, Row, find}
+use Rattle.types.specs.Table.{Table, find}
 use Rattle.json.specs.Tree.{Json, octetsOf, elements, element}
 use Rattle.json.specs.Tape.{tagEnd}
 use Rattle.tape.specs.Decode.{tagAt, valueAt, listAt, membersAt}
@@ -25,7 +24,7 @@ use Rattle.content.proofs.ParamText.{moreValues, param-text, name-text}
 use Rattle.content.proofs.Folding.{text-append}
 use Rattle.values.specs.Coded.{sortSaid}
 use Rattle.values.specs.Write.{valuesText}
-use Rattle.converter.specs.Tree.{Property, Component, Forest, forestOf}
+use Rattle.converter.specs.Tree.{Property, forestOf}
 use Rattle.converter.specs.Skeleton.{isListOf, isProperty, isComponent, paramsFrom, propertyFrom, componentFrom}
 use Rattle.converter.specs.Return.{isUnknown, isDefault, shown, withValue, writtenSort, writtenLine}
 use Rattle.converter.specs.ToIcal.{beginLine, endLine, propertyLine, linesOf, linesIn}

@@ -1,7 +1,7 @@
 -- The stages of the conversion over a tape are those of the definition over the value that was parsed.
 use Prim.Native.Nat.{ℕ, _+_, _*_, _-_, _≤_, _<_}
 use mathlib.Core.Path.{_≡_, refl}
-use mathlib.Core.Bool.{Bool, true, false}
+use mathlib.Core.Bool.{true, false}
 use mathlib.Core.List.{List}
 use native.Mathlib.Omega.{arith}
 use borrow.Author.Tests.{le-leb, lt-leb}
@@ -10,7 +10,7 @@ use lib.ListN.{length, take, drop}
 use Rattle.octets.specs.Basics.{octets, _and_, same}
 use Rattle.octets.specs.Limits.{mostText, mostLevels, mostOpen}
 use Rattle.octets.specs.Utf8.{utf8}
-use Rattle.octets.specs.Answers.{Answer, refused, accepted, then, unless, zeroed, answer, outcome}
+use Rattle.octets.specs.Answers.{refused, accepted, then, unless, zeroed, answer, outcome}
 use Rattle.octets.specs.declared.Refusal.{Refusal}
 use Rattle.octets.specs.declared.Converted.{Converted}
 use Rattle.octets.specs.declared.Converted.the-variants.{Written, Refused}
@@ -25,7 +25,7 @@ use Rattle.json.specs.Parse.{mostTape}
 use Rattle.skeleton.specs.Checks.{Shapes}
 use Rattle.skeleton.specs.declared.Shape.{Shape}
 use Rattle.skeleton.specs.declared.Shape.the-variants.{Calendar, Other}
-use Rattle.json.specs.Tree.{Json, Items, Members, element, octetsOf}
+use Rattle.json.specs.Tree.{Json, element, octetsOf}
 use Rattle.json.specs.Reads.{Out, deep, bad}
 use Rattle.json.specs.Reader.{parseText}
 use Rattle.json.specs.Tape.{ser}

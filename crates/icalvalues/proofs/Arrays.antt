@@ -15,7 +15,7 @@ use Rattle.octets.specs.Pieces.{joined}
 use Rattle.octets.proofs.Cases.{cases, and-true-right, and-false-right}
 use Rattle.calendar.specs.Dates.{dateTimeIs, dateTimeText}
 use Rattle.calendar.specs.Durations.{periodEndIs, periodEndText, forwardIs}
-use Rattle.json.specs.Tree.{Json, null, octetsOf, array?, elements}
+use Rattle.json.specs.Tree.{Json, null, octetsOf, array?}
 use Rattle.json.specs.Tape.{tagArray, tagEnd}
 use Rattle.tape.specs.Decode.{tagAt, valueAt, listAt}
 use Rattle.tape.specs.Promise.{After, Next}

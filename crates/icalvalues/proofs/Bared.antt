@@ -10,7 +10,7 @@ use borrow.Author.Tests.{ltb-true, lt-leb, ne-eqb, eqb-false, not-true}
 use lib.Dec.{eqb, ltb}
 use lib.ListN.{length, getD, take, drop}
 use lib.Seq.{take-add, drop-drop}
-use Rattle.octets.specs.Basics.{_and_, all}
+use Rattle.octets.specs.Basics.{all}
 use Rattle.octets.specs.Classes.{isControl, plainOctet, textOctet}
 use Rattle.octets.proofs.Cases.{both, and-true, or-false-right, all-append}
 use Rattle.octets.proofs.Positions.{here, ended, part-rest, part-more}

@@ -6,7 +6,7 @@ use mathlib.Core.Bool.{Bool, true, false}
 use mathlib.Core.List.{List, [], _∷_, _++_, map}
 use native.Mathlib.Omega.{arith}
 use borrow.Author.Tests.{eqb-false}
-use Rattle.octets.specs.Basics.{_and_, _or_, all, filled, single}
+use Rattle.octets.specs.Basics.{_or_, all, filled, single}
 use Rattle.octets.specs.Pieces.{joined}
 use Rattle.octets.proofs.Cases.{never, same?, and-false-right, and-true-right, or-false-right, or-true-right}
 use Rattle.json.specs.Tree.{Json, null, listOf}

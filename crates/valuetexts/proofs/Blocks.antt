@@ -6,7 +6,7 @@ use mathlib.Core.Path.{_≡_, ap, _∙_}
 use native.Mathlib.Omega.{arith}
 use lib.ListN.{length, take, drop}
 use lib.Seq.{drop-drop, take-add}
-use Rattle.octets.specs.Basics.{_and_, all}
+use Rattle.octets.specs.Basics.{all}
 use Rattle.octets.proofs.Cases.{and-true, all-append}
 use Rattle.json.specs.Promise.{Run, Passed}
 

@@ -1,8 +1,6 @@
 -- `ical::converting::convert_tape` meets its contract.
 use mathlib.Core.Path.{sym, ap, _∙_}
-use mathlib.Core.List.{List}
-use Prim.Native.Nat.{ℕ}
-use Rattle.octets.specs.Answers.{Answer, answer}
+use Rattle.octets.specs.Answers.{answer}
 use Rattle.octets.proofs.Answers.{finished-answer}
 use Rattle.ical.proofs.Judging.{passes, refuses}
 use Rattle.ical.proofs.OnTape.{refused-alike, text-refused, text-accepted}
