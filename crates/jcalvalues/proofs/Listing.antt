@@ -1,28 +1,29 @@
--- Values between commas that are read and written one after another.
+-- Values that are read and written one after another.
 use Prim.Native.Nat.{ℕ, _+_, _-_, _≤_, _<_}
 use Prim.Native.Char.{code}
-use mathlib.Core.Path.{_≡_, refl, ap, _∙_}
+use mathlib.Core.Path.{_≡_, refl, sym, ap, _∙_}
 use mathlib.Core.Bool.{Bool, true, false}
 use mathlib.Core.List.{List, [], _∷_}
 use mathlib.Core.Option.{Option, none, some}
 use native.Mathlib.Omega.{arith}
 use borrow.Author.Tests.{ltb-true, ltb-false}
 use lib.Dec.{ltb}
-use lib.ListN.{length, take, drop}
+use lib.ListN.{length, take, drop, length-drop}
+use lib.Seq.{take-all}
 use Rattle.octets.specs.Basics.{_or_, filled, single}
 use Rattle.octets.specs.Optional.{map?, both?, when, guard, each}
 use Rattle.octets.specs.Pen.{Pen, Wrote}
-use Rattle.octets.specs.Pieces.{split}
 use Rattle.octets.proofs.Cases.{cases, or-true-right}
 use Rattle.octets.proofs.Optional.{each-is}
 use Rattle.octets.proofs.Pen.{Leads, leads-start, leads-on, leads-end}
 use Rattle.octets.proofs.Pieces.{split-filled}
-use Rattle.calendar.specs.Walk.{before}
+use Rattle.octets.proofs.Positions.{from, upto}
+use Rattle.calendar.proofs.Pieces.{before-le}
 use Rattle.json.specs.Tree.{Json}
 use Rattle.json.specs.Print.{print}
-use Rattle.values.specs.Read.{listed}
 use Rattle.values.specs.Shown.{valuesJson}
 use Rattle.valuetexts.proofs.Going.{Going, going-start, going-on}
+use Rattle.jcalvalues.specs.Parts.{firstEnd, pieces}
 use Rattle.jcalvalues.proofs.Lists.{pieces-more, pieces-last}
 
 each-filled : (f : List ℕ → Option Json) (ls : List (List ℕ)) → (ls ≡ [] → ⊥) → each f ls ≡ some [] → ⊥
@@ -54,42 +55,73 @@ module _ (many : Bool) where
   others-left j none m = refl
   others-left j (some vs) m = rw m
 
-module _ (f : List ℕ → Option Json) (many : Bool) (s : List ℕ) where
+pieces-filled : (b : Bool) (s : List ℕ) → pieces b s ≡ [] → ⊥
+unfolding pieces
+pieces-filled true s e = split-filled (code ",") s e
+pieces-filled false s e = let z : _≡_ {A = ℕ} 0 1 = cc in omega arith
+
+-- what lies ahead of i, and the piece there, which ends at e
+abbrev ahead : List ℕ → ℕ → List ℕ
+ahead s i = take (length s - i) (drop i s)
+
+module _ (s : List ℕ) (i e : ℕ) where
+  abbrev value : List ℕ
+  value = take (e - 0) (drop 0 (ahead s i))
+
+  pub within : (b : Bool) → e ≡ firstEnd b (ahead s i) → e ≤ length (ahead s i)
+  unfolding firstEnd
+  within true is = omega (arith, before-le (code ",") (ahead s i))
+  within false is = omega arith
+
+  pub inside : e < length (ahead s i) → e < length s - i
+  inside h = rw (from s i, length-drop i s) at h
+
+  last-piece : (b : Bool) → e ≡ firstEnd b (ahead s i) → length (ahead s i) ≤ e → pieces b (drop i s) ≡ value ∷ []
+  unfolding firstEnd pieces
+  last-piece true is h = pieces-last (code ",") s i e is h
+  last-piece false is h = ap (λ (l : List ℕ). l ∷ []) (sym (upto (ahead s i) e ∙ take-all e (ahead s i) h ∙ from s i))
+
+  more-pieces : (b : Bool) → e ≡ firstEnd b (ahead s i) → e < length (ahead s i) → pieces b (drop i s) ≡ value ∷ pieces b (drop (i + e + 1) s)
+  unfolding firstEnd pieces
+  more-pieces true is h = pieces-more (code ",") s i e is h
+  more-pieces false is h = absurd (omega arith)
+
+module _ (f : List ℕ → Option Json) (many b : Bool) (s : List ℕ) where
+  abbrev values : List ℕ → Option (List Json)
+  values l = guard (λ vs. many or single vs) (each f (pieces b l))
+
   -- what is read and written up to i
   pub record Listed (p q : Pen) (i : ℕ) : Type 0 where
-    pub going : Going (λ us vs. Leads p (valuesJson us) q (valuesJson vs)) (guard (λ vs. many or single vs) (listed f s)) (guard (λ vs. many or single vs) (listed f (drop i s)))
+    pub going : Going (λ us vs. Leads p (valuesJson us) q (valuesJson vs)) (values s) (values (drop i s))
 
   pub listed-start : {p : Pen} → Listed p p 0
   listed-start = record { going = going-start (λ vs. leads-start) }
 
   -- a turn, which reads the value at i
-  module _ {p q : Pen} {i : ℕ} (g : Listed p q i) (e : ℕ) (is : e ≡ length (before (code ",") (take (length s - i) (drop i s)))) where
-    abbrev value : List ℕ
-    value = take (e - 0) (drop 0 (take (length s - i) (drop i s)))
+  module _ {p q : Pen} {i : ℕ} (g : Listed p q i) (e : ℕ) (is : e ≡ firstEnd b (ahead s i)) where
+    last : length (ahead s i) ≤ e → each f (pieces b (drop i s)) ≡ both? _∷_ (f (value s i e)) (some [])
+    unfolding each
+    last h = rw (last-piece s i e b is h)
 
-    last : length (take (length s - i) (drop i s)) ≤ e → listed f (drop i s) ≡ both? _∷_ (f value) (some [])
-    unfolding listed each
-    last h = rw (pieces-last (code ",") s i e is h)
+    more : e < length (ahead s i) → each f (pieces b (drop i s)) ≡ both? _∷_ (f (value s i e)) (each f (pieces b (drop (i + e + 1) s)))
+    unfolding each
+    more h = rw (more-pieces s i e b is h)
 
-    more : e < length (take (length s - i) (drop i s)) → listed f (drop i s) ≡ both? _∷_ (f value) (listed f (drop (i + e + 1) s))
-    unfolding listed each
-    more h = rw (pieces-more (code ",") s i e is h)
-
-    pub value-wrong : f value ≡ none → guard (λ vs. many or single vs) (listed f s) ≡ none
-    value-wrong w = g .going .fails (cases (ltb e (length (take (length s - i) (drop i s))))
+    pub value-wrong : f (value s i e) ≡ none → values s ≡ none
+    value-wrong w = g .going .fails (cases (ltb e (length (ahead s i)))
         (λ h. ap (fit many) (more (ltb-true e _ h)) ∙ first-wrong many _ _ w)
         (λ h. ap (fit many) (last (ltb-false e _ h)) ∙ first-wrong many _ _ w))
 
-    pub value-alone : e < length (take (length s - i) (drop i s)) → many ≡ false → guard (λ vs. many or single vs) (listed f s) ≡ none
-    value-alone h m = g .going .fails (ap (fit many) (more h) ∙ not-alone many _ _ (unfold listed in each-filled f (split (code ",") (drop (i + e + 1) s)) (split-filled (code ",") _)) m)
+    pub value-alone : e < length (ahead s i) → many ≡ false → values s ≡ none
+    value-alone h m = g .going .fails (ap (fit many) (more h) ∙ not-alone many _ _ (each-filled f (pieces b (drop (i + e + 1) s)) (pieces-filled b _)) m)
 
-    module _ {r : Pen} (j : Json) (w : f value ≡ some j) (u : Wrote q (code "," ∷ print j) r) where
-      pub value-last : length (take (length s - i) (drop i s)) ≤ e → (vs : List Json) × (guard (λ vs. many or single vs) (listed f s) ≡ some vs) × Wrote p (valuesJson vs) r
+    module _ {r : Pen} (j : Json) (w : f (value s i e) ≡ some j) (u : Wrote q (code "," ∷ print j) r) where
+      pub value-last : length (ahead s i) ≤ e → (vs : List Json) × (values s ≡ some vs) × Wrote p (valuesJson vs) r
       unfolding valuesJson
       value-last h =
-          let b = g .going .stands (j ∷ []) (ap (fit many) (last h ∙ rw w) ∙ only-one many j) in
-          (b .0, b .1, leads-end (leads-on (b .2) u refl) refl)
+          let v = g .going .stands (j ∷ []) (ap (fit many) (last h ∙ rw w) ∙ only-one many j) in
+          (v .0, v .1, leads-end (leads-on (v .2) u refl) refl)
 
-      pub value-on : e < length (take (length s - i) (drop i s)) → many ≡ true → Listed p r (i + e + 1)
+      pub value-on : e < length (ahead s i) → many ≡ true → Listed p r (i + e + 1)
       unfolding valuesJson
       value-on h m = record { going = going-on (λ vs. j ∷ vs) _ (g .going) (ap (fit many) (more h ∙ rw w) ∙ others-left many j _ m) (λ vs us a l. leads-on l u refl) }

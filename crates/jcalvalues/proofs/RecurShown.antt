@@ -9,7 +9,7 @@ use native.Mathlib.Omega.{arith}
 use borrow.Author.Tests.{ltb-true, ltb-false}
 use lib.Dec.{ltb}
 use lib.ListN.{length, getD, take, drop}
-use Rattle.octets.specs.Basics.{octets, _or_, all}
+use Rattle.octets.specs.Basics.{octets, all}
 use Rattle.octets.specs.Pieces.{split, joined}
 use Rattle.octets.specs.Optional.{both?, isSome, given, each}
 use Rattle.octets.specs.Classes.{between, isUpper, isDigit, lowerOctet, upper, lower}

@@ -1,11 +1,23 @@
--- Parts of what is written for values: lists between commas and between semicolons, and a quoted value of a recurrence rule.
+-- Parts of raw values, and of what is written for them: the values by themselves; lists between commas and between semicolons, and a quoted value of a recurrence rule.
 use Prim.Native.Nat.{ℕ}
 use Prim.Native.Char.{code}
-use mathlib.Core.List.{List, _∷_, _++_}
+use mathlib.Core.Bool.{Bool, true, false}
+use mathlib.Core.List.{List, [], _∷_, _++_}
+use lib.ListN.{length}
 use Rattle.octets.specs.Basics.{octets}
+use Rattle.octets.specs.Pieces.{split}
 use Rattle.calendar.specs.Recurrence.{Sort as Kind}
-use Rattle.calendar.specs.Walk.{itemShown}
+use Rattle.calendar.specs.Walk.{before, itemShown}
 use Rattle.values.specs.Shown.{listShown}
+
+-- the values between commas, or one alone; and where the first ends
+unfoldable pub pieces : Bool → List ℕ → List (List ℕ)
+pieces true s = split (code ",") s
+pieces false s = s ∷ []
+
+unfoldable pub firstEnd : Bool → List ℕ → ℕ
+firstEnd true s = length (before (code ",") s)
+firstEnd false s = length s
 
 abbrev pub commaList : (List ℕ → List ℕ) → List ℕ → List ℕ
 commaList f s = listShown f (code ",") s

@@ -1,14 +1,16 @@
 // The values of a property: which raw values stand, and how they stand in a property's array.
 ghost use mathlib.Core.Path.{_≡_};
 ghost use Rattle.octets.specs.Basics.{_or_, single};
-ghost use Rattle.octets.specs.Optional.{isSome, guard};
+ghost use Rattle.octets.specs.Optional.{isSome, guard, each};
 ghost use Rattle.octets.specs.Pen.{pen};
-ghost use Rattle.values.specs.Read.{readValues, listed};
+ghost use Rattle.values.specs.Sorts.{splits};
+ghost use Rattle.values.specs.Read.{readValues};
 ghost use Rattle.values.specs.Single.{readOne};
 ghost use Rattle.values.specs.Shown.{valuesJson};
 ghost use Rattle.values.specs.Coded.{sortSaid};
 ghost use Rattle.valuetexts.specs.Trying.{Tried};
 ghost use Rattle.jcalvalues.specs.Attempts.{Attempted};
+ghost use Rattle.jcalvalues.specs.Parts.{firstEnd, pieces};
 use crate::single::put_tested_one;
 use calendar::parts::find;
 use octets::put;
@@ -16,15 +18,25 @@ use values::Sort;
 use valuetexts::Attempt;
 use valuetexts::put_tested_texts;
 
-// Tests the values between commas, one only where there may not be many, and writes each with a comma before it.
+// Where the first value ends: at a comma, where values of the sort split.
+fn value_end(sort: Sort, s: &[u8]) -> usize
+    ensures { λ r. ⌜ r ≡ firstEnd (splits (sortSaid sort)) (now (s .entry)) ⌝ }
+{
+    if sort.splits() {
+        return find(s, b',');
+    }
+    s.len()
+}
+
+// Tests values that are read one by one, one only where there may not be many, and writes each with a comma before it.
 fn put_tested_list(out: &mut [u8], at: usize, sort: Sort, many: bool, raw: &[u8]) -> Attempt
-    ensures { λ r. ⌜ Tried (guard (λ vs. many or single vs) (listed (readOne (sortSaid sort)) (now (raw .entry)))) valuesJson (pen (now (out .entry)) at) (now (out .exit)) r ⌝ }
+    ensures { λ r. ⌜ Tried (guard (λ vs. many or single vs) (each (readOne (sortSaid sort)) (pieces (splits (sortSaid sort)) (now (raw .entry))))) valuesJson (pen (now (out .entry)) at) (now (out .exit)) r ⌝ }
 {
     let mut p = at;
     let mut i = 0;
     loop {
         let rest = &raw[i..];
-        let e = find(rest, b',');
+        let e = value_end(sort, rest);
         let first = put(out, p, b',');
         match put_tested_one(out, first, sort, &rest[0..e]) {
             Attempt::Invalid => {
@@ -51,11 +63,7 @@ pub fn put_tested(out: &mut [u8], at: usize, sort: Sort, many: bool, raw: &[u8])
     if sort.is_text() {
         return put_tested_texts(out, at, &*raw, many);
     }
-    if sort.splits() {
-        return put_tested_list(out, at, sort, many, &*raw);
-    }
-    let alone = put(out, at, b',');
-    put_tested_one(out, alone, sort, &*raw)
+    put_tested_list(out, at, sort, many, &*raw)
 }
 
 // The raw value stands: each of its values is one of the sort, and there is one only where there may not be many. It is written where there is no room.

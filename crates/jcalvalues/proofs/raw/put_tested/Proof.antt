@@ -2,9 +2,7 @@
 use borrow.Author.Needs.{needs}
 use mathlib.Core.Path.{sym, _∙_}
 use Rattle.values.specs.Coded.{sortSaid}
-use Rattle.values.specs.Single.{readOne}
 use Rattle.jcalvalues.proofs.Sorted.{sorted}
-use Rattle.jcalvalues.proofs.Trying.{alone-tried}
 use Rattle.jcalvalues.proofs.raw.put_tested.Statement.{statement}
 use Rattle.jcalvalues.proofs.raw.put_tested.Tie as tie
 
@@ -12,10 +10,7 @@ returns : tie.Need-returns
 returns c = rw (sorted (sortSaid (c .before .before .before .before .before .before .before .before .args .sort)) (c .before .before .before .before .before .before .before .before .args .raw .now), sym (c .before .before .before .before .before .is-text .ensures) ∙ c .before .before .before .before .if1 .taken) (c .before .before .put-tested-texts .ensures)
 
 returns-2 : tie.Need-returns-2
-returns-2 c = rw (sorted (sortSaid (c .before .before .before .before .before .before .before .before .before .before .args .sort)) (c .before .before .before .before .before .before .before .before .before .before .args .raw .now), sym (c .before .before .before .before .before .before .before .is-text .ensures) ∙ c .before .before .before .before .before .before .if1 .left, sym (c .before .before .before .before .before .splits .ensures) ∙ c .before .before .before .before .if2 .taken) (c .before .before .put-tested-list .ensures)
-
-returns-3 : tie.Need-returns-3
-returns-3 c = rw (sorted (sortSaid (c .before .before .before .before .before .before .before .before .before .before .before .before .before .before .args .sort)) (c .before .before .before .before .before .before .before .before .before .before .before .before .before .before .args .raw .now), sym (c .before .before .before .before .before .before .before .before .before .before .before .is-text .ensures) ∙ c .before .before .before .before .before .before .before .before .before .before .if1 .left, sym (c .before .before .before .before .before .before .before .before .before .splits .ensures) ∙ c .before .before .before .before .before .before .before .before .if2 .left) (alone-tried (c .before .before .before .before .before .before .before .before .before .before .before .before .before .before .args .many) (readOne (sortSaid (c .before .before .before .before .before .before .before .before .before .before .before .before .before .before .args .sort)) (c .before .before .before .before .before .before .before .before .before .before .before .before .before .before .args .raw .now)) (c .before .before .put-tested-one .last .0) (c .before .before .put-tested-one .result) (c .before .before .before .before .before .before .put .ensures) (c .before .before .put-tested-one .ensures))
+returns-2 c = rw (sorted (sortSaid (c .before .before .before .before .before .before .before .before .args .sort)) (c .before .before .before .before .before .before .before .before .args .raw .now), sym (c .before .before .before .before .before .is-text .ensures) ∙ c .before .before .before .before .if1 .left) (c .before .before .put-tested-list .ensures)
 
 pub put-tested-spec : {M : Type 1} → statement M
 put-tested-spec =
@@ -26,10 +21,5 @@ put-tested-spec =
     (λ c. search needs)
     returns
     (λ c κs. search needs)
-    (λ c κs. search needs)
     (λ c. search needs)
-    returns-2
-    (λ c κs. search needs)
-    (λ c κs. search needs)
-    (λ c. search needs)
-    returns-3)
+    returns-2)
