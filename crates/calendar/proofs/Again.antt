@@ -10,14 +10,14 @@ use borrow.Author.Tests.{eqb-true, le-leb, leb-true, not-true}
 use lib.Dec.{eqb, leb}
 use lib.ListN.{length, take, drop, length-append, getD}
 use lib.Seq.{take-at, drop-at}
-use Rattle.octets.specs.Basics.{_and_, _or_, all, any, same, among, single}
+use Rattle.octets.specs.Basics.{_and_, _or_, all, any, same, among, single, All}
 use Rattle.octets.specs.Optional.{map?, then?, isSome, when, guard, each}
 use Rattle.octets.specs.Classes.{between, isDigit, isUpper, upper}
 use Rattle.octets.specs.Decimal.{digits, valueOf, isSign, hasSign, minus, unsigned, trim, minusIf, integerText}
 use Rattle.octets.specs.Limits.{mostInteger}
 use Rattle.octets.specs.Pieces.{split, joined}
 use Rattle.octets.specs.Utf8.{clean}
-use Rattle.octets.proofs.Cases.{cases, both, either, never, apart, All, All-append, All-weaker, all-All, All-all}
+use Rattle.octets.proofs.Cases.{cases, both, either, never, apart, All-append, All-weaker, all-All, All-all}
 use Rattle.octets.proofs.Classes.{between-true, within-between, same-is}
 use Rattle.octets.proofs.Decimal.{DigitFirst, digits-first, trim-first, trim-twice, trim-value, trim-digits, integer-unsigned, integer-value, integer-twice, digit-no-sign}
 use Rattle.octets.proofs.Pieces.{Free, split-last, split-part, list-again}

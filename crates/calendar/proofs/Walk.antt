@@ -10,12 +10,12 @@ use borrow.Author.Tests.{ltb-true, ltb-false, lt-ltb, le-ltb}
 use lib.Dec.{eqb, ltb}
 use lib.ListN.{length, getD, take, drop}
 use lib.Seq.{take-nil, take-take}
-use Rattle.octets.specs.Basics.{pick, _or_, single, same}
+use Rattle.octets.specs.Basics.{pick, _or_, single, same, All}
 use Rattle.octets.specs.Optional.{both?, then?, each}
 use Rattle.octets.specs.Classes.{between, isDigit, isUpper, upper}
 use Rattle.octets.specs.Decimal.{isSign}
 use Rattle.octets.specs.Pieces.{split, joined}
-use Rattle.octets.proofs.Cases.{cases, apart, All, All-append, All-weaker, all-All}
+use Rattle.octets.proofs.Cases.{cases, apart, All-append, All-weaker, all-All}
 use Rattle.octets.proofs.Classes.{same-is}
 use Rattle.octets.proofs.Pieces.{Free, split-filled, joined-split}
 use Rattle.octets.proofs.Positions.{from}

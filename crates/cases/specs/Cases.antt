@@ -2,9 +2,8 @@
 use Prim.Native.Nat.{ℕ}
 use mathlib.Core.Path.{_≡_}
 use mathlib.Core.List.{List, [], _∷_, _++_}
-use Rattle.octets.specs.Basics.{octets}
+use Rattle.octets.specs.Basics.{octets, All}
 use Rattle.octets.specs.Answers.{refused, accepted}
-use Rattle.octets.proofs.Cases.{All}
 use Rattle.converter.specs.ToJcal.{toJcal}
 use Rattle.converter.specs.ToIcal.{toIcal}
 use Rattle.stopspage.specs.Printing.{printed}

@@ -5,8 +5,9 @@ use mathlib.Core.Path.{_≡_, refl}
 use mathlib.Core.Bool.{Bool, true, false}
 use mathlib.Core.List.{List, [], _∷_, _++_}
 use lib.Dec.{eqb}
+use Rattle.octets.specs.Basics.{All}
 use Rattle.octets.specs.Pieces.{onto, cut, joined}
-use Rattle.octets.proofs.Cases.{itself, All}
+use Rattle.octets.proofs.Cases.{itself}
 use Rattle.octets.proofs.Pieces.{Free}
 use Rattle.content.specs.Line.{quoteAfter, bare, before, behind, pieces}
 

@@ -6,9 +6,8 @@ use mathlib.Core.Bool.{Bool, true, false}
 use mathlib.Core.List.{List, [], _∷_, _++_}
 use native.Mathlib.Omega.{arith}
 use lib.ListN.{length, take, drop, length-drop}
-use Rattle.octets.specs.Basics.{pick, all}
+use Rattle.octets.specs.Basics.{pick, all, All}
 use Rattle.octets.specs.Pieces.{onto, cut}
-use Rattle.octets.proofs.Cases.{All}
 use Rattle.octets.proofs.Pieces.{Free}
 use Rattle.octets.proofs.Positions.{ended}
 use Rattle.content.specs.Lines.{laidOut}

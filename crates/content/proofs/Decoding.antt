@@ -9,8 +9,8 @@ use borrow.Author.Tests.{eqb-true}
 use lib.Dec.{eqb}
 use lib.ListN.{length, getD, take, drop}
 use lib.Seq.{drop-drop}
-use Rattle.octets.specs.Basics.{octets, pick}
-use Rattle.octets.proofs.Cases.{same?, neither, All}
+use Rattle.octets.specs.Basics.{octets, pick, All}
+use Rattle.octets.proofs.Cases.{same?, neither}
 use Rattle.octets.proofs.Positions.{here, ended, first-of, part-rest}
 use Rattle.json.specs.Print.{escaped, quoted}
 use Rattle.content.specs.Carets.{decodedOctet, caretAfter, decodedFrom, decoded}

@@ -5,10 +5,10 @@ use mathlib.Core.Path.{_≡_, refl}
 use mathlib.Core.Bool.{true, false}
 use mathlib.Core.List.{List, [], _∷_}
 use lib.Dec.{eqb}
-use Rattle.octets.specs.Basics.{pick, all, filled}
+use Rattle.octets.specs.Basics.{pick, all, filled, All}
 use Rattle.octets.specs.Pieces.{onto, cut}
 use Rattle.octets.specs.Classes.{between, isDigit, isUpper, isLower, isLetter, nameOctet, isName}
-use Rattle.octets.proofs.Cases.{cases, same?, never, apart, and-true, All}
+use Rattle.octets.proofs.Cases.{cases, same?, never, apart, and-true}
 use Rattle.content.specs.Form.{Place, start, name, paramStart, paramName, valueStart, plain, quoted, unquoted, value, nowhere, behindValue, inValue, place, placeAfter, isValue, formed}
 use Rattle.content.specs.Line.{quoteAfter, bare, before, behind, pieces}
 use Rattle.content.specs.Parts.{others}

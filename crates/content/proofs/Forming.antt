@@ -8,9 +8,9 @@ use native.Mathlib.Omega.{arith}
 use borrow.Author.Tests.{ne-eqb, ltb-true, ltb-false}
 use lib.Dec.{eqb, ltb}
 use lib.ListN.{length, getD, drop}
-use Rattle.octets.specs.Basics.{pick, _or_}
+use Rattle.octets.specs.Basics.{pick, _or_, All}
 use Rattle.octets.specs.Classes.{nameOctet}
-use Rattle.octets.proofs.Cases.{cases, All, never, neither}
+use Rattle.octets.proofs.Cases.{cases, never, neither}
 use Rattle.octets.proofs.Positions.{here, ended, past-end}
 use Rattle.content.specs.Form.{Place, start, name, paramStart, paramName, valueStart, plain, quoted, unquoted, value, nowhere, behindValue, inValue, place, placeAfter, isValue, formed}
 use Rattle.content.specs.Scan.{until}

@@ -5,10 +5,10 @@ use mathlib.Core.Path.{_≡_, refl}
 use mathlib.Core.Bool.{Bool, true, false}
 use mathlib.Core.List.{List, [], _∷_}
 use lib.Dec.{eqb}
-use Rattle.octets.specs.Basics.{all}
+use Rattle.octets.specs.Basics.{all, All}
 use Rattle.octets.specs.Pieces.{onto, cut}
 use Rattle.octets.specs.Classes.{between, isDigit, isUpper, isLower, isLetter, nameOctet, isName}
-use Rattle.octets.proofs.Cases.{apart, All}
+use Rattle.octets.proofs.Cases.{apart}
 use Rattle.content.specs.Form.{Place, start, name, paramStart, paramName, valueStart, plain, quoted, unquoted, value, nowhere}
 use Rattle.content.specs.Line.{quoteAfter, bare, before, behind, pieces}
 use Rattle.content.specs.Parts.{others}

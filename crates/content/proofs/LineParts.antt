@@ -6,11 +6,11 @@ use mathlib.Core.Bool.{Bool, true, false}
 use mathlib.Core.List.{List, [], _∷_, _++_, map}
 use borrow.Author.Tests.{eqb-true}
 use lib.Dec.{eqb}
-use Rattle.octets.specs.Basics.{octets, pick, all, filled}
+use Rattle.octets.specs.Basics.{octets, pick, all, filled, All}
 use Rattle.octets.specs.Pieces.{onto, cut, joined}
 use Rattle.octets.specs.Classes.{isControl, isName, plainOctet, textOctet}
 use Rattle.octets.specs.Utf8.{utf8, clean}
-use Rattle.octets.proofs.Cases.{cases, never, both, and-true, or-first, apart-not, All, all-All}
+use Rattle.octets.proofs.Cases.{cases, never, both, and-true, or-first, apart-not, all-All}
 use Rattle.octets.proofs.Classes.{name-lower}
 use Rattle.octets.proofs.Utf8.{ascii, clean-cut}
 use Rattle.octets.proofs.Transducer.{Runs, Keeps, run-all, run-utf8}

@@ -9,12 +9,12 @@ use native.Mathlib.Omega.{arith}
 use borrow.Author.Tests.{lt-ltb, le-ltb, ltb-false, leb-true, leb-false, eqb-true}
 use lib.Dec.{eqb, leb, ltb}
 use lib.ListN.{length}
-use Rattle.octets.specs.Basics.{octets, pick, all}
+use Rattle.octets.specs.Basics.{octets, pick, all, All}
 use Rattle.octets.specs.Pieces.{split}
 use Rattle.octets.specs.Limits.{mostColumns}
 use Rattle.octets.specs.Classes.{isControl, plainOctet, between}
 use Rattle.octets.specs.Utf8.{Due, start, one, two, three, afterE0, afterED, afterF0, afterF4, broken, lead, due, dueAfter, isStart, utf8, clean}
-use Rattle.octets.proofs.Cases.{cases, both, and-true, All, All-append}
+use Rattle.octets.proofs.Cases.{cases, both, and-true, All-append}
 use Rattle.octets.proofs.Classes.{between-true}
 use Rattle.octets.proofs.Pieces.{Free, split-part}
 use Rattle.octets.proofs.Limits.{most-columns}

@@ -8,8 +8,8 @@ use lib.Dec.{eqb}
 use lib.ListN.{length, getD, take, drop, length-drop}
 use lib.Seq.{take-all, drop-drop, getD-drop}
 use borrow.Author.Tests.{ne-eqb}
-use Rattle.octets.specs.Basics.{pick, _and_, _or_, all}
-use Rattle.octets.proofs.Cases.{All, never, both}
+use Rattle.octets.specs.Basics.{pick, _and_, _or_, all, All}
+use Rattle.octets.proofs.Cases.{never, both}
 use Rattle.octets.proofs.Positions.{here, ended}
 use Rattle.content.specs.Line.{quoteAfter}
 use Rattle.content.specs.Scan.{until, Sought, untilBare}

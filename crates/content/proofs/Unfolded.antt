@@ -6,11 +6,11 @@ use mathlib.Core.Bool.{Bool, true, false}
 use mathlib.Core.List.{List, [], _∷_, _++_, append-assoc}
 use lib.Dec.{eqb}
 use lib.ListN.{getD}
-use Rattle.octets.specs.Basics.{octets, all, filled}
+use Rattle.octets.specs.Basics.{octets, all, filled, All}
 use Rattle.octets.specs.Pieces.{onto}
 use Rattle.octets.specs.Classes.{between, isDigit, isUpper, isLower, isLetter, nameOctet, isName, isControl, plainOctet, upper}
 use Rattle.octets.specs.Utf8.{utf8, clean}
-use Rattle.octets.proofs.Cases.{cases, never, both, apart, and-false-right, or-false, All, All-weaker, all-All}
+use Rattle.octets.proofs.Cases.{cases, never, both, apart, and-false-right, or-false, All-weaker, all-All}
 use Rattle.octets.proofs.Pieces.{Free}
 use Rattle.content.specs.Lines.{endingOf, isBlank, markOf, marked, linesFrom, linesOf}
 use Rattle.content.specs.Fold.{breaks, foldedOctet, nextColumn, foldFrom, textOf}

@@ -9,10 +9,10 @@ use borrow.Author.Tests.{eqb-true, ltb-true, ltb-false}
 use lib.Dec.{eqb, ltb}
 use lib.ListN.{length, getD, take, drop}
 use lib.Seq.{drop-drop}
-use Rattle.octets.specs.Basics.{pick, _and_, _or_, filled}
+use Rattle.octets.specs.Basics.{pick, _and_, _or_, filled, All}
 use Rattle.octets.specs.Pieces.{onto}
 use Rattle.octets.specs.Pen.{pen, Wrote}
-use Rattle.octets.proofs.Cases.{cases, All, and-false-right, or-false-right, or-true-right}
+use Rattle.octets.proofs.Cases.{cases, and-false-right, or-false-right, or-true-right}
 use Rattle.octets.proofs.Pen.{kept, landed}
 use Rattle.octets.proofs.Pieces.{Free}
 use Rattle.octets.proofs.Positions.{here, ended, part-more, part-length, first-of}

@@ -5,10 +5,10 @@ use mathlib.Core.Path.{_≡_, refl, ap, _∙_}
 use mathlib.Core.Bool.{Bool, true, false, false≢true}
 use mathlib.Core.List.{List, [], _∷_, _++_, map, append-nil, append-assoc}
 use lib.Dec.{eqb}
-use Rattle.octets.specs.Basics.{all, any, filled}
+use Rattle.octets.specs.Basics.{all, any, filled, All}
 use Rattle.octets.specs.Pieces.{joined}
 use Rattle.octets.specs.Classes.{between, isDigit, isUpper, isLower, isLetter, nameOctet, isName, isLowerName, upper}
-use Rattle.octets.proofs.Cases.{cases, neither, both, apart, apart-not, All, all-All}
+use Rattle.octets.proofs.Cases.{cases, neither, both, apart, apart-not, all-All}
 use Rattle.octets.proofs.Pieces.{Free}
 use Rattle.content.specs.Carets.{decoded, encoded}
 use Rattle.content.specs.Line.{Param, front, unquote, paramValue, pieces, paramOf, headed, lineOf}

@@ -3,11 +3,11 @@ use Prim.Native.Nat.{ℕ}
 use mathlib.Core.Path.{_≡_, refl, sym, ap, _∙_}
 use mathlib.Core.Bool.{Bool, true}
 use mathlib.Core.List.{List, [], _∷_}
-use Rattle.octets.specs.Basics.{_and_, all}
+use Rattle.octets.specs.Basics.{_and_, all, All}
 use Rattle.octets.specs.Pieces.{joined}
 use Rattle.octets.specs.Classes.{isName, plainOctet, textOctet, upper}
 use Rattle.octets.specs.Utf8.{dueAfter, isStart, utf8, clean}
-use Rattle.octets.proofs.Cases.{both, and-true, and-true-right, All}
+use Rattle.octets.proofs.Cases.{both, and-true, and-true-right}
 use Rattle.octets.proofs.Utf8.{ascii, printable-clean, clean-both, clean-cut}
 use Rattle.content.specs.Carets.{encoded}
 use Rattle.content.specs.Line.{Param}

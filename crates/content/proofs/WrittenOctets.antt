@@ -8,10 +8,10 @@ use mathlib.Core.List.{List, [], _∷_, _++_, map}
 use native.Mathlib.Omega.{arith}
 use borrow.Author.Tests.{eqb-true}
 use lib.Dec.{eqb}
-use Rattle.octets.specs.Basics.{_or_, all, any, filled}
+use Rattle.octets.specs.Basics.{_or_, all, any, filled, All}
 use Rattle.octets.specs.Pieces.{joined}
 use Rattle.octets.specs.Classes.{between, isDigit, isUpper, isLower, isLetter, nameOctet, isName, isLowerName, upper}
-use Rattle.octets.proofs.Cases.{both, either, All, all-weaker}
+use Rattle.octets.proofs.Cases.{both, either, all-weaker}
 use Rattle.octets.proofs.Classes.{between-true, within-between}
 use Rattle.content.specs.Carets.{encoded}
 use Rattle.content.specs.Line.{Param}

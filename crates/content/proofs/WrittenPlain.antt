@@ -5,10 +5,10 @@ use mathlib.Core.Path.{_≡_, refl, _∙_}
 use mathlib.Core.Bool.{true}
 use mathlib.Core.List.{List, [], _∷_, _++_}
 use native.Mathlib.Omega.{arith}
-use Rattle.octets.specs.Basics.{all}
+use Rattle.octets.specs.Basics.{all, All}
 use Rattle.octets.specs.Pieces.{joined}
 use Rattle.octets.specs.Classes.{isName, isLowerName, isControl, plainOctet, textOctet, upper}
-use Rattle.octets.proofs.Cases.{both, and-true, apart, All, All-weaker, all-All, all-append, all-weaker}
+use Rattle.octets.proofs.Cases.{both, and-true, apart, All-weaker, all-All, all-append, all-weaker}
 use Rattle.octets.proofs.Classes.{between-true}
 use Rattle.octets.proofs.Pieces.{Free}
 use Rattle.octets.proofs.Utf8.{plain-above}

@@ -9,12 +9,12 @@ use mathlib.Core.Option.{Option, none, some}
 use native.Mathlib.Omega.{arith}
 use borrow.Author.Tests.{eqb-true}
 use lib.Dec.{eqb}
-use Rattle.octets.specs.Basics.{octets, _or_, all, filled, single, same}
+use Rattle.octets.specs.Basics.{octets, _or_, all, filled, single, same, All}
 use Rattle.octets.specs.Optional.{given}
 use Rattle.octets.specs.Classes.{between, isDigit, isLower, lowerNameOctet, isLowerName}
 use Rattle.octets.specs.Utf8.{clean}
 use Rattle.octets.specs.Answers.{accepted, unless}
-use Rattle.octets.proofs.Cases.{cases, All}
+use Rattle.octets.proofs.Cases.{cases}
 use Rattle.octets.proofs.Answers.{accepted-same}
 use Rattle.types.specs.Codes.{typeName, codeNamed}
 use Rattle.types.specs.Table.{Row}

@@ -3,11 +3,10 @@ use Prim.Native.Nat.{ℕ}
 use mathlib.Core.Path.{_≡_}
 use mathlib.Core.Bool.{true, false}
 use mathlib.Core.List.{List}
-use Rattle.octets.specs.Basics.{octets}
+use Rattle.octets.specs.Basics.{octets, All}
 use Rattle.octets.specs.Classes.{isName, sameName}
 use Rattle.octets.specs.Utf8.{clean}
 use Rattle.octets.specs.Answers.{accepted}
-use Rattle.octets.proofs.Cases.{All}
 use Rattle.types.specs.Table.{Table, find}
 use Rattle.content.specs.Line.{Line, lineOf}
 use Rattle.content.specs.Form.{formed}

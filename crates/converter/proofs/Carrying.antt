@@ -7,10 +7,10 @@ use mathlib.Core.List.{List}
 use mathlib.Core.Option.{Option, none, some}
 use native.Mathlib.Omega.{arith}
 use borrow.Author.Tests.{not-true}
-use Rattle.octets.specs.Basics.{octets, pick}
+use Rattle.octets.specs.Basics.{octets, pick, All}
 use Rattle.octets.specs.Classes.{isName, upper, lower, sameName}
 use Rattle.octets.specs.Answers.{accepted}
-use Rattle.octets.proofs.Cases.{cases, All}
+use Rattle.octets.proofs.Cases.{cases}
 use Rattle.octets.proofs.Classes.{name-lower, lower-name, upper-twice, upper-lower, lower-upper, lower-twice}
 use Rattle.octets.proofs.Answers.{accepted-same}
 use Rattle.types.specs.Table.{Row, Table, find}

@@ -6,12 +6,12 @@ use mathlib.Core.List.{List, [], _∷_, _++_, map}
 use mathlib.Core.Option.{Option}
 use lib.Dec.{leb}
 use lib.ListN.{length}
-use Rattle.octets.specs.Basics.{octets, pick, filled, _or_, all}
+use Rattle.octets.specs.Basics.{octets, pick, filled, _or_, all, All}
 use Rattle.octets.specs.Classes.{between, isDigit, isLower, lowerNameOctet, isLowerName, isName, textOctet, plainOctet, upper}
 use Rattle.octets.specs.Limits.{mostText}
 use Rattle.octets.specs.Utf8.{utf8}
 use Rattle.octets.specs.Answers.{Answer, accepted, then, unless}
-use Rattle.octets.proofs.Cases.{cases, or-first, All-weaker, both, and-true, All, All-append, All-front, All-back, all-weaker}
+use Rattle.octets.proofs.Cases.{cases, or-first, All-weaker, both, and-true, All-append, All-front, All-back, all-weaker}
 use Rattle.octets.proofs.Answers.{accepted-same, then-accepted, unless-accepted}
 use Rattle.types.specs.Table.{Row, Table, find}
 use Rattle.types.specs.Rows.{tableOf}

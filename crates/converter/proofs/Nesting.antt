@@ -7,11 +7,11 @@ use native.Mathlib.Omega.{arith}
 use borrow.Author.Tests.{leb-false}
 use lib.Dec.{leb}
 use lib.ListN.{length}
-use Rattle.octets.specs.Basics.{octets, same}
+use Rattle.octets.specs.Basics.{octets, same, All}
 use Rattle.octets.specs.Classes.{isLowerName}
 use Rattle.octets.specs.Limits.{mostLevels}
 use Rattle.octets.specs.Answers.{Answer, refused, accepted}
-use Rattle.octets.proofs.Cases.{cases, All}
+use Rattle.octets.proofs.Cases.{cases}
 use Rattle.octets.proofs.Limits.{most-levels}
 use Rattle.octets.proofs.Answers.{not-accepted, accepted-same, then-accepted}
 use Rattle.converter.specs.Tree.{Property, Component, leaf, levels, levelsIn}

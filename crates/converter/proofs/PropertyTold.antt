@@ -7,11 +7,11 @@ use native.Mathlib.Omega.{arith}
 use borrow.Author.Tests.{le-leb}
 use lib.Dec.{leb}
 use lib.ListN.{length}
-use Rattle.octets.specs.Basics.{octets, _or_, all, any, filled, same, among, twice}
+use Rattle.octets.specs.Basics.{octets, _or_, all, any, filled, same, among, twice, All}
 use Rattle.octets.specs.Optional.{isSome, holds, given}
 use Rattle.octets.specs.Classes.{between, isUpper, isName, isLowerName, lowerOctet, lower, sameName, textOctet}
 use Rattle.octets.specs.Utf8.{utf8}
-use Rattle.octets.proofs.Cases.{never, both, neither, All}
+use Rattle.octets.proofs.Cases.{never, both, neither}
 use Rattle.octets.proofs.Classes.{lower-name, name-lower}
 use Rattle.json.specs.Tree.{Json, str, listOf, string?, number?, array?, object?, octetsOf, elements, element, members}
 use Rattle.tape.specs.Sound.{hasKey, distinctKeys}

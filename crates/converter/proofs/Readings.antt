@@ -6,12 +6,12 @@ use mathlib.Core.List.{List, [], _∷_, map}
 use borrow.Author.Tests.{le-leb, leb-true}
 use lib.Dec.{leb}
 use lib.ListN.{length}
-use Rattle.octets.specs.Basics.{octets, all, filled}
+use Rattle.octets.specs.Basics.{octets, all, filled, All}
 use Rattle.octets.specs.Classes.{isName, isLowerName, lower, sameName}
 use Rattle.octets.specs.Utf8.{clean}
 use Rattle.octets.specs.Limits.{mostText}
 use Rattle.octets.specs.Answers.{Answer, accepted, then, unless}
-use Rattle.octets.proofs.Cases.{cases, both, All}
+use Rattle.octets.proofs.Cases.{cases, both}
 use Rattle.octets.proofs.Classes.{name-lower}
 use Rattle.octets.proofs.Answers.{accepted-same, then-accepted, unless-accepted}
 use Rattle.types.specs.Table.{Table}

@@ -4,9 +4,9 @@ use mathlib.Core.Path.{_≡_, refl, sym, ap, _∙_}
 use mathlib.Core.List.{List, [], _∷_, _++_, append-assoc, append-nil}
 use borrow.Author.Tests.{le-leb}
 use lib.ListN.{length}
+use Rattle.octets.specs.Basics.{All}
 use Rattle.octets.specs.Limits.{mostText}
 use Rattle.octets.specs.Answers.{Answer, accepted, then, unless, answer}
-use Rattle.octets.proofs.Cases.{All}
 use Rattle.types.specs.Table.{Table, find}
 use Rattle.types.specs.Rows.{tableOf}
 use Rattle.json.specs.Print.{print}

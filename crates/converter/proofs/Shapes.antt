@@ -3,9 +3,9 @@ use Prim.Native.Nat.{ℕ}
 use mathlib.Core.Path.{_≡_, refl, ap, _∙_}
 use mathlib.Core.Bool.{true}
 use mathlib.Core.List.{List, [], _∷_, _++_}
+use Rattle.octets.specs.Basics.{All}
 use Rattle.octets.specs.Classes.{isLowerName}
 use Rattle.octets.specs.Answers.{Answer, accepted, then}
-use Rattle.octets.proofs.Cases.{All}
 use Rattle.converter.specs.Tree.{Property, Component, component, Forest, leaf, grow}
 use Rattle.converter.specs.Structure.{Event, begins, ends, holds, Nest, fresh, closed, inside, fault, nest, nestAfter}
 use Rattle.converter.specs.Growth.{Level, innermost, around, withProperty, withComponent, levelsFrom, outermost, treeOf, eachProperty, behindEvent}

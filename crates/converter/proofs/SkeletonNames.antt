@@ -5,12 +5,12 @@ use mathlib.Core.Bool.{Bool, true}
 use mathlib.Core.List.{List, [], _∷_, map}
 use lib.Dec.{leb}
 use lib.ListN.{length}
-use Rattle.octets.specs.Basics.{_and_, all}
+use Rattle.octets.specs.Basics.{_and_, all, All}
 use Rattle.octets.specs.Optional.{isSome, holds, given}
 use Rattle.octets.specs.Classes.{isLowerName}
 use Rattle.octets.specs.Limits.{mostLevels, mostOpen}
 use Rattle.octets.specs.Answers.{accepted, unless}
-use Rattle.octets.proofs.Cases.{never, both, All}
+use Rattle.octets.proofs.Cases.{never, both}
 use Rattle.octets.proofs.Answers.{accepted-same, unless-accepted}
 use Rattle.json.specs.Tree.{Json, Members, noMembers, member, string?, array?, object?, listOf, octetsOf, elements, element, members}
 use Rattle.tape.specs.Sound.{sound}

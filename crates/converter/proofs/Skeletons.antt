@@ -5,13 +5,13 @@ use mathlib.Core.Bool.{true}
 use mathlib.Core.List.{List, [], _∷_, map}
 use native.Mathlib.Omega.{arith}
 use borrow.Author.Tests.{le-leb}
-use Rattle.octets.specs.Basics.{octets, all, same}
+use Rattle.octets.specs.Basics.{octets, all, same, All}
 use Rattle.octets.specs.Optional.{isSome, holds, given}
 use Rattle.octets.specs.Classes.{isLowerName}
 use Rattle.octets.specs.Limits.{mostLevels, mostOpen}
 use Rattle.octets.specs.Utf8.{utf8}
 use Rattle.octets.specs.Answers.{accepted, unless}
-use Rattle.octets.proofs.Cases.{All, and-true}
+use Rattle.octets.proofs.Cases.{and-true}
 use Rattle.octets.proofs.Limits.{most-levels, most-open}
 use Rattle.json.specs.Tree.{str, listOf, string?, number?, array?, octetsOf, elements, element}
 use Rattle.json.specs.Reads.{ok}

@@ -5,10 +5,10 @@ use mathlib.Core.Bool.{true, false, not}
 use mathlib.Core.List.{List, [], _∷_, map}
 use mathlib.Core.Option.{Option, none, some}
 use borrow.Author.Tests.{not-true}
-use Rattle.octets.specs.Basics.{octets, _and_, all, any, filled, same, among, twice}
+use Rattle.octets.specs.Basics.{octets, _and_, all, any, filled, same, among, twice, All}
 use Rattle.octets.specs.Classes.{between, isDigit, isLower, lowerNameOctet, isName, isLowerName, upper, lower}
 use Rattle.octets.specs.Answers.{accepted}
-use Rattle.octets.proofs.Cases.{cases, never, both, neither, and-true, or-false, All}
+use Rattle.octets.proofs.Cases.{cases, never, both, neither, and-true, or-false}
 use Rattle.octets.proofs.Classes.{same-is, same-itself, name-lower, lower-name, name-upper}
 use Rattle.octets.proofs.Utf8.{clean-upper}
 use Rattle.octets.proofs.Optional.{missing, some-same}

@@ -9,12 +9,12 @@ use native.Mathlib.Omega.{arith}
 use borrow.Author.Tests.{ltb-true, ltb-false}
 use lib.Dec.{ltb}
 use lib.ListN.{length, getD, take, drop}
-use Rattle.octets.specs.Basics.{octets, all}
+use Rattle.octets.specs.Basics.{octets, all, All}
 use Rattle.octets.specs.Pieces.{split, joined}
 use Rattle.octets.specs.Optional.{both?, isSome, given, each}
 use Rattle.octets.specs.Classes.{between, isUpper, isDigit, lowerOctet, upper, lower}
 use Rattle.octets.specs.Decimal.{isSign}
-use Rattle.octets.proofs.Cases.{cases, both, All, all-weaker}
+use Rattle.octets.proofs.Cases.{cases, both, all-weaker}
 use Rattle.octets.proofs.Classes.{lower-upper}
 use Rattle.octets.proofs.Optional.{when-is, map-is, each-none, each-is}
 use Rattle.octets.proofs.Pieces.{Free, split-free, split-filled, split-last as split-alone}

@@ -8,11 +8,11 @@ use borrow.Author.Tests.{le-leb, leb-false, eqb-true, eqb-false, ltb-true, ne-eq
 use lib.Dec.{eqb, leb, ltb}
 use lib.ListN.{length, take, drop, length-append}
 use lib.Seq.{take-append-seam, take-length}
-use Rattle.octets.specs.Basics.{octets, all}
+use Rattle.octets.specs.Basics.{octets, all, All}
 use Rattle.octets.specs.Classes.{between, isDigit, hexDigit}
 use Rattle.octets.specs.Limits.{mostOpen}
 use Rattle.octets.specs.Utf8.{Due, start, lead, due, dueAfter, isStart, utf8}
-use Rattle.octets.proofs.Cases.{cases, never, both, either, and-true, All}
+use Rattle.octets.proofs.Cases.{cases, never, both, either, and-true}
 use Rattle.octets.proofs.Classes.{between-true, above-between}
 use Rattle.octets.proofs.Utf8.{ascii, ascii-low, ascii-high, broken-stays, start-is, due-ascii, utf8-ascii, utf8-append, ascii-utf8}
 use Rattle.json.specs.Tree.{Json, null, falsity, truth, num, str, arr, obj, Items, noItems, item, Members, noMembers, member, itemsOf}

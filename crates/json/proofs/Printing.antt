@@ -9,10 +9,10 @@ use borrow.Author.Tests.{le-ltb, le-leb, leb-true, leb-false, not-true}
 use lib.Dec.{eqb, leb, ltb}
 use lib.ListN.{length, take, length-append}
 use lib.Seq.{take-append-seam}
-use Rattle.octets.specs.Basics.{_or_, all}
+use Rattle.octets.specs.Basics.{_or_, all, All}
 use Rattle.octets.specs.Classes.{isDigit, between, isControl, plainOctet, textOctet}
 use Rattle.octets.specs.Limits.{mostOpen}
-use Rattle.octets.proofs.Cases.{cases, same?, never, both, neither, either, or-first, or-second, apart, apart-not, All}
+use Rattle.octets.proofs.Cases.{cases, same?, never, both, neither, either, or-first, or-second, apart, apart-not}
 use Rattle.json.specs.Tree.{Json, null, falsity, truth, num, str, arr, obj, Items, noItems, item, Members, noMembers, member, itemsOf, listOf}
 use Rattle.json.specs.Reads.{Out, ok, deep, bad, fmap, then, isSpace, skip, word}
 use Rattle.json.specs.Numbers.{Place, start, minus, zero as zeroPlace, int, point, frac, e, sign, exp, beyond, isExponent, isPlusMinus, behindInt, firstDigit, advance, isBeyond, mayEnd, scan, number}

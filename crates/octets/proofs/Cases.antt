@@ -5,7 +5,7 @@ use mathlib.Core.Bool.{Bool, true, false, false≢true, true≢false}
 use mathlib.Core.List.{List, [], _∷_, _++_}
 use lib.Dec.{eqb, T, eqb→eq}
 use borrow.Author.Tests.{eq-eqb}
-use Rattle.octets.specs.Basics.{pick, _and_, _or_, all, any}
+use Rattle.octets.specs.Basics.{pick, _and_, _or_, all, any, All}
 
 -- the test passes, or it fails
 pub cases {ℓ} : {P : Type ℓ} (b : Bool) → (b ≡ true → P) → (b ≡ false → P) → P
@@ -98,11 +98,6 @@ apart f x k h n = same? x k (λ e. never h (ap f e ∙ n)) (λ d. d)
 
 pub apart-not : (f : ℕ → Bool) (x k : ℕ) → f x ≡ false → f k ≡ true → eqb x k ≡ false
 apart-not f x k h n = same? x k (λ e. never n (sym (ap f e) ∙ h)) (λ d. d)
-
--- each element has the property
-abbrev pub All {ℓ} : {A : Type ℓ} → (A → Type 0) → List A → Type 0
-All P [] = Unit {0}
-All P (x ∷ xs) = P x × All P xs
 
 pub All-append {ℓ} : {A : Type ℓ} (P : A → Type 0) (xs ys : List A) → All P xs → All P ys → All P (xs ++ ys)
 All-append P [] ys h k = k

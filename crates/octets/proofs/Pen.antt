@@ -8,8 +8,8 @@ use native.Mathlib.Omega.{arith}
 use borrow.Author.Tests.{lt-ltb, le-ltb, ltb-true, ltb-false}
 use lib.Dec.{ltb}
 use lib.ListN.{length, set, take, drop, length-set}
-use lib.Seq.{sets, sets-eq, take-append-seam}
-use Rattle.octets.specs.Pen.{Pen, pen, wroteOne, wrote, Wrote}
+use lib.Seq.{sets, sets-eq, take-append-seam, take-all, take-take, take-set-le}
+use Rattle.octets.specs.Pen.{Pen, pen, wroteOne, wrote, Wrote, FrontKept}
 use Rattle.octets.proofs.Cases.{cases}
 
 pub wrote-append : (p : Pen) (xs ys : List ℕ) → wrote p (xs ++ ys) ≡ wrote (wrote p xs) ys
@@ -157,3 +157,39 @@ leads-end {p} {q} {all} {rest} k e = record { is = unfold wrote in (rw e at (k .
 -- the last part is written
 pub leads-last : {p q r : Pen} {all rest xs : List ℕ} → Leads p all q rest → Wrote q xs r → rest ≡ xs → Wrote p all r
 leads-last {p} {q} {r} {all} {rest} {xs} k w e = record { is = w .is ∙ ap (wrote q) (sym e) ∙ k .whole }
+
+-- Where a writer refuses: what stood in front of the pen stands there still, whatever was written from the pen on.
+pub front-same : {p : Pen} → FrontKept p (p .buf)
+front-same = record { long = refl; front = refl }
+
+room-front : (o out : List ℕ) (at x : ℕ) → FrontKept (pen (set o at x) (at + 1)) out → FrontKept (pen o at) out
+room-front o out at x k = record {
+  long = k .long ∙ length-set o at x;
+  front = sym (take-take at (at + 1) out (omega arith)) ∙ ap (take at) (k .front) ∙ take-take at (at + 1) (set o at x) (omega arith) ∙ take-set-le at o at x (omega arith);
+}
+
+full-front : (o out : List ℕ) (at : ℕ) → length o ≤ at → FrontKept (pen o (length o + 1)) out → FrontKept (pen o at) out
+full-front o out at h k =
+    let long : length out ≡ length o = k .long in
+    record {
+      long = long;
+      front = take-all at out (omega arith) ∙ sym (take-all (length o + 1) out (omega arith)) ∙ k .front ∙ take-all (length o + 1) o (omega arith) ∙ sym (take-all at o h);
+    }
+
+one-front : (p : Pen) (x : ℕ) (out : List ℕ) → FrontKept (wroteOne p x) out → FrontKept p out
+unfolding wroteOne
+one-front p x out k = cases (ltb (p .at) (length (p .buf)))
+    (λ e. room-front (p .buf) out (p .at) x (rw e at k))
+    (λ e. full-front (p .buf) out (p .at) (ltb-false (p .at) (length (p .buf)) e) (rw e at k))
+
+wrote-front : (p : Pen) (xs out : List ℕ) → FrontKept (wrote p xs) out → FrontKept p out
+unfolding wrote
+wrote-front p [] out k = k
+wrote-front p (x ∷ xs) out k = one-front p x out (wrote-front (wroteOne p x) xs out k)
+
+-- a writer behind what is written keeps what stood in front of that too
+pub front-behind : {p q : Pen} {xs out : List ℕ} → Wrote p xs q → FrontKept q out → FrontKept p out
+front-behind {p} {q} {xs} {out} w k = wrote-front p xs out (rw (w .is) at k)
+
+pub front-wrote : {p q : Pen} {xs : List ℕ} → Wrote p xs q → FrontKept p (q .buf)
+front-wrote w = front-behind w front-same

@@ -7,9 +7,10 @@ use mathlib.Core.Option.{Option, none, some}
 use native.Mathlib.Omega.{arith}
 use borrow.Author.Tests.{eq-eqb}
 use lib.Dec.{eqb}
+use Rattle.octets.specs.Basics.{All}
 use Rattle.octets.specs.Pieces.{onto, cut, split, joined}
 use Rattle.octets.specs.Optional.{both?, each}
-use Rattle.octets.proofs.Cases.{cases, same?, All}
+use Rattle.octets.proofs.Cases.{cases, same?}
 
 -- no `sep` in it
 abbrev pub Free : ℕ → List ℕ → Type 0

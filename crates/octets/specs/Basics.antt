@@ -34,6 +34,11 @@ unfoldable pub any : {A : Type 0} → (A → Bool) → List A → Bool
 any p [] = false
 any p (x ∷ xs) = p x or any p xs
 
+-- each element has the property
+abbrev pub All {ℓ} : {A : Type ℓ} → (A → Type 0) → List A → Type 0
+All P [] = Unit {0}
+All P (x ∷ xs) = P x × All P xs
+
 -- one or more
 unfoldable pub filled : {A : Type 0} → List A → Bool
 filled [] = false

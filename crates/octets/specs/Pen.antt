@@ -3,7 +3,7 @@ use Prim.Native.Nat.{ℕ, _+_}
 use mathlib.Core.Path.{_≡_}
 use mathlib.Core.List.{List, [], _∷_}
 use lib.Dec.{ltb}
-use lib.ListN.{length, set}
+use lib.ListN.{length, set, take}
 use Rattle.octets.specs.Basics.{pick}
 
 -- a buffer, and the place of the next octet in it
@@ -24,3 +24,8 @@ wrote p (x ∷ xs) = wrote (wroteOne p x) xs
 -- q is p with xs written
 pub record Wrote (p : Pen) (xs : List ℕ) (q : Pen) : Type 0 where
   pub is : q ≡ wrote p xs
+
+-- What stands in front of the pen is as it was, and the buffer is as long. What stands from the pen on is not told: where a writer refuses, that is its choice.
+pub record FrontKept (p : Pen) (out : List ℕ) : Type 0 where
+  pub long : length out ≡ length (p .buf)
+  pub front : take (p .at) out ≡ take (p .at) (p .buf)

@@ -6,12 +6,12 @@ use mathlib.Core.Bool.{true, false, false≢true}
 use mathlib.Core.List.{List, [], _∷_}
 use mathlib.Core.Option.{Option, none, some}
 use native.Mathlib.Omega.{arith}
-use Rattle.octets.specs.Basics.{octets, _or_, single, same}
+use Rattle.octets.specs.Basics.{octets, _or_, single, same, All}
 use Rattle.octets.specs.Pieces.{split}
 use Rattle.octets.specs.Optional.{isSome, guard, given, each}
 use Rattle.octets.specs.Classes.{upper}
 use Rattle.octets.specs.Decimal.{valueOf}
-use Rattle.octets.proofs.Cases.{cases, All}
+use Rattle.octets.proofs.Cases.{cases}
 use Rattle.octets.proofs.Optional.{when-is, guard-is, map-is, then-is, some-is, each-none, each-is}
 use Rattle.octets.proofs.Pieces.{split-filled}
 use Rattle.calendar.specs.Dates.{momentOf}

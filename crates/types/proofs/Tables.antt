@@ -9,13 +9,13 @@ use mathlib.Core.Option.{Option, none, some}
 use borrow.Author.Tests.{not-true}
 use lib.Dec.{eqb, leb}
 use lib.ListN.{length}
-use Rattle.octets.specs.Basics.{octets, pick, _or_, all, any, same, among, twice}
+use Rattle.octets.specs.Basics.{octets, pick, _or_, all, any, same, among, twice, All}
 use Rattle.octets.specs.Pieces.{split}
 use Rattle.octets.specs.Optional.{map?, guard, each}
 use Rattle.octets.specs.Classes.{between, isUpper, isDigit, isLower, upperOctet, upper, lower, sameName}
 use Rattle.octets.specs.Limits.{mostRows}
 use Rattle.octets.specs.Answers.{accepted}
-use Rattle.octets.proofs.Cases.{cases, never, both, neither, or-first, or-second, All, All-append, all-All}
+use Rattle.octets.proofs.Cases.{cases, never, both, neither, or-first, or-second, All-append, all-All}
 use Rattle.octets.proofs.Classes.{between-true, same-is, same-itself, upper-lower, upper-twice}
 use Rattle.octets.proofs.Optional.{missing, some-same, map-is, guard-is, then-is, when-is, each-none, each-is}
 use Rattle.octets.proofs.Answers.{orElse-accepted}

@@ -5,12 +5,12 @@ use mathlib.Core.Path.{_≡_, refl, sym, ap, _∙_}
 use mathlib.Core.Bool.{true, false}
 use mathlib.Core.List.{List, [], _∷_, map}
 use mathlib.Core.Option.{Option, some}
-use Rattle.octets.specs.Basics.{all, filled, single}
+use Rattle.octets.specs.Basics.{all, filled, single, All}
 use Rattle.octets.specs.Pieces.{split, joined}
 use Rattle.octets.specs.Optional.{map?, both?, each}
 use Rattle.octets.specs.Classes.{isControl, plainOctet}
 use Rattle.octets.specs.Utf8.{clean}
-use Rattle.octets.proofs.Cases.{and-true, never, All, all-All, All-all}
+use Rattle.octets.proofs.Cases.{and-true, never, all-All, All-all}
 use Rattle.octets.proofs.Optional.{map-is, each-none, each-is}
 use Rattle.octets.proofs.Pieces.{Free, split-last, split-free, split-filled, joined-split, list-again}
 use Rattle.octets.proofs.Utf8.{ascii}

@@ -8,10 +8,10 @@ use mathlib.Core.List.{List, [], _∷_, _++_}
 use native.Mathlib.Omega.{arith}
 use borrow.Author.Tests.{eqb-true, leb-true}
 use lib.Dec.{eqb, leb}
-use Rattle.octets.specs.Basics.{octets, _and_, all}
+use Rattle.octets.specs.Basics.{octets, _and_, all, All}
 use Rattle.octets.specs.Classes.{between, plainOctet, textOctet}
 use Rattle.octets.specs.Utf8.{Due, start, one, two, three, afterE0, afterED, afterF0, afterF4, broken, lead, due, dueAfter, isStart, utf8, clean}
-use Rattle.octets.proofs.Cases.{cases, never, both, and-true, or-first, or-false, apart-not, all-weaker, All}
+use Rattle.octets.proofs.Cases.{cases, never, both, and-true, or-first, or-false, apart-not, all-weaker}
 use Rattle.octets.proofs.Classes.{above-between}
 use Rattle.octets.proofs.Utf8.{ascii, broken-stays, utf8-both, utf8-ascii, low-utf8}
 use Rattle.octets.proofs.Transducer.{Runs, Keeps, run-utf8}

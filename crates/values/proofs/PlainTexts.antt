@@ -8,13 +8,13 @@ use native.Mathlib.Omega.{arith}
 use borrow.Author.Tests.{eqb-true}
 use lib.Dec.{eqb, leb}
 use lib.ListN.{length}
-use Rattle.octets.specs.Basics.{_and_, all}
+use Rattle.octets.specs.Basics.{_and_, all, All}
 use Rattle.octets.specs.Pieces.{split}
 use Rattle.octets.specs.Optional.{isSome, when}
 use Rattle.octets.specs.Classes.{between, isDigit, isUpper, isLower, isLetter, isControl, plainOctet}
 use Rattle.octets.specs.Utf8.{utf8, clean}
 use Rattle.octets.specs.Decimal.{isSign, digits, minus, unsigned, integerText}
-use Rattle.octets.proofs.Cases.{cases, never, both, and-true, either, All, all-weaker, all-append}
+use Rattle.octets.proofs.Cases.{cases, never, both, and-true, either, all-weaker, all-append}
 use Rattle.octets.proofs.Classes.{between-true}
 use Rattle.octets.proofs.Pieces.{joined-split}
 use Rattle.octets.proofs.Utf8.{plain-above}

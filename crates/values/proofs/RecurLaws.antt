@@ -9,13 +9,13 @@ use native.Mathlib.Omega.{arith}
 use borrow.Author.Tests.{le-leb, leb-true, eqb-true}
 use lib.Dec.{eqb, leb}
 use lib.ListN.{length}
-use Rattle.octets.specs.Basics.{octets, _and_, _or_, all, any, filled, single, same, among, twice}
+use Rattle.octets.specs.Basics.{octets, _and_, _or_, all, any, filled, single, same, among, twice, All}
 use Rattle.octets.specs.Pieces.{split}
 use Rattle.octets.specs.Optional.{map?, isSome, when, guard, holds, given, each}
 use Rattle.octets.specs.Classes.{between, isDigit, isUpper, isLower, isLetter, lowerNameOctet, isLowerName, upperOctet, lowerOctet, upper, lower}
 use Rattle.octets.specs.Decimal.{digits, valueOf, isSign, hasSign, minus, unsigned, trim, minusIf, integerText}
 use Rattle.octets.specs.Limits.{mostInteger}
-use Rattle.octets.proofs.Cases.{cases, never, both, and-true, either, or-second, alike, All, all-weaker}
+use Rattle.octets.proofs.Cases.{cases, never, both, and-true, either, or-second, alike, all-weaker}
 use Rattle.octets.proofs.Classes.{between-true, within-between, same-is, same-itself}
 use Rattle.octets.proofs.Optional.{missing, some-same, when-is, guard-is, map-is, then-is, some-is}
 use Rattle.octets.proofs.Pieces.{split-filled}

@@ -9,12 +9,12 @@ use mathlib.Core.Option.{Option, none, some}
 use native.Mathlib.Omega.{arith}
 use borrow.Author.Tests.{lt-leb, ne-eqb}
 use lib.Dec.{eqb}
-use Rattle.octets.specs.Basics.{octets, _and_, _or_, all, filled}
+use Rattle.octets.specs.Basics.{octets, _and_, _or_, all, filled, All}
 use Rattle.octets.specs.Pieces.{onto, joined}
 use Rattle.octets.specs.Optional.{map?, when, guard, holds, given}
 use Rattle.octets.specs.Classes.{isControl, plainOctet, textOctet}
 use Rattle.octets.specs.Utf8.{utf8, clean}
-use Rattle.octets.proofs.Cases.{cases, same?, never, both, and-true, either, or-first, apart-not, All, all-All, All-all, All-weaker}
+use Rattle.octets.proofs.Cases.{cases, same?, never, both, and-true, either, or-first, apart-not, all-All, All-all, All-weaker}
 use Rattle.octets.proofs.Optional.{missing, some-same, map-is, guard-is}
 use Rattle.octets.proofs.Utf8.{ascii, ascii-high, utf8-joined}
 use Rattle.octets.proofs.Transducer.{Runs, Keeps, run-all, run-utf8}
