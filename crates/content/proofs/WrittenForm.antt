@@ -5,12 +5,11 @@ use mathlib.Core.Path.{_≡_, refl, ap, _∙_}
 use mathlib.Core.Bool.{true, false, false≢true}
 use mathlib.Core.List.{List, [], _∷_, _++_, map}
 use lib.Dec.{eqb}
-use Rattle.octets.specs.Basics.{all, any, filled}
+use Rattle.octets.specs.Basics.{all, any, filled, All}
 use Rattle.octets.specs.Pieces.{joined}
 use Rattle.octets.specs.Classes.{between, isDigit, isUpper, isLower, isLetter, nameOctet, isName, upper}
 use Rattle.octets.proofs.Cases.{cases, neither, both, apart-not}
 use Rattle.octets.proofs.Pieces.{Free}
-use Rattle.octets.proofs.Cases.{All}
 use Rattle.content.specs.Carets.{encoded}
 use Rattle.content.specs.Form.{Place, start, name, paramStart, paramName, valueStart, plain, quoted, unquoted, value, behindValue, inValue, place, placeAfter, isValue, formed}
 use Rattle.content.specs.Line.{Param}
