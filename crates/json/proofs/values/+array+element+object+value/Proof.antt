@@ -1,4 +1,4 @@
--- `json::values::value`, `array`, `object` and `element`, which call each other, meet their contracts. The levels left fall.
+-- `json::values::value`, `array`, `object` and `element`, which call each other, meet their contracts. The octets left fall; how deep the calls go is bounded by the levels left.
 use Prim.Native.Nat.{ℕ, _+_, _-_, _*_, _≤_, _<_}
 use mathlib.Core.Path.{_≡_, refl, sym, ap, _∙_}
 use mathlib.Core.List.{List}
@@ -43,16 +43,16 @@ use Rattle.json.proofs.values.+array+element+object+value.Tie.{close}
 use borrow.Author.Needs.{needs}
 
 abbrev μ-array : Measures 2 array-kinds.ps ℕ
-μ-array κs a = 3 * a .1 .1 .0
+μ-array κs a = 3 * (length (now (a .0)) - a .1 .0)
 
 abbrev μ-object : Measures 2 object-kinds.ps ℕ
-μ-object κs a = 3 * a .1 .1 .0
+μ-object κs a = 3 * (length (now (a .0)) - a .1 .0)
 
 abbrev μ-value : Measures 2 value-kinds.ps ℕ
-μ-value κs a = 3 * a .1 .1 .0 + 1
+μ-value κs a = 3 * (length (now (a .0)) - a .1 .0) + 1
 
 abbrev μ-element : Measures 2 element-kinds.ps ℕ
-μ-element κs a = 3 * a .1 .1 .0 + 2
+μ-element κs a = 3 * (length (now (a .0)) - a .1 .0) + 2
 
 -- a member at its own measure, and below a measure
 abbrev array-at : ℕ → In 2 array-kinds.ps
@@ -327,7 +327,7 @@ pub +array+element+object+value-spec : {M : Type 1} → statement M
     (λ c. search needs)
     (object-returns-3 t)
     (object-sub-element t)
-    (λ c κs. (omega arith, named t (c .before .before) .below))
+    (λ c κs. (omega (arith, named t (c .before .before) .above), named t (c .before .before) .below))
     (λ c. search needs)
     (λ c. search needs)
     (object-returns-4 t)
