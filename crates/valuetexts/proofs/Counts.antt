@@ -12,15 +12,15 @@ use lib.ListN.{length}
 use Rattle.octets.specs.Basics.{octets, _or_, filled, single}
 use Rattle.octets.specs.Optional.{map?, when, guard}
 use Rattle.octets.specs.Pen.{Pen, pen, Wrote}
-use Rattle.octets.proofs.Pen.{then, as-text}
+use Rattle.octets.proofs.Pen.{then, as-text, front-behind, front-wrote}
 use Rattle.json.specs.Tree.{Json, str, arr, itemsOf}
 use Rattle.json.specs.Print.{quoted, printString, print, firstItem, moreItems}
 use Rattle.values.specs.Read.{twoOrThree, readStatus}
 use Rattle.values.specs.Shown.{valuesJson}
 use Rattle.values.specs.Texts.{texts, fields, textsFrom}
 use Rattle.valuetexts.specs.Trying.{Tried, WroteTexts}
-use Rattle.valuetexts.specs.declared.Attempt.the-variants.{Wrote as Done}
-use Rattle.valuetexts.specs.declared.Texts.the-variants.{Wrote as Counted}
+use Rattle.valuetexts.specs.declared.Attempt.the-variants.{Wrote as Done, Invalid}
+use Rattle.valuetexts.specs.declared.Texts.the-variants.{Wrote as Counted, Invalid as NoTexts}
 
 -- one, by the number
 one-text : (t : List ℕ) (ts : List (List ℕ)) → single (map str (t ∷ ts)) ≡ eqb (length ts + 1) 1
@@ -28,21 +28,21 @@ unfolding single filled
 one-text t [] = refl
 one-text t (u ∷ ts) = rw (ne-eqb (length (u ∷ ts) + 1) 1 (λ e. omega arith))
 
-module _ {q : Pen} (many : Bool) (s out : List ℕ) (e n : ℕ) (w : WroteTexts (textsFrom (code ",") (code ";") false s) q out (Counted e n)) where
+module _ {p q : Pen} (many : Bool) (s out : List ℕ) (e n : ℕ) (w : WroteTexts (textsFrom (code ",") (code ";") false s) q out (Counted e n)) (u : Wrote p (octets ",\"") q) where
   fits : (many or single (map str (w .0 ∷ w .1))) ≡ (many or eqb n 1)
   fits = rw (one-text (w .0) (w .1), w .3)
 
-  pub texts-stand : {p : Pen} → Wrote p (octets ",\"") q → (many or eqb n 1) ≡ true → Tried (guard (λ vs. many or single vs) (map? (map str) (texts s))) valuesJson p out (Done e)
+  pub texts-stand : (many or eqb n 1) ≡ true → Tried (guard (λ vs. many or single vs) (map? (map str) (texts s))) valuesJson p out (Done e)
   unfolding texts map? guard when valuesJson print printString
-  texts-stand u h = (map str (w .0 ∷ w .1), rw (w .2, fits ∙ h), then u (w .4))
+  texts-stand h = (map str (w .0 ∷ w .1), rw (w .2, fits ∙ h), then u (w .4))
 
-  pub texts-differ : (many or eqb n 1) ≡ false → guard (λ vs. many or single vs) (map? (map str) (texts s)) ≡ none
+  pub texts-differ : (many or eqb n 1) ≡ false → Tried (guard (λ vs. many or single vs) (map? (map str) (texts s))) valuesJson p out Invalid
   unfolding texts map? guard when
-  texts-differ h = rw (w .2, fits ∙ h)
+  texts-differ h = (rw (w .2, fits ∙ h), front-wrote (then u (w .4)))
 
-pub no-texts : (many : Bool) (s : List ℕ) → textsFrom (code ",") (code ";") false s ≡ none → guard (λ vs. many or single vs) (map? (map str) (texts s)) ≡ none
+pub no-texts : {p q : Pen} (many : Bool) (s out : List ℕ) → WroteTexts (textsFrom (code ",") (code ";") false s) q out NoTexts → Wrote p (octets ",\"") q → Tried (guard (λ vs. many or single vs) (map? (map str) (texts s))) valuesJson p out Invalid
 unfolding texts map? guard
-no-texts many s e = rw e
+no-texts many s out w u = (rw (w .0), front-behind u (w .1))
 
 -- the values of an array
 pub items-json : (vs : List Json) → moreItems (itemsOf vs) ≡ valuesJson vs ++ octets "]"
@@ -74,21 +74,21 @@ array : (t : List ℕ) (ts : List (List ℕ)) → octets "[\"" ++ (quoted t ++ v
 unfolding print printString firstItem itemsOf
 array t ts = rw (items-json (map str ts)) (ap (λ (l : List ℕ). octets "[\"" ++ l) (append-assoc (quoted t) (valuesJson (map str ts)) (octets "]")))
 
-module _ {q : Pen} (s out : List ℕ) (e n : ℕ) (w : WroteTexts (textsFrom (code ";") (code ",") false s) q out (Counted e n)) where
-  status-none : twoOrThree (w .0 ∷ w .1) ≡ false → readStatus s ≡ none
+module _ {p q : Pen} (s out : List ℕ) (e n : ℕ) (w : WroteTexts (textsFrom (code ";") (code ",") false s) q out (Counted e n)) (u : Wrote p (octets "[\"") q) where
+  status-none : twoOrThree (w .0 ∷ w .1) ≡ false → Tried (readStatus s) print p out Invalid
   unfolding readStatus fields map? guard when
-  status-none h = rw (w .2, h)
+  status-none h = (rw (w .2, h), front-wrote (then u (w .4)))
 
-  pub status-few : n < 2 → readStatus s ≡ none
+  pub status-few : n < 2 → Tried (readStatus s) print p out Invalid
   status-few h = status-none (few (w .0) (w .1) (rw (w .3) h))
 
-  pub status-many : 3 < n → readStatus s ≡ none
+  pub status-many : 3 < n → Tried (readStatus s) print p out Invalid
   status-many h = status-none (many (w .0) (w .1) (rw (w .3) h))
 
-  pub status-stands : {p r : Pen} → 2 ≤ n → n ≤ 3 → Wrote p (octets "[\"") q → Wrote (pen out e) (octets "]") r → (j : Json) × (readStatus s ≡ some j) × Wrote p (print j) r
+  pub status-stands : {r : Pen} → 2 ≤ n → n ≤ 3 → Wrote (pen out e) (octets "]") r → (j : Json) × (readStatus s ≡ some j) × Wrote p (print j) r
   unfolding readStatus fields map? guard when
-  status-stands h l u v = (arr (itemsOf (map str (w .0 ∷ w .1))), rw (w .2, two-or-three (w .0) (w .1) (rw (w .3) h) (rw (w .3) l)), as-text (then (then u (w .4)) v) (array (w .0) (w .1)))
+  status-stands h l v = (arr (itemsOf (map str (w .0 ∷ w .1))), rw (w .2, two-or-three (w .0) (w .1) (rw (w .3) h) (rw (w .3) l)), as-text (then (then u (w .4)) v) (array (w .0) (w .1)))
 
-pub no-fields : (s : List ℕ) → textsFrom (code ";") (code ",") false s ≡ none → readStatus s ≡ none
+pub no-fields : {p q : Pen} (s out : List ℕ) → WroteTexts (textsFrom (code ";") (code ",") false s) q out NoTexts → Wrote p (octets "[\"") q → Tried (readStatus s) print p out Invalid
 unfolding readStatus fields map? guard
-no-fields s e = rw e
+no-fields s out w u = (rw (w .0), front-behind u (w .1))

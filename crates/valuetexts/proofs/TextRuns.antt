@@ -15,7 +15,7 @@ use Rattle.octets.specs.Optional.{map?}
 use Rattle.octets.specs.Pen.{Pen, pen, Wrote}
 use Rattle.octets.specs.Pieces.{onto}
 use Rattle.octets.proofs.Cases.{cases, apart, both}
-use Rattle.octets.proofs.Pen.{Leads, leads-start, leads-on, leads-last}
+use Rattle.octets.proofs.Pen.{nothing, then, Leads, leads-start, leads-on, leads-last, front-wrote}
 use Rattle.octets.proofs.Positions.{here, ended, part-rest, past-end}
 use Rattle.json.specs.Tree.{str}
 use Rattle.json.specs.Print.{escaped, quoted, printString, print}
@@ -23,7 +23,7 @@ use Rattle.json.specs.Promise.{Run}
 use Rattle.values.specs.Shown.{runOctet, valuesJson}
 use Rattle.values.specs.Texts.{Act, add, next, escape, stop, act, escapes, done, textsFrom}
 use Rattle.valuetexts.specs.Trying.{WroteTexts, StandsFor, StepsAt}
-use Rattle.valuetexts.specs.declared.Texts.the-variants.{Wrote as Counted}
+use Rattle.valuetexts.specs.declared.Texts.the-variants.{Wrote as Counted, Invalid as NoTexts}
 use Rattle.valuetexts.specs.declared.Step.the-variants.{Octet, Separator, Invalid as Wrong}
 use Rattle.valuetexts.proofs.Going.{Going, going-start, going-on}
 
@@ -203,9 +203,10 @@ module _ (sep other : ℕ) (s : List ℕ) where
   -- what is read and written up to i, and how many texts that are
   pub record Walked (p q : Pen) (n i : ℕ) : Type 0 where
     pub going : Going (Through p q n) (textsFrom sep other false s) (textsFrom sep other false (drop i s))
+    pub written : (xs : List ℕ) × Wrote p xs q
 
   pub walked-start : {p : Pen} → Walked p p 1 0
-  walked-start = record { going = going-start (λ ts. record { leads = leads-start; count = omega arith }) }
+  walked-start = record { going = going-start (λ ts. record { leads = leads-start; count = omega arith }); written = ([], nothing) }
 
   -- a text is left
   left : (j : ℕ) (ts : List (List ℕ)) → textsFrom sep other false (drop j s) ≡ some ts → ts ≡ [] → ⊥
@@ -218,13 +219,14 @@ module _ (sep other : ℕ) (s : List ℕ) where
         record {
           going = going-on (prefixed xs) _ (g .going) (ap (textsFrom sep other false) (part-rest s i e (v .above)) ∙ run-read sep other k l xs (drop e s) (v .inside))
               (λ ts us f t. front-written xs xs ts (left e ts f) (λ y. quoted-run xs y (v .inside)) w t);
+          written = (_, then (g .written .1) w);
         }
 
     pub walked-octet : {r : Pen} (c j : ℕ) → StepsAt sep other s i (Octet c j) → Wrote q (escaped c) r → Walked p r n j
-    walked-octet c j v w = record { going = going-on (onto c) _ (g .going) (v .2) (λ ts us f t. octet-written c ts (left j ts f) w t) }
+    walked-octet c j v w = record { going = going-on (onto c) _ (g .going) (v .2) (λ ts us f t. octet-written c ts (left j ts f) w t); written = (_, then (g .written .1) w) }
 
     pub walked-next : {r : Pen} → StepsAt sep other s i Separator → Wrote q (octets "\",\"") r → Walked p r (n + 1) (i + 1)
-    walked-next v w = record { going = going-on (λ ts. [] ∷ ts) _ (g .going) v (λ ts us f t. next-written ts (left (i + 1) ts f) w t) }
+    walked-next v w = record { going = going-on (λ ts. [] ∷ ts) _ (g .going) v (λ ts us f t. next-written ts (left (i + 1) ts f) w t); written = (_, then (g .written .1) w) }
 
     pub walked-end : (out : List ℕ) (e : ℕ) → length s ≤ i → Wrote q (code "\"" ∷ []) (pen out e) → WroteTexts (textsFrom sep other false s) p out (Counted e n)
     unfolding textsFrom
@@ -232,5 +234,5 @@ module _ (sep other : ℕ) (s : List ℕ) where
         let b = g .going .stands ([] ∷ []) (ap (textsFrom sep other false) (ended s i h)) in
         last-written (b .0) (left 0 (b .0) (b .1)) (b .1) w (b .2)
 
-    pub walked-wrong : StepsAt sep other s i Wrong → textsFrom sep other false s ≡ none
-    walked-wrong v = g .going .fails v
+    pub walked-wrong : StepsAt sep other s i Wrong → WroteTexts (textsFrom sep other false s) p (q .buf) NoTexts
+    walked-wrong v = (g .going .fails v, front-wrote (g .written .1))

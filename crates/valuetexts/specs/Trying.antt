@@ -9,7 +9,7 @@ use lib.Dec.{eqb}
 use lib.ListN.{length, drop}
 use Rattle.octets.specs.Basics.{pick}
 use Rattle.octets.specs.Optional.{map?}
-use Rattle.octets.specs.Pen.{Pen, pen, Wrote}
+use Rattle.octets.specs.Pen.{Pen, pen, Wrote, FrontKept}
 use Rattle.octets.specs.Pieces.{onto}
 use Rattle.json.specs.Tree.{str}
 use Rattle.json.specs.Print.{escaped, quoted}
@@ -22,16 +22,16 @@ use Rattle.valuetexts.specs.declared.Texts.the-variants.{Wrote as Counte
 use Rattle.valuetexts.specs.declared.Step.{Step}
 use Rattle.valuetexts.specs.declared.Step.the-variants.{Octet, Separator, Invalid as Wrong}
 
--- what is read is written; or nothing is read, and what is left in the buffer is the code's choice
+-- what is read is written; or nothing is read, what stands in front of the pen is as it was, and the rest of the buffer is the code's choice
 abbrev pub Tried : {A : Type 0} → Option A → (A → List ℕ) → Pen → List ℕ → Attempt → Type 0
 Tried {A} read text p out (Done q) = (a : A) × (read ≡ some a) × Wrote p (text a) (pen out q)
-Tried read text p out Invalid = read ≡ none
+Tried read text p out Invalid = (read ≡ none) × FrontKept p out
 
--- the texts that are read, one at least, are written behind their first quote, as strings with a comma between them, and counted
+-- the texts that are read, one at least, are written behind their first quote, as strings with a comma between them, and counted; or one is no text
 abbrev pub WroteTexts : Option (List (List ℕ)) → Pen → List ℕ → Texts → Type 0
 WroteTexts read p out (Counted q n) =
     (t : List ℕ) × (ts : List (List ℕ)) × (read ≡ some (t ∷ ts)) × (length ts + 1 ≡ n) × Wrote p (quoted t ++ valuesJson (map str ts)) (pen out q)
-WroteTexts read p out NoTexts = read ≡ none
+WroteTexts read p out NoTexts = (read ≡ none) × FrontKept p out
 
 -- a string has r behind a backslash for c; 0, where c stands as it is
 abbrev pub WrittenAs : ℕ → ℕ → Type 0

@@ -31,7 +31,7 @@ returns : tie.Need-returns Inv-loop μ-loop
 returns c = plainly-end _ (passed (c .before .before .before .before .before)) (c .before .before .before .before .before .before .before .before .before .before .before .before .before .before .put .ensures) (omega (arith, c .before .before .before .before .if1 .taken)) (c .before .before .put2 .ensures)
 
 returns-2 : tie.Need-returns-2 Inv-loop μ-loop
-returns-2 c = plainly-not _ (passed (c .before .before .before .before)) (inside (c .before .before .before)) (sym (c .before .is-plain-octet .ensures) ∙ not-true _ (c .if2 .taken))
+returns-2 c = plainly-not _ (passed (c .before .before .before .before)) (inside (c .before .before .before)) (c .before .before .before .before .before .before .before .before .before .before .before .before .before .put .ensures) (sym (c .before .is-plain-octet .ensures) ∙ not-true _ (c .if2 .taken))
 
 loop-again : tie.Need-loop-again Inv-loop μ-loop
 loop-again c = (omega (arith, inside (c .before .before .before .before .before .before .before)), omega arith, plainly-octet _ (passed (c .before .before .before .before .before .before .before .before)) (inside (c .before .before .before .before .before .before .before)) (sym (c .before .before .before .before .before .is-plain-octet .ensures) ∙ not-false _ (c .before .before .before .before .if2 .left)) (c .before .before .put-escaped .ensures))

@@ -20,16 +20,16 @@ unfolding runOctet
 put-between-requires c κs = (refl, refl)
 
 returns : tie.Need-returns
-returns c = status-few _ _ _ _ (counted (c .before)) (c .if1 .taken)
+returns c = status-few _ _ _ _ (counted (c .before)) (c .before .before .before .before .before .before .before .before .before .before .put-all .ensures) (c .if1 .taken)
 
 returns-2 : tie.Need-returns-2
-returns-2 c = status-many _ _ _ _ (counted (c .before .before)) (c .if2 .taken)
+returns-2 c = status-many _ _ _ _ (counted (c .before .before)) (c .before .before .before .before .before .before .before .before .before .before .before .put-all .ensures) (c .if2 .taken)
 
 returns-3 : tie.Need-returns-3
-returns-3 c = status-stands _ _ _ _ (counted (c .before .before .before .before .before .before)) (c .before .before .before .before .before .if1 .left) (c .before .before .before .before .if2 .left) (c .before .before .before .before .before .before .before .before .before .before .before .before .before .before .before .put-all .ensures) (c .before .before .put .ensures)
+returns-3 c = status-stands _ _ _ _ (counted (c .before .before .before .before .before .before)) (c .before .before .before .before .before .before .before .before .before .before .before .before .before .before .before .put-all .ensures) (c .before .before .before .before .before .if1 .left) (c .before .before .before .before .if2 .left) (c .before .before .put .ensures)
 
 returns-4 : tie.Need-returns-4
-returns-4 c = no-fields _ (rw (c .enum-told .given .1) at (c .before .before .before .before .put-between .ensures))
+returns-4 c = no-fields _ _ (rw (c .enum-told .given .1) at (c .before .before .before .before .put-between .ensures)) (c .before .before .before .before .before .before .before .before .put-all .ensures)
 
 pub put-tested-status-spec : {M : Type 1} → statement M
 put-tested-status-spec =

@@ -28,10 +28,10 @@ returns-2 : tie.Need-returns-2
 returns-2 c = texts-stand (c .before .before .before .before .before .before .before .before .before .before .before .before .before .before .before .before .args .many) _ _ _ _ (counted (c .before .before)) (c .before .before .before .before .before .before .before .before .before .before .before .put-all .ensures) (or-second (c .before .before .before .before .before .before .before .before .before .before .before .before .before .before .before .before .args .many) (eq-eqb _ 1 (c .if2 .taken)))
 
 returns-3 : tie.Need-returns-3
-returns-3 c = texts-differ (c .before .before .before .before .before .before .before .before .before .before .before .before .before .before .before .before .args .many) _ _ _ _ (counted (c .before .before)) (or-false (c .before .if1 .left) (ne-eqb _ 1 (c .if2 .left)))
+returns-3 c = texts-differ (c .before .before .before .before .before .before .before .before .before .before .before .before .before .before .before .before .args .many) _ _ _ _ (counted (c .before .before)) (c .before .before .before .before .before .before .before .before .before .before .before .put-all .ensures) (or-false (c .before .if1 .left) (ne-eqb _ 1 (c .if2 .left)))
 
 returns-4 : tie.Need-returns-4
-returns-4 c = no-texts (c .before .before .before .before .before .before .before .before .before .before .before .before .before .args .many) _ (rw (c .enum-told .given .1) at (c .before .before .before .before .put-between .ensures))
+returns-4 c = no-texts (c .before .before .before .before .before .before .before .before .before .before .before .before .before .args .many) _ _ (rw (c .enum-told .given .1) at (c .before .before .before .before .put-between .ensures)) (c .before .before .before .before .before .before .before .before .put-all .ensures)
 
 pub put-tested-texts-spec : {M : Type 1} → statement M
 put-tested-texts-spec =
