@@ -15,13 +15,15 @@ use Rattle.octets.specs.Optional.{map?, both?, when, guard, each}
 use Rattle.octets.specs.Pen.{Pen, Wrote}
 use Rattle.octets.proofs.Cases.{cases, or-true-right}
 use Rattle.octets.proofs.Optional.{each-is}
-use Rattle.octets.proofs.Pen.{Leads, leads-start, leads-on, leads-end}
+use Rattle.octets.proofs.Pen.{nothing, then, Leads, leads-start, leads-on, leads-end, front-behind, front-wrote}
 use Rattle.octets.proofs.Pieces.{split-filled}
 use Rattle.octets.proofs.Positions.{from, upto}
 use Rattle.calendar.proofs.Pieces.{before-le}
 use Rattle.json.specs.Tree.{Json}
 use Rattle.json.specs.Print.{print}
 use Rattle.values.specs.Shown.{valuesJson}
+use Rattle.valuetexts.specs.Trying.{Tried}
+use Rattle.valuetexts.specs.declared.Attempt.the-variants.{Invalid}
 use Rattle.valuetexts.proofs.Going.{Going, going-start, going-on}
 use Rattle.jcalvalues.specs.Parts.{firstEnd, pieces}
 use Rattle.jcalvalues.proofs.Lists.{pieces-more, pieces-last}
@@ -93,9 +95,10 @@ module _ (f : List ℕ → Option Json) (many b : Bool) (s : List ℕ) where
   -- what is read and written up to i
   pub record Listed (p q : Pen) (i : ℕ) : Type 0 where
     pub going : Going (λ us vs. Leads p (valuesJson us) q (valuesJson vs)) (values s) (values (drop i s))
+    pub written : (xs : List ℕ) × Wrote p xs q
 
   pub listed-start : {p : Pen} → Listed p p 0
-  listed-start = record { going = going-start (λ vs. leads-start) }
+  listed-start = record { going = going-start (λ vs. leads-start); written = ([], nothing) }
 
   -- a turn, which reads the value at i
   module _ {p q : Pen} {i : ℕ} (g : Listed p q i) (e : ℕ) (is : e ≡ firstEnd b (ahead s i)) where
@@ -107,13 +110,13 @@ module _ (f : List ℕ → Option Json) (many b : Bool) (s : List ℕ) where
     unfolding each
     more h = rw (more-pieces s i e b is h)
 
-    pub value-wrong : f (value s i e) ≡ none → values s ≡ none
-    value-wrong w = g .going .fails (cases (ltb e (length (ahead s i)))
+    none-stand : f (value s i e) ≡ none → values s ≡ none
+    none-stand w = g .going .fails (cases (ltb e (length (ahead s i)))
         (λ h. ap (fit many) (more (ltb-true e _ h)) ∙ first-wrong many _ _ w)
         (λ h. ap (fit many) (last (ltb-false e _ h)) ∙ first-wrong many _ _ w))
 
-    pub value-alone : e < length (ahead s i) → many ≡ false → values s ≡ none
-    value-alone h m = g .going .fails (ap (fit many) (more h) ∙ not-alone many _ _ (each-filled f (pieces b (drop (i + e + 1) s)) (pieces-filled b _)) m)
+    pub value-wrong : {r : Pen} (out : List ℕ) → Wrote q (code "," ∷ []) r → Tried (f (value s i e)) print r out Invalid → Tried (values s) valuesJson p out Invalid
+    value-wrong out u w = (none-stand (w .0), front-behind (then (g .written .1) u) (w .1))
 
     module _ {r : Pen} (j : Json) (w : f (value s i e) ≡ some j) (u : Wrote q (code "," ∷ print j) r) where
       pub value-last : length (ahead s i) ≤ e → (vs : List Json) × (values s ≡ some vs) × Wrote p (valuesJson vs) r
@@ -122,6 +125,9 @@ module _ (f : List ℕ → Option Json) (many b : Bool) (s : List ℕ) where
           let v = g .going .stands (j ∷ []) (ap (fit many) (last h ∙ rw w) ∙ only-one many j) in
           (v .0, v .1, leads-end (leads-on (v .2) u refl) refl)
 
+      pub value-alone : e < length (ahead s i) → many ≡ false → Tried (values s) valuesJson p (r .buf) Invalid
+      value-alone h m = (g .going .fails (ap (fit many) (more h) ∙ not-alone many _ _ (each-filled f (pieces b (drop (i + e + 1) s)) (pieces-filled b _)) m), front-wrote (then (g .written .1) u))
+
       pub value-on : e < length (ahead s i) → many ≡ true → Listed p r (i + e + 1)
       unfolding valuesJson
-      value-on h m = record { going = going-on (λ vs. j ∷ vs) _ (g .going) (ap (fit many) (more h ∙ rw w) ∙ others-left many j _ m) (λ vs us a l. leads-on l u refl) }
+      value-on h m = record { going = going-on (λ vs. j ∷ vs) _ (g .going) (ap (fit many) (more h ∙ rw w) ∙ others-left many j _ m) (λ vs us a l. leads-on l u refl); written = (_, then (g .written .1) u) }

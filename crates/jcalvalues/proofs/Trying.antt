@@ -8,7 +8,7 @@ use Rattle.octets.specs.Optional.{isSome}
 use Rattle.octets.specs.Pen.{Pen, pen, Wrote}
 use Rattle.octets.proofs.Cases.{never}
 use Rattle.octets.proofs.Optional.{some-is}
-use Rattle.octets.proofs.Pen.{as-text}
+use Rattle.octets.proofs.Pen.{as-text, front-wrote}
 use Rattle.json.specs.Tree.{Json}
 use Rattle.json.specs.Print.{print}
 use Rattle.valuetexts.specs.Trying.{Tried}
@@ -24,4 +24,4 @@ no-some (some a) e = never refl e
 pub tested : {p : Pen} {xs : List ℕ} (o : Option Json) (out : List ℕ) (q : ℕ) (stands : Bool) (r : Attempt) → stands ≡ isSome o → ((j : Json) → o ≡ some j → xs ≡ print j)
     → Wrote p xs (pen out q) → r ≡ answered stands q → Tried o print p out r
 tested o out q true r is e w a = rw a (some-is o (sym is) (λ j f. (j, f, as-text w (e j f))))
-tested o out q false r is e w a = rw a (no-some o (sym is))
+tested o out q false r is e w a = rw a (no-some o (sym is), front-wrote w)

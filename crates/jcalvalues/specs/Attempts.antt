@@ -17,6 +17,6 @@ abbrev pub answered : Bool → ℕ → Attempt
 answered true q = Done q
 answered false q = Invalid
 
--- the values of a raw value that stands are written, each with a comma before it; or it does not stand, and what is left in the buffer is the code's choice
+-- the values of a raw value that stands are written, each with a comma before it; or it does not stand, what stands in front of the pen is as it was, and the rest of the buffer is the code's choice
 abbrev pub Attempted : Bool → Sort → List ℕ → Pen → List ℕ → Attempt → Type 0
 Attempted many sort raw p out r = Tried (guard (λ vs. many or single vs) (readValues sort raw)) valuesJson p out r

@@ -4,7 +4,7 @@ use Prim.Native.Char.{code}
 use mathlib.Core.List.{[], _∷_, _++_}
 use mathlib.Core.Path.{ap}
 use Rattle.octets.specs.Classes.{upper}
-use Rattle.octets.proofs.Pen.{as-text}
+use Rattle.octets.proofs.Pen.{as-text, front-same}
 use Rattle.octets.proofs.Positions.{upto}
 use Rattle.values.proofs.Halves.{wrapped}
 use Rattle.jcalvalues.proofs.FormStrings.{form-none, form-written}
@@ -12,7 +12,7 @@ use Rattle.jcalvalues.proofs.forms.put_tested_form.Statement.{statement
 use Rattle.jcalvalues.proofs.forms.put_tested_form.Tie as tie
 
 returns : tie.Need-returns
-returns c = form-none (c .before .before .before .before .before .args .form) _ _ (c .before .before .extended .ensures) (c .if1 .taken)
+returns c = (form-none (c .before .before .before .before .before .args .form) _ _ (c .before .before .extended .ensures) (c .if1 .taken), front-same)
 
 returns-2 : tie.Need-returns-2
 returns-2 c =

@@ -14,7 +14,7 @@ returns-2 : tie.Need-returns-2
 unfolding isSome
 returns-2 c =
     let t = rw (c .enum-told2 .given .1) at (c .before .before .before .put-tested .ensures) in
-    rw t
+    rw (t .0)
 
 pub holds-values-spec : {M : Type 1} → statement M
 holds-values-spec =

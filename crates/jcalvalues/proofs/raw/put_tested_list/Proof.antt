@@ -40,7 +40,7 @@ part-put-tested-one-end : tie.Need-part-put-tested-one-end Inv-loop μ-loop
 part-put-tested-one-end c = within (c .before .before .before .before .before .before .before .before .before .before .args .raw .now) (c .before .before .before .before .before .before .before .loop .i) (c .before .before .before .before .before .value-end .result) _ (c .before .before .before .before .before .value-end .ensures)
 
 returns : tie.Need-returns Inv-loop μ-loop
-returns c = value-wrong _ _ _ _ (c .before .before .before .before .before .before .before .before .before .before .before .before .before .loop .inv .2) _ (c .before .before .before .before .before .before .before .before .before .before .before .value-end .ensures) (rw (c .enum-told .given .1) at (c .before .before .before .before .put-tested-one .ensures))
+returns c = value-wrong _ _ _ _ (c .before .before .before .before .before .before .before .before .before .before .before .before .before .loop .inv .2) _ (c .before .before .before .before .before .before .before .before .before .before .before .value-end .ensures) _ (c .before .before .before .before .before .before .before .before .before .put .ensures) (rw (c .enum-told .given .1) at (c .before .before .before .before .put-tested-one .ensures))
 
 returns-2 : tie.Need-returns-2 Inv-loop μ-loop
 returns-2 c =
@@ -48,7 +48,9 @@ returns-2 c =
     value-last _ _ _ _ (c .before .before .before .before .before .before .before .before .before .before .before .before .before .before .before .loop .inv .2) _ (c .before .before .before .before .before .before .before .before .before .before .before .before .before .value-end .ensures) (t .0) (t .1) (then (c .before .before .before .before .before .before .before .before .before .before .before .put .ensures) (t .2)) (c .if1 .taken)
 
 returns-3 : tie.Need-returns-3 Inv-loop μ-loop
-returns-3 c = value-alone _ _ _ _ (c .before .before .before .before .before .before .before .before .before .before .before .before .before .before .before .before .loop .inv .2) _ (c .before .before .before .before .before .before .before .before .before .before .before .before .before .before .value-end .ensures) (c .before .if1 .left) (not-true _ (c .if2 .taken))
+returns-3 c =
+    let t = tried (c .before .before) in
+    value-alone _ _ _ _ (c .before .before .before .before .before .before .before .before .before .before .before .before .before .before .before .before .loop .inv .2) _ (c .before .before .before .before .before .before .before .before .before .before .before .before .before .before .value-end .ensures) (t .0) (t .1) (then (c .before .before .before .before .before .before .before .before .before .before .before .before .put .ensures) (t .2)) (c .before .if1 .left) (not-true _ (c .if2 .taken))
 
 add-i : tie.Need-add-i Inv-loop μ-loop
 add-i c = omega (arith, ahead c)

@@ -1,6 +1,7 @@
 -- `jcalvalues::single::put_tested_one` meets its contract.
 use borrow.Author.Needs.{needs}
-use mathlib.Core.Path.{sym, _∙_}
+use mathlib.Core.Path.{refl, sym, _∙_}
+use Rattle.octets.proofs.Pen.{front-same}
 use Rattle.calendar.specs.Durations.{durationOf}
 use Rattle.calendar.proofs.Options.{some-when, some-map}
 use Rattle.values.specs.Coded.{sortSaid}
@@ -59,7 +60,7 @@ returns-11 c = rw (c .before .before .before .before .before .before .enum-told1
 
 returns-12 : tie.Need-returns-12
 unfolding sortSaid readOne
-returns-12 c = rw (c .enum-told12 .given .1)
+returns-12 c = rw (c .enum-told12 .given .1) (refl, front-same)
 
 returns-13 : tie.Need-returns-13
 unfolding sortSaid readOne
