@@ -17,7 +17,7 @@ use Rattle.octets.specs.Pen.{Pen, pen, Wrote}
 use Rattle.octets.proofs.Cases.{cases, both, apart}
 use Rattle.octets.proofs.Classes.{same-is, name-lower as name-lowers}
 use Rattle.octets.proofs.Answers.{not-accepted}
-use Rattle.octets.proofs.Pen.{then as behind, as-text}
+use Rattle.octets.proofs.Pen.{then as behind, as-text, front-behind as kept-behind}
 use Rattle.octets.proofs.Positions.{upto, from}
 use Rattle.json.specs.Tree.{Json, obj}
 use Rattle.json.specs.Print.{escaped, quoted, printString, print, firstItem, moreItems, firstMember}
@@ -187,7 +187,7 @@ nine-placed t name value ps row e code f out (At q) v = record {
   read = f .read t value e ∙ rw (v .1);
   wrote = as-text (behind (f .wrote) (v .2)) (append-assoc (frontText name ps) _ _ ∙ sym (property-text name ps (typeOf row (f .type)) (v .0)));
 }
-nine-placed t name value ps row e code f out (Failed why) v = f .read t value e ∙ rw (v .0, v .1)
+nine-placed t name value ps row e code f out (Failed why) v = (f .read t value e ∙ rw (v .0, v .1), kept-behind (f .wrote) (v .2))
 
 -- a property without parameters up to its type
 pub plain-front : (n : List ℕ) → (octets "[" ++ printString (lower n)) ++ octets ",{}," ≡ frontText n []

@@ -1,4 +1,5 @@
 -- What `place_property` answers: the property is read and written, or it is refused by the number of its first test that fails.
+-- Where it is refused, what stands in front of the pen is as it was, and the rest of the buffer is the code's choice.
 use Prim.Native.Nat.{ℕ}
 use mathlib.Core.Path.{_≡_}
 use mathlib.Core.List.{List, _++_}
@@ -7,7 +8,7 @@ use Rattle.octets.specs.Basics.{octets}
 use Rattle.octets.specs.Classes.{lower}
 use Rattle.octets.specs.Optional.{map?}
 use Rattle.octets.specs.Answers.{refused, accepted, orElse, number}
-use Rattle.octets.specs.Pen.{Pen, pen, Wrote}
+use Rattle.octets.specs.Pen.{Pen, pen, Wrote, FrontKept}
 use Rattle.json.specs.Tree.{Json}
 use Rattle.json.specs.Print.{print, printString}
 use Rattle.types.specs.Table.{Row, Table, find}
@@ -30,7 +31,7 @@ lineWith n ps v = record { name = n; params = ps; value = v }
 -- the values are read and written, with what closes the property; or number 9
 abbrev pub PlacesValues : Option (List Json) → Pen → List ℕ → Placed → Type 0
 PlacesValues o p out (At q) = (vs : List Json) × (o ≡ some vs) × Wrote p (valuesJson vs ++ octets "]") (pen out q)
-PlacesValues o p out (Failed why) = (o ≡ none) × (number why ≡ 9)
+PlacesValues o p out (Failed why) = (o ≡ none) × (number why ≡ 9) × FrontKept p out
 
 -- a property whose name has this row passes 7 and 8, and is written up to its values, from p to q
 pub record FrontStands (row : Option Row) (n : List ℕ) (ps : List Param) (c : ℕ) (p q : Pen) : Type 0 where
@@ -41,7 +42,7 @@ pub record FrontStands (row : Option Row) (n : List ℕ) (ps : List Param) (c : 
 -- the front stands, with the code of its type; or any value behind it is refused by 7 or 8
 abbrev pub Fronts : Option Row → List ℕ → List Param → Pen → List ℕ → Fronted → Type 0
 Fronts row n ps p out (To c q) = FrontStands row n ps c p (pen out q)
-Fronts row n ps p out (Fails why) = (t : Table) (v : List ℕ) → row ≡ find t n → readProperty t (lineWith n ps v) ≡ refused (number why)
+Fronts row n ps p out (Fails why) = ((t : Table) (v : List ℕ) → row ≡ find t n → readProperty t (lineWith n ps v) ≡ refused (number why)) × FrontKept p out
 
 -- the property of a line is read, and written from p to q
 pub record Stands (t : Table) (l : Line) (p q : Pen) : Type 0 where
@@ -49,7 +50,6 @@ pub record Stands (t : Table) (l : Line) (p q : Pen) : Type 0 where
   pub read : readProperty t l ≡ accepted property
   pub wrote : Wrote p (print (propertyJson property)) q
 
--- where the answer is a refusal, what is left in the buffer is the code's choice
 abbrev pub Places : Table → Line → Pen → List ℕ → Placed → Type 0
 Places t l p out (At q) = Stands t l p (pen out q)
-Places t l p out (Failed why) = readProperty t l ≡ refused (number why)
+Places t l p out (Failed why) = (readProperty t l ≡ refused (number why)) × FrontKept p out

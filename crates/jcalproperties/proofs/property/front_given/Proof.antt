@@ -1,5 +1,6 @@
 -- `jcalproperties::property::front_given` meets its contract.
 use borrow.Author.Needs.{needs}
+use Rattle.octets.proofs.Pen.{front-same}
 use Rattle.content.specs.Parts.{paramsIn}
 use Rattle.jcalproperties.proofs.Typing.{given-refused, given-read, eight-refused, front-stands}
 use Rattle.jcalproperties.proofs.property.front_given.Statement.{statement}
@@ -16,7 +17,7 @@ returns c =
     let at-params-fit = c .before in
     let at-value-type = at-params-fit .before in
     let at-start = at-value-type .before .before .before .before in
-    λ t v e. given-refused (at-start .args .name .now) (paramsIn (at-start .args .params .now)) (at-params-fit .params-fit .result) _ (at-value-type .value-type .ensures .is) (at-params-fit .params-fit .ensures) (c .if1 .taken) t v
+    (λ t v e. given-refused (at-start .args .name .now) (paramsIn (at-start .args .params .now)) (at-params-fit .params-fit .result) _ (at-value-type .value-type .ensures .is) (at-params-fit .params-fit .ensures) (c .if1 .taken) t v, front-same)
 
 code-of-requires : tie.Need-code-of-requires
 code-of-requires c κs = search needs
@@ -36,7 +37,7 @@ returns-2 c =
     let at-params-fit = at-if1 .before in
     let at-value-type = at-params-fit .before in
     let at-start = at-value-type .before .before .before .before in
-    eight-refused (at-start .args .name .now) (paramsIn (at-start .args .params .now)) _ (given-read (at-start .args .name .now) (paramsIn (at-start .args .params .now)) (at-params-fit .params-fit .result) _ (at-value-type .value-type .ensures .is) (at-params-fit .params-fit .ensures) (at-if1 .if1 .left)) _ _ (at-code-of .code-of .ensures) _ _ (at-is-encoded .is-encoded .ensures) (at-encoding-fits .encoding-fits .ensures) (c .if2 .taken)
+    (eight-refused (at-start .args .name .now) (paramsIn (at-start .args .params .now)) _ (given-read (at-start .args .name .now) (paramsIn (at-start .args .params .now)) (at-params-fit .params-fit .result) _ (at-value-type .value-type .ensures .is) (at-params-fit .params-fit .ensures) (at-if1 .if1 .left)) _ _ (at-code-of .code-of .ensures) _ _ (at-is-encoded .is-encoded .ensures) (at-encoding-fits .encoding-fits .ensures) (c .if2 .taken), front-same)
 
 put-front-requires : tie.Need-put-front-requires
 put-front-requires c κs = search needs

@@ -5,7 +5,7 @@ use mathlib.Core.Option.{none}
 use mathlib.Core.Path.{refl}
 use borrow.Author.Needs.{needs}
 use Rattle.octets.specs.Basics.{any}
-use Rattle.octets.proofs.Pen.{then, as-text}
+use Rattle.octets.proofs.Pen.{then, as-text, front-same}
 use Rattle.content.specs.Parameters.{isEncoded}
 use Rattle.jcalproperties.proofs.Typing.{plain-read, plain-front, eight-refused, front-stands}
 use Rattle.jcalproperties.proofs.property.front_plain.Statement.{statement}
@@ -23,7 +23,7 @@ returns c =
     let at-encoding-fits = c .before in
     let at-default-code = at-encoding-fits .before in
     let at-start = at-default-code .before .before .before in
-    eight-refused (at-start .args .name .now) [] none (plain-read (at-start .args .name .now)) _ _ (at-default-code .default-code .ensures) false _ refl (at-encoding-fits .encoding-fits .ensures) (c .if1 .taken)
+    (eight-refused (at-start .args .name .now) [] none (plain-read (at-start .args .name .now)) _ _ (at-default-code .default-code .ensures) false _ refl (at-encoding-fits .encoding-fits .ensures) (c .if1 .taken), front-same)
 
 put-requires : tie.Need-put-requires
 put-requires c κs = search needs

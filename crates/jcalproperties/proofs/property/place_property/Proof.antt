@@ -91,7 +91,8 @@ returns-2 c =
     let at-find = at-front .before .before .before .before in
     let at-parts-of = at-find .before .before in
     let at-start = at-parts-of .before .before .before .before in
-    rw (← parts-line (at-start .args .line .now) (at-parts-of .parts-of .result) (at-parts-of .parts-of .ensures)) ((rw (at-why .why .given .1) at (at-front .front .ensures)) (tableIn (at-start .args .rows .now)) _ (at-find .find .ensures))
+    let f = rw (at-why .why .given .1) at (at-front .front .ensures) in
+    rw (← parts-line (at-start .args .line .now) (at-parts-of .parts-of .result) (at-parts-of .parts-of .ensures)) (f .0 (tableIn (at-start .args .rows .now)) _ (at-find .find .ensures), f .1)
 
 pub place-property-spec : {M : Type 1} → statement M
 place-property-spec =

@@ -46,7 +46,8 @@ returns-2 c =
     let at-put-tested = c .before .before .before .before in
     let at-is-many = at-put-tested .before .before in
     let at-sort-of = at-is-many .before in
-    (rw (at-sort-of .sort-of .ensures, at-is-many .is-many .ensures, c .enum-told .given .1) at (at-put-tested .put-tested .ensures), refl)
+    let t = rw (at-sort-of .sort-of .ensures, at-is-many .is-many .ensures, c .enum-told .given .1) at (at-put-tested .put-tested .ensures) in
+    (t .0, refl, t .1)
 
 pub place-values-spec : {M : Type 1} → statement M
 place-values-spec =

@@ -28,7 +28,8 @@ unfolding passed
 returns-2 c =
     let at-why = c .before in
     let at-place-property = at-why .before .before .before in
-    refused-failed _ _ _ (rw (at-why .why .given .1) at (at-place-property .place-property .ensures))
+    let p = rw (at-why .why .given .1) at (at-place-property .place-property .ensures) in
+    refused-failed _ _ _ (p .0)
 
 pub test-property-spec : {M : Type 1} → statement M
 test-property-spec =
