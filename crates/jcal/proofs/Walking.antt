@@ -37,7 +37,7 @@ use Rattle.jcal.proofs.Ahead.{accepts-tested, next-tested}
 pub item-placed : (t : Table) (l : Line) (first : Bool) (out : List ℕ) (r : Placed) {p m : Pen} → Wrote p (comma first) m → PlacesProperty t l m out r → PlacesItem (readProperty t l) first p out r
 unfolding isAccepted propertyOr
 item-placed t l first out (At q) w z = record { accepts = rw (z .read); wrote = rw (z .read) (behind-it w (z .wrote)) }
-item-placed t l first out (Failed why) w z = z
+item-placed t l first out (Failed why) w z = z .0
 
 -- what stands next is found from an earlier line on
 pub finds-from : (s : List ℕ) (i j : ℕ) (es fs : List (Event Line)) (r : Next) → i ≤ j → es ≡ fs → Finds s j es r → Finds s i fs r

@@ -24,7 +24,7 @@ plain-step : (b : ℕ) (s : List ℕ) → runOctet b ≡ true → all plainOctet
 unfolding all
 plain-step b s h = rw (run-plain b h)
 
--- s is plain if what lies ahead of i is, and to write that from q on is to write all from p on
+-- s is plain if what lies ahead of i is, and to write that from q on, behind what is written so far, is to write all from p on
 pub record Plainly (s : List ℕ) (p q : Pen) (i : ℕ) : Type 0 where
   pub holds : all plainOctet s ≡ all plainOctet (drop i s)
   pub leads : Leads p (quoted s) q (quoted (drop i s))
