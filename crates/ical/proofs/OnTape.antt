@@ -19,7 +19,7 @@ use Rattle.octets.proofs.Limits.{most-text, most-levels, most-open}
 use Rattle.octets.proofs.Cases.{cases, both}
 use Rattle.types.specs.Table.{Table}
 use Rattle.types.specs.Rows.{tableOf}
-use Rattle.types.specs.Laid.{tableIn, roomForRows, readRows}
+use Rattle.types.specs.Laid.{tableIn, laidOf, roomForRows}
 use Rattle.types.proofs.Reading.{rows-written, rows-refused}
 use Rattle.json.specs.Parse.{mostTape}
 use Rattle.skeleton.specs.Checks.{Shapes}
@@ -123,7 +123,7 @@ unfolding mostTape
 tape-is n = refl
 
 -- the added rows, by what was read of them
-module _ (hex o b : List ℕ) {r : Converted} (h : roomForRows ≤ length o) (e : outcome r b ≡ readRows hex o) where
+module _ (hex o b : List ℕ) {r : Converted} (h : roomForRows ≤ length o) (e : outcome r b ≡ answer (laidOf hex) o) where
   pub table-read : {n : ℕ} → r ≡ Written n → (tableOf hex ≡ accepted (tableIn (take (n - 0) (drop 0 b)))) × (n ≤ length b)
   table-read {n} q = let w = rows-written hex o b h n (rw q at e) in (rw (upto b n) (w .table), w .within)
 

@@ -20,7 +20,7 @@ use Rattle.octets.proofs.Answers.{not-accepted, accepted-same, finished-answer}
 use Rattle.json.specs.Print.{print}
 use Rattle.types.specs.Rows.{tableOf}
 use Rattle.types.specs.Table.{Table}
-use Rattle.types.specs.Laid.{tableIn, roomForRows, readRows}
+use Rattle.types.specs.Laid.{tableIn, laidOf, roomForRows}
 use Rattle.types.proofs.Reading.{Read-table, rows-written, rows-refused}
 use Rattle.content.specs.Line.{Line, lineOf}
 use Rattle.content.specs.Lines.{linesOf, laidOut}
@@ -194,7 +194,7 @@ module _ (hex text : List ℕ) where
     rows-right t e = rw (le-leb (length text) mostText h, e)
 
 -- the rows that are read
-module _ (hex o b : List ℕ) (r : Converted) (h : roomForRows ≤ length o) (k : outcome r b ≡ readRows hex o) where
+module _ (hex o b : List ℕ) (r : Converted) (h : roomForRows ≤ length o) (k : outcome r b ≡ answer (laidOf hex) o) where
   pub rows-read : (n : ℕ) → r ≡ Written n → Read-table hex b n
   rows-read n q = rows-written hex o b h n (rw q at k)
 

@@ -6,7 +6,7 @@ use mathlib.Core.List.{List, [], _∷_, _++_, append-assoc, append-nil}
 use mathlib.Core.Option.{Option, none, some}
 use native.Mathlib.Omega.{arith}
 use native.Mathlib.Numerals.{add-one}
-use borrow.Author.Tests.{ne-eqb, eqb-true, eqb-false, le-leb, lt-leb}
+use borrow.Author.Tests.{ne-eqb, eqb-true, le-leb, lt-leb}
 use lib.Dec.{eqb, leb}
 use lib.ListN.{length, getD, take, drop, set}
 use lib.Seq.{take-suc-set}
@@ -22,17 +22,14 @@ use Rattle.types.specs.Table.{Entry, entry}
 use Rattle.types.specs.Laid.{laidRow}
 use Rattle.types.specs.Rows.{octetOf, frameOf, rowOctet, isRow, entryOf, rowOf}
 
--- which codes split
-pub splits-low : (c : ℕ) → c < 2 → splits c ≡ false
+-- of the fourteen codes all but four split, and none beyond them
+pub splits-each : (c : ℕ) → 1 ≤ c → c ≤ 14 → (c ≡ 1 → ⊥) → (c ≡ 3 → ⊥) → (c ≡ 10 → ⊥) → (c ≡ 13 → ⊥) → splits c ≡ true
 unfolding splits
-splits-low c h = same? c 0 (λ e. rw e) (λ e. let q : c ≡ 1 = low (eqb-false c 0 e) in rw q)
-  where
-    low : (c ≡ 0 → ⊥) → c ≡ 1
-    low n = omega arith
+splits-each c h k a b d e = rw (within-between 1 14 c h k, ne-eqb c 1 a, ne-eqb c 3 b, ne-eqb c 10 d, ne-eqb c 13 e)
 
-pub splits-rest : (c : ℕ) → 2 ≤ c → (c ≡ 3 → ⊥) → (c ≡ 10 → ⊥) → (c ≡ 13 → ⊥) → splits c ≡ true
+pub splits-beyond : (c : ℕ) → 13 ≤ c → (c ≡ 13 → ⊥) → (c ≡ 14 → ⊥) → splits c ≡ false
 unfolding splits
-splits-rest c h a b d = rw (ne-eqb c 0 (λ e. omega arith), ne-eqb c 1 (λ e. omega arith), ne-eqb c 3 a, ne-eqb c 10 b, ne-eqb c 13 d)
+splits-beyond c h a b = rw (above-between 1 14 c (omega arith))
 
 -- a frame is a row: the tests in the code's order
 is-some-when : {A : Type 0} (b : Bool) (a : A) → isSome (when b a) ≡ b

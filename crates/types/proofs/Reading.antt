@@ -1,12 +1,12 @@
 -- Reading a file of rows into a lent buffer: what is left there, and what it tells of the table.
-use Prim.Native.Nat.{ℕ, suc, _+_, _*_, _≤_, _<_}
+use Prim.Native.Nat.{ℕ, suc, _+_, _*_, _-_, _≤_}
 use Prim.Native.Char.{code}
 use mathlib.Core.Path.{_≡_, refl, sym, ap, _∙_}
 use mathlib.Core.Bool.{not}
 use mathlib.Core.List.{List, [], _∷_, _++_}
 use mathlib.Core.Option.{Option, none, some}
 use native.Mathlib.Omega.{arith}
-use borrow.Author.Tests.{lt-ltb, le-ltb, le-leb, leb-true}
+use borrow.Author.Tests.{le-leb, leb-true}
 use lib.Dec.{leb}
 use lib.ListN.{length, take, drop, replicate, length-append}
 use lib.Seq.{take-append-seam}
@@ -23,10 +23,11 @@ use Rattle.octets.proofs.Cases.{both}
 use Rattle.octets.proofs.Limits.{most-rows}
 use Rattle.octets.proofs.Optional.{map-is, guard-is, then-is, each-none, each-is}
 use Rattle.octets.proofs.Answers.{finished-answer}
-use Rattle.octets.proofs.Pen.{landed, kept}
+use Rattle.octets.proofs.Positions.{upto}
+use Rattle.octets.proofs.Pen.{as-text, Landed, landed}
 use Rattle.types.specs.Table.{Table, namesOf, defaults}
 use Rattle.types.specs.Rows.{rowOf, endedLines, rowsOf, mayJoin, tableOf}
-use Rattle.types.specs.Laid.{laidRow, laid, rowsIn, tableIn, laidOf, roomForRows, readRows}
+use Rattle.types.specs.Laid.{laidRow, laid, rowsIn, tableIn, laidOf, roomForRows}
 use Rattle.types.specs.Reading.{penBehind}
 use Rattle.types.specs.declared.rows.Laid.the-variants.{Upto, Malformed}
 use Rattle.types.proofs.Laid.{rows-again}
@@ -83,35 +84,32 @@ module _ (hex : List ℕ) where
   unfolding laidOf map? orElse
   some-laid es e = rw e
 
--- what the code leaves is what the definition says
-module _ (hex o : List ℕ) where
-  pub short-buffer : length o < roomForRows → answer (refused 10) o ≡ readRows hex o
-  unfolding readRows answer
-  short-buffer h = rw (lt-ltb (length o) roomForRows h)
+-- what laying out rows leaves is what the definition says
+module _ (hex o b : List ℕ) where
+  pub malformed : penBehind Malformed b ≡ map? (λ es. wrote (pen o 0) (laid es)) (guard mayJoin (rowsOf hex)) → (rows c : List ℕ) → length c ≡ length rows → answer (refused 2) c ≡ answer (laidOf hex) rows
+  unfolding penBehind answer zeroed
+  malformed e rows c l = rw (none-laid hex (map-none (λ es. wrote (pen o 0) (laid es)) (guard mayJoin (rowsOf hex)) (sym e)), l)
 
-  module _ (h : roomForRows ≤ length o) where
-    enough : readRows hex o ≡ answer (laidOf hex) o
-    unfolding readRows
-    enough = rw (le-ltb (length o) roomForRows h)
+  -- in a buffer with room for any file they stand at the front
+  module _ (h : roomForRows ≤ length o) (n : ℕ) (e : penBehind (Upto n) b ≡ map? (λ es. wrote (pen o 0) (laid es)) (guard mayJoin (rowsOf hex))) where
+    there {ℓ} : {P : Type ℓ} → ((es : Table) → laidOf hex ≡ accepted (laid es) → length (laid es) ≤ length o → Landed o (laid es) b n → P) → P
+    unfolding penBehind
+    there k =
+        map-is (λ es. wrote (pen o 0) (laid es)) (guard mayJoin (rowsOf hex)) (pen b n) (sym e)
+        (λ es q w.
+        let f : length (laid es) ≤ length o = omega (arith, file-fits hex es q) in
+        k es (some-laid hex es q) f (landed o (laid es) b n f (record { is = sym w })))
 
-    module _ (b : List ℕ) where
-      pub malformed : length b ≡ length o → penBehind Malformed b ≡ map? (λ es. wrote (pen o 0) (laid es)) (guard mayJoin (rowsOf hex)) → answer (refused 2) b ≡ readRows hex o
-      unfolding penBehind answer zeroed
-      malformed l e =
-          let q = map-none (λ es. wrote (pen o 0) (laid es)) (guard mayJoin (rowsOf hex)) (sym e) in
-          rw (enough, none-laid hex q, l)
+    pub rows-within : n ≤ length b
+    rows-within = there (λ es _ _ l. rw (l .count, l .buffer, length-append) (omega arith))
 
-      laid-out : (n : ℕ) (es : Table) → guard mayJoin (rowsOf hex) ≡ some es → Wrote (pen o 0) (laid es) (pen b n) → outcome (Written n) b ≡ readRows hex o
-      unfolding outcome finished
-      laid-out n es q w =
-          let f = file-fits hex es q in
-          let l = landed o (laid es) b n (omega arith) w in
-          let k : n ≤ length b = omega (arith, l .count, kept w) in
-          rw (enough, some-laid hex es q, ← finished-answer o (laid es) b n w, le-leb n (length b) k)
+    pub written : outcome (Written n) b ≡ answer (laidOf hex) o
+    unfolding outcome answer
+    written = there (λ es q k l. rw (q, le-leb (length (laid es)) (length o) k, l .count, l .buffer))
 
-      pub written : (n : ℕ) → penBehind (Upto n) b ≡ map? (λ es. wrote (pen o 0) (laid es)) (guard mayJoin (rowsOf hex)) → outcome (Written n) b ≡ readRows hex o
-      unfolding penBehind
-      written n e = map-is (λ es. wrote (pen o 0) (laid es)) (guard mayJoin (rowsOf hex)) (pen b n) (sym e) (λ es q w. laid-out n es q (record { is = sym w }))
+    pub copied : (r : Settled) (rows c : List ℕ) (at : ℕ) → Wrote (pen rows 0) (take (n - 0) (drop 0 b)) (pen c at) → r ≡ finished at c → r ≡ answer (laidOf hex) rows
+    copied r rows c at w q =
+        there (λ es a _ l. q ∙ finished-answer rows (laid es) c at (as-text w (upto b n ∙ l .front)) ∙ rw a)
 
 -- what is laid out stands for the file's table
 pub table-laid : (hex : List ℕ) → tableOf hex ≡ then (laidOf hex) (λ s. accepted (tableIn s))
@@ -128,15 +126,15 @@ pub record Read-table (hex b : List ℕ) (n : ℕ) : Type 0 where
   pub within : n ≤ length b
 
 module _ (hex o b : List ℕ) (h : roomForRows ≤ length o) where
-  read-none : guard mayJoin (rowsOf hex) ≡ none → readRows hex o ≡ settled 2 0 (replicate (length o) 0)
+  read-none : guard mayJoin (rowsOf hex) ≡ none → answer (laidOf hex) o ≡ settled 2 0 (replicate (length o) 0)
   unfolding answer zeroed
-  read-none q = enough hex o h ∙ rw (none-laid hex q)
+  read-none q = rw (none-laid hex q)
 
-  read-some : (es : Table) → guard mayJoin (rowsOf hex) ≡ some es → readRows hex o ≡ settled 0 (length (laid es)) (laid es ++ drop (length (laid es)) o)
+  read-some : (es : Table) → guard mayJoin (rowsOf hex) ≡ some es → answer (laidOf hex) o ≡ settled 0 (length (laid es)) (laid es ++ drop (length (laid es)) o)
   unfolding answer
-  read-some es q = let f = file-fits hex es q in enough hex o h ∙ rw (some-laid hex es q, le-leb (length (laid es)) (length o) (omega arith))
+  read-some es q = let f = file-fits hex es q in rw (some-laid hex es q, le-leb (length (laid es)) (length o) (omega arith))
 
-  pub rows-written : (n : ℕ) → outcome (Written n) b ≡ readRows hex o → Read-table hex b n
+  pub rows-written : (n : ℕ) → outcome (Written n) b ≡ answer (laidOf hex) o → Read-table hex b n
   unfolding outcome then
   rows-written n e = by (guard mayJoin (rowsOf hex)) refl
     where
@@ -153,7 +151,7 @@ module _ (hex o b : List ℕ) (h : roomForRows ≤ length o) where
       by none q = let z : _≡_ {A = ℕ} 0 2 = ap (λ (s : Settled). s .number) (e ∙ read-none q) in absurd (omega arith)
       by (some es) q = laid-there es q (e ∙ read-some es q)
 
-  pub rows-refused : (w : Refusal) → outcome (Refused w) b ≡ readRows hex o → (tableOf hex ≡ refused 2) × (number w ≡ 2)
+  pub rows-refused : (w : Refusal) → outcome (Refused w) b ≡ answer (laidOf hex) o → (tableOf hex ≡ refused 2) × (number w ≡ 2)
   unfolding outcome then
   rows-refused w e = by (guard mayJoin (rowsOf hex)) refl
     where

@@ -4,7 +4,8 @@ use mathlib.Core.Bool.{Bool, not}
 use mathlib.Core.List.{List, [], _∷_}
 use lib.Dec.{eqb}
 use lib.ListN.{getD}
-use Rattle.octets.specs.Basics.{octets, pick, _or_, same}
+use Rattle.octets.specs.Basics.{octets, pick, _and_, _or_, same}
+use Rattle.octets.specs.Classes.{between}
 
 -- what passes unprocessed: "unknown" and the types outside the fourteen
 abbrev pub unprocessed : ℕ
@@ -71,6 +72,6 @@ placeFrom k n (m ∷ ms) = pick (same n m) k (placeFrom (suc k) n ms)
 unfoldable pub codeNamed : List ℕ → ℕ
 codeNamed n = placeFrom 1 n typeNames
 
--- 01, Values: values split at commas, except binary, cal-address, recur and uri
+-- 01, Values: values of the fourteen types split at commas, except binary, cal-address, recur and uri
 unfoldable pub splits : ℕ → Bool
-splits c = not (eqb c unprocessed or eqb c binary or eqb c calAddress or eqb c recur or eqb c uri)
+splits c = between binary utcOffset c and not (eqb c binary or eqb c calAddress or eqb c recur or eqb c uri)

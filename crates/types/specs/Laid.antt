@@ -2,12 +2,12 @@
 use Prim.Native.Nat.{ℕ, zero, suc, _+_, _*_}
 use mathlib.Core.List.{List, [], _∷_, _++_}
 use mathlib.Core.Option.{Option, none, some}
-use lib.Dec.{eqb, leb, ltb}
+use lib.Dec.{eqb, leb}
 use lib.ListN.{length, getD, take, drop}
 use Rattle.octets.specs.Basics.{pick}
 use Rattle.octets.specs.Optional.{map?, guard}
 use Rattle.octets.specs.Limits.{mostRows}
-use Rattle.octets.specs.Answers.{Answer, orElse, Settled, zeroed, answer}
+use Rattle.octets.specs.Answers.{Answer, orElse}
 use Rattle.types.specs.Table.{Row, Entry, entry, Table, defaults}
 use Rattle.types.specs.Rows.{rowsOf, mayJoin}
 use Rattle.types.specs.declared.Found.{Found}
@@ -38,14 +38,10 @@ unfoldable pub rowFound : Found → Option Row
 rowFound (Listed c m) = some (record { code = c; many = m })
 rowFound Unlisted = none
 
--- the rows of a file laid out, unless it is refused
+-- the rows of a file laid out; malformed ones are refused
 unfoldable pub laidOf : List ℕ → Answer (List ℕ)
 laidOf hex = orElse 2 (map? laid (guard mayJoin (rowsOf hex)))
 
--- octets that the longest rows take: three, and 32 of the name
+-- octets that the rows of a file take at most, each row three and 32 of its name
 unfoldable pub roomForRows : ℕ
 roomForRows = mostRows * 35
-
--- what reading a file into a lent buffer leaves; a buffer that is too short for some file is 10 for every file
-unfoldable pub readRows : List ℕ → List ℕ → Settled
-readRows hex rows = pick (ltb (length rows) roomForRows) (zeroed 10 rows) (answer (laidOf hex) rows)

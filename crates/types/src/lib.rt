@@ -4,6 +4,7 @@ mod rows;
 mod table;
 
 pub use codes::code_named;
+pub use codes::does_split;
 pub use codes::is_unknown;
 pub use codes::put_type_name;
 pub use rows::read_rows;

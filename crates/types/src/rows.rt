@@ -7,18 +7,20 @@ ghost use Rattle.octets.specs.Basics.{_and_, _or_, all};
 ghost use Rattle.octets.specs.Classes.{between};
 ghost use Rattle.octets.specs.Optional.{map?, isSome, guard};
 ghost use Rattle.octets.specs.Pen.{pen, wrote};
-ghost use Rattle.octets.specs.Answers.{outcome};
+ghost use Rattle.octets.specs.Answers.{outcome, answer};
 ghost use Rattle.types.specs.Codes.{binary, utcOffset, splits};
 ghost use Rattle.types.specs.Table.{find};
 ghost use Rattle.types.specs.Rows.{rowOctet, entryOf, rowOf, rowsOf, mayJoin};
-ghost use Rattle.types.specs.Laid.{laidRow, laid, tableIn, roomForRows, readRows};
+ghost use Rattle.types.specs.Laid.{laidRow, laid, tableIn, laidOf, roomForRows};
 ghost use Rattle.types.specs.Reading.{firstLine, unlisted, penBehind};
 use crate::Found;
 use crate::ROOM_FOR_ROWS;
+use crate::codes::does_split;
 use crate::table::find;
 use octets::Converted;
 use octets::MOST_ROWS;
 use octets::Refusal;
+use octets::finish;
 use octets::hex_digit;
 use octets::is_digit;
 use octets::is_upper;
@@ -35,13 +37,27 @@ enum Laid {
 
 // Reads the content of rows.hex, and lays its rows out at the front of a buffer.
 pub fn read_rows(hex: &[u8], rows: &mut [u8]) -> Converted
-    ensures { λ r. ⌜ outcome r (now (rows .exit)) ≡ readRows (now (hex .entry)) (now (rows .entry)) ⌝ }
+    ensures { λ r. ⌜ outcome r (now (rows .exit)) ≡ answer (laidOf (now (hex .entry))) (now (rows .entry)) ⌝ }
 {
     if rows.len() < ROOM_FOR_ROWS {
-        return refuse(rows, Refusal::NoRoom);
+        return read_apart(&*hex, rows);
     }
     match lay_rows(&*hex, rows) {
         Laid::Upto(n) => Converted::Written(n),
+        Laid::Malformed => refuse(rows, Refusal::RowsMalformed),
+    }
+}
+
+// The same where the rows of some file have no room: they are laid out apart, and copied if they fit.
+fn read_apart(hex: &[u8], rows: &mut [u8]) -> Converted
+    ensures { λ r. ⌜ outcome r (now (rows .exit)) ≡ answer (laidOf (now (hex .entry))) (now (rows .entry)) ⌝ }
+{
+    let mut room = [0u8; ROOM_FOR_ROWS];
+    match lay_rows(&*hex, &mut room) {
+        Laid::Upto(n) => {
+            let end = put_all(rows, 0, &room[0..n]);
+            finish(rows, end)
+        }
         Laid::Malformed => refuse(rows, Refusal::RowsMalformed),
     }
 }
@@ -185,16 +201,6 @@ fn is_kind(code: u8, many: u8) -> bool
         0 => true,
         1 => does_split(code),
         _ => false,
-    }
-}
-
-// Values of a type split at commas.
-fn does_split(code: u8) -> bool
-    ensures { λ r. ⌜ r ≡ splits code ⌝ }
-{
-    match code {
-        0 | 1 | 3 | 10 | 13 => false,
-        _ => true,
     }
 }
 
