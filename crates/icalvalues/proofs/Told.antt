@@ -6,7 +6,9 @@ use mathlib.Core.Bool.{Bool, true, false}
 use mathlib.Core.List.{List}
 use Rattle.octets.specs.Basics.{_and_}
 use Rattle.octets.specs.Optional.{holds}
+use Rattle.octets.specs.Classes.{between}
 use Rattle.octets.proofs.Cases.{and-false-right}
+use Rattle.types.specs.Codes as typed
 use Rattle.json.specs.Tree.{null, object?}
 use Rattle.json.specs.Tape.{tagEnd}
 use Rattle.content.specs.Folding.{FoldPen, Folded}
@@ -44,7 +46,7 @@ no-rule = refl
 
 module _ (many : Bool) (t : List ℕ) (i : ℕ) where
   rules : valuesAre many recur (listAt t i) ≡ taken false (valueIs recur) (listAt t i)
-  unfolding valuesAre splits taken
+  unfolding valuesAre splits typed.splits between taken
   rules = rw (and-false-right many)
 
   pub rule-stop : valueIs recur (valueAt t i) ≡ false → valuesAre many recur (listAt t i) ≡ false

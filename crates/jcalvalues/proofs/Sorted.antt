@@ -5,6 +5,8 @@ use mathlib.Core.List.{List, [], _∷_, map}
 use mathlib.Core.Option.{Option, none, some}
 use Rattle.octets.specs.Basics.{pick}
 use Rattle.octets.specs.Optional.{map?, both?, each}
+use Rattle.octets.specs.Classes.{between}
+use Rattle.types.specs.Codes as typed
 use Rattle.json.specs.Tree.{Json, str}
 use Rattle.values.specs.Sorts.{Sort, plain, binary, boolean, date, dateTime, duration, float, geo, integer, period, recur, text, status, time, utcOffset, splits}
 use Rattle.values.specs.Texts.{texts}
@@ -18,7 +20,7 @@ alone-each none = refl
 alone-each (some j) = refl
 
 pub sorted : (sort : Sort) (s : List ℕ) → readValues sort s ≡ pick (isText sort) (map? (map str) (texts s)) (each (readOne sort) (pieces (splits sort) s))
-unfolding readValues listed readOne isText splits pieces each
+unfolding readValues listed readOne isText splits typed.splits between pieces each
 sorted plain s = alone-each _
 sorted binary s = alone-each _
 sorted boolean s = refl

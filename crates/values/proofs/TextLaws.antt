@@ -12,12 +12,13 @@ use lib.Dec.{eqb}
 use Rattle.octets.specs.Basics.{octets, _and_, _or_, all, filled, All}
 use Rattle.octets.specs.Pieces.{onto, joined}
 use Rattle.octets.specs.Optional.{map?, when, guard, holds, given}
-use Rattle.octets.specs.Classes.{isControl, plainOctet, textOctet}
+use Rattle.octets.specs.Classes.{between, isControl, plainOctet, textOctet}
 use Rattle.octets.specs.Utf8.{utf8, clean}
 use Rattle.octets.proofs.Cases.{cases, same?, never, both, and-true, either, or-first, apart-not, all-All, All-all, All-weaker}
 use Rattle.octets.proofs.Optional.{missing, some-same, map-is, guard-is}
 use Rattle.octets.proofs.Utf8.{ascii, ascii-high, utf8-joined}
 use Rattle.octets.proofs.Transducer.{Runs, Keeps, run-all, run-utf8}
+use Rattle.types.specs.Codes as typed
 use Rattle.json.specs.Tree.{Json, str, arr, string?, number?, array?, itemsOf, listOf, octetsOf, elements}
 use Rattle.values.specs.Sorts.{text, status, splits}
 use Rattle.values.specs.Texts.{Act, add, next, escape, stop, act, escapes, done, textsFrom, texts, fields, textIs, escapedOctet, textText}
@@ -330,7 +331,7 @@ unfolding valueIs
 text-is t h = string-is t h
 
 text-splits : splits text ≡ true
-unfolding splits
+unfolding splits typed.splits between
 text-splits = refl
 
 map-text : (ts : List (List ℕ)) → map (valueText text) (map str ts) ≡ map textText ts

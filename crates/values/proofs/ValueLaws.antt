@@ -8,12 +8,13 @@ use mathlib.Core.Option.{some}
 use Rattle.octets.specs.Basics.{_and_, _or_, all, single}
 use Rattle.octets.specs.Pieces.{joined}
 use Rattle.octets.specs.Optional.{map?, guard, given}
-use Rattle.octets.specs.Classes.{plainOctet, upper}
+use Rattle.octets.specs.Classes.{between, plainOctet, upper}
 use Rattle.octets.specs.Utf8.{utf8, clean}
 use Rattle.octets.proofs.Cases.{cases, both, and-true, or-second}
 use Rattle.octets.proofs.Optional.{guard-is, when-true}
 use Rattle.calendar.specs.Dates.{dateOf, timeOf, dateTimeOf, offsetOf}
 use Rattle.calendar.specs.Durations.{durationOf}
+use Rattle.types.specs.Codes as typed
 use Rattle.json.specs.Tree.{Json, str, string?, number?, octetsOf}
 use Rattle.values.specs.Sorts.{Sort, plain, binary, boolean, date, dateTime, duration, float, geo, integer, period, recur, text, status, time, utcOffset, sortOf, splits}
 use Rattle.values.specs.Simple.{booleanOf, floatOf, integerOf}
@@ -29,19 +30,19 @@ use Rattle.values.proofs.RecurLaws.{recur-law}
 pub values-held : (sort : Sort) (raw : List ℕ) (vs : List Json) → readValues sort raw ≡ some vs → Held sort raw vs
 values-held plain = alone-held plain readPlain plain-law (λ s. unfold readValues in refl)
 values-held binary = alone-held binary readBinary binary-law (λ s. unfold readValues in refl)
-values-held boolean = listed-held boolean (λ v. booleanOf (upper v)) boolean-law (λ s. unfold readValues in refl) (unfold splits in refl)
-values-held date = listed-held date (asString dateOf) date-law (λ s. unfold readValues in refl) (unfold splits in refl)
-values-held dateTime = listed-held dateTime (asString dateTimeOf) date-time-law (λ s. unfold readValues in refl) (unfold splits in refl)
-values-held duration = listed-held duration (asString durationOf) duration-law (λ s. unfold readValues in refl) (unfold splits in refl)
-values-held float = listed-held float (asNumber floatOf) float-law (λ s. unfold readValues in refl) (unfold splits in refl)
+values-held boolean = listed-held boolean (λ v. booleanOf (upper v)) boolean-law (λ s. unfold readValues in refl) (unfold splits typed.splits between in refl)
+values-held date = listed-held date (asString dateOf) date-law (λ s. unfold readValues in refl) (unfold splits typed.splits between in refl)
+values-held dateTime = listed-held dateTime (asString dateTimeOf) date-time-law (λ s. unfold readValues in refl) (unfold splits typed.splits between in refl)
+values-held duration = listed-held duration (asString durationOf) duration-law (λ s. unfold readValues in refl) (unfold splits typed.splits between in refl)
+values-held float = listed-held float (asNumber floatOf) float-law (λ s. unfold readValues in refl) (unfold splits typed.splits between in refl)
 values-held geo = alone-held geo readGeo geo-law (λ s. unfold readValues in refl)
-values-held integer = listed-held integer (asNumber integerOf) integer-law (λ s. unfold readValues in refl) (unfold splits in refl)
-values-held period = listed-held period readPeriod period-law (λ s. unfold readValues in refl) (unfold splits in refl)
+values-held integer = listed-held integer (asNumber integerOf) integer-law (λ s. unfold readValues in refl) (unfold splits typed.splits between in refl)
+values-held period = listed-held period readPeriod period-law (λ s. unfold readValues in refl) (unfold splits typed.splits between in refl)
 values-held recur = alone-held recur (λ s. recurOf (upper s)) recur-law (λ s. unfold readValues in refl)
 values-held text = text-held
 values-held status = alone-held status readStatus status-law (λ s. unfold readValues in refl)
-values-held time = listed-held time (asString timeOf) time-law (λ s. unfold readValues in refl) (unfold splits in refl)
-values-held utcOffset = listed-held utcOffset (asString offsetOf) offset-law (λ s. unfold readValues in refl) (unfold splits in refl)
+values-held time = listed-held time (asString timeOf) time-law (λ s. unfold readValues in refl) (unfold splits typed.splits between in refl)
+values-held utcOffset = listed-held utcOffset (asString offsetOf) offset-law (λ s. unfold readValues in refl) (unfold splits typed.splits between in refl)
 
 -- jCal's tests, for a name that may have many values, or one that has one
 pub values-are : (sort : Sort) (raw : List ℕ) (vs : List Json) → Held sort raw vs → (many : Bool) → (many or single vs) ≡ true → valuesAre many sort vs ≡ true

@@ -1,6 +1,6 @@
 -- What rules a value, by the property's name and the type's code (01, Which type and Values).
 use Prim.Native.Nat.{ℕ}
-use mathlib.Core.Bool.{Bool, true, false}
+use mathlib.Core.Bool.{Bool, false}
 use mathlib.Core.List.{List}
 use lib.Dec.{eqb}
 use Rattle.octets.specs.Basics.{octets, pick, same}
@@ -26,20 +26,20 @@ sortOf n c =
     (pick (eqb c code.time) time
     (pick (eqb c code.utcOffset) utcOffset plain)))))))))))
 
--- values of these sorts split at commas; the others stand alone
+-- values split at commas as their type says, plain ones as URIs; GEO and REQUEST-STATUS are one array each
 unfoldable pub splits : Sort → Bool
-splits plain = false
-splits binary = false
-splits boolean = true
-splits date = true
-splits dateTime = true
-splits duration = true
-splits float = true
+splits plain = code.splits code.uri
+splits binary = code.splits code.binary
+splits boolean = code.splits code.boolean
+splits date = code.splits code.date
+splits dateTime = code.splits code.dateTime
+splits duration = code.splits code.duration
+splits float = code.splits code.float
 splits geo = false
-splits integer = true
-splits period = true
-splits recur = false
-splits text = true
+splits integer = code.splits code.integer
+splits period = code.splits code.period
+splits recur = code.splits code.recur
+splits text = code.splits code.text
 splits status = false
-splits time = true
-splits utcOffset = true
+splits time = code.splits code.time
+splits utcOffset = code.splits code.utcOffset

@@ -1,11 +1,11 @@
 // What rules a value, by the property's name and the type's code.
 ghost use mathlib.Core.Path.{_≡_};
-ghost use Prim.Native.Nat.{_≤_};
 ghost use Rattle.octets.specs.Classes.{lower};
 ghost use Rattle.values.specs.Sorts.{sortOf, splits};
 ghost use Rattle.values.specs.Single.{isText};
 ghost use Rattle.values.specs.Coded.{sortSaid};
 use octets::same_name;
+use types::does_split;
 
 // Unprocessed values, URIs and cal-addresses are plain; GEO as float and REQUEST-STATUS as text have sorts of their own.
 pub enum Sort {
@@ -26,34 +26,26 @@ pub enum Sort {
     UtcOffset,
 }
 
-// The sort of a value, by the codes 1 to 14; the types from date to period split at commas, and so do boolean, text, time and UTC offset.
+// The sort of a value, by the codes 1 to 14: each type has its own rule.
 pub fn sort_of(name: &[u8], code: u8) -> Sort
     ensures { λ r. ⌜ sortSaid r ≡ sortOf (lower (now (name .entry))) code ⌝ }
 {
     match code {
         1 => Sort::Binary,
         2 => Sort::Boolean,
-        4..=9 => date_to_period(&*name, code),
-        10 => Sort::Recur,
-        11 => text_sort(&*name),
-        12 => Sort::Time,
-        14 => Sort::UtcOffset,
-        _ => Sort::Plain,
-    }
-}
-
-// The sort of a value of one of the types from date to period.
-fn date_to_period(name: &[u8], code: u8) -> Sort
-    requires { ⌜ (4 ≤ code) × (code ≤ 9) ⌝ }
-    ensures { λ r. ⌜ sortSaid r ≡ sortOf (lower (now (name .entry))) code ⌝ }
-{
-    match code {
+        3 => Sort::Plain,
         4 => Sort::Date,
         5 => Sort::DateTime,
         6 => Sort::Duration,
-        7 => float_sort(name),
+        7 => float_sort(&*name),
         8 => Sort::Integer,
-        _ => Sort::Period,
+        9 => Sort::Period,
+        10 => Sort::Recur,
+        11 => text_sort(&*name),
+        12 => Sort::Time,
+        13 => Sort::Plain,
+        14 => Sort::UtcOffset,
+        _ => Sort::Plain,
     }
 }
 
@@ -101,26 +93,26 @@ impl Sort {
         }
     }
 
-    // Its values split at commas.
+    // Its values split at commas, as its type says, plain ones as URIs do; but GEO and REQUEST-STATUS are one array each.
     pub fn splits(self) -> bool
         ensures { λ r. ⌜ r ≡ splits (sortSaid self) ⌝ }
     {
         match self {
-            Sort::Plain => false,
-            Sort::Binary => false,
-            Sort::Boolean => true,
-            Sort::Date => true,
-            Sort::DateTime => true,
-            Sort::Duration => true,
-            Sort::Float => true,
+            Sort::Plain => does_split(13),
+            Sort::Binary => does_split(1),
+            Sort::Boolean => does_split(2),
+            Sort::Date => does_split(4),
+            Sort::DateTime => does_split(5),
+            Sort::Duration => does_split(6),
+            Sort::Float => does_split(7),
             Sort::Geo => false,
-            Sort::Integer => true,
-            Sort::Period => true,
-            Sort::Recur => false,
-            Sort::Text => true,
+            Sort::Integer => does_split(8),
+            Sort::Period => does_split(9),
+            Sort::Recur => does_split(10),
+            Sort::Text => does_split(11),
             Sort::Status => false,
-            Sort::Time => true,
-            Sort::UtcOffset => true,
+            Sort::Time => does_split(12),
+            Sort::UtcOffset => does_split(14),
         }
     }
 }

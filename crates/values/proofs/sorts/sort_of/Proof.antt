@@ -1,6 +1,5 @@
 -- `values::sorts::sort_of` meets its contract.
 use mathlib.Core.Path.{sym}
-use native.Mathlib.Omega.{arith}
 use borrow.Author.Needs.{needs}
 use Rattle.values.specs.Coded.{sortSaid}
 use Rattle.values.specs.Sorts.{sortOf}
@@ -8,36 +7,15 @@ use Rattle.values.proofs.Naming.{plain-sort}
 use Rattle.values.proofs.sorts.sort_of.Statement.{statement}
 use Rattle.values.proofs.sorts.sort_of.Tie as tie
 
-returns : tie.Need-returns
-unfolding sortSaid sortOf
-returns c = rw (c .match .keys1)
+returns-7 : tie.Need-returns-7
+returns-7 c = rw (c .before .match .keys7) (c .float-sort .ensures)
 
-returns-2 : tie.Need-returns-2
-unfolding sortSaid sortOf
-returns-2 c = rw (c .match .keys2)
+returns-11 : tie.Need-returns-11
+returns-11 c = rw (c .before .match .keys11) (c .text-sort .ensures)
 
-returns-3 : tie.Need-returns-3
-unfolding sortSaid sortOf
-returns-3 c = rw (c .match .keys3)
-
-returns-4 : tie.Need-returns-4
-returns-4 c = rw (c .before .match .keys4) (c .text-sort .ensures)
-
-returns-5 : tie.Need-returns-5
-unfolding sortSaid sortOf
-returns-5 c = rw (c .match .keys5)
-
-returns-6 : tie.Need-returns-6
-unfolding sortSaid sortOf
-returns-6 c = rw (c .match .keys6)
-
-returns-8 : tie.Need-returns-8
+returns-15 : tie.Need-returns-15
 unfolding sortSaid
-returns-8 c = sym (plain-sort _ (c .before .before .before .args .code) (λ l h. omega arith) (c .before .match .rest .0 .0 .0 .0 .0 .1) (c .before .match .rest .0 .0 .0 .0 .1) (c .before .match .rest .0 .0 .0 .1) (c .before .match .rest .0 .0 .1) (c .before .match .rest .0 .1) (c .before .match .rest .1))
-
-returns-9 : tie.Need-returns-9
-unfolding sortSaid
-returns-9 c = sym (plain-sort _ (c .before .before .before .before .args .code) (λ l h. omega arith) (c .before .before .match .rest .0 .0 .0 .0 .0 .1) (c .before .before .match .rest .0 .0 .0 .0 .1) (c .before .before .match .rest .0 .0 .0 .1) (c .before .before .match .rest .0 .0 .1) (c .before .before .match .rest .0 .1) (c .before .before .match .rest .1))
+returns-15 c = let r = c .match .rest in sym (plain-sort _ _ (r .0 .0 .0 .0 .0 .0 .0 .0 .0 .0 .0 .0 .0 .1) (r .0 .0 .0 .0 .0 .0 .0 .0 .0 .0 .0 .0 .1) (r .0 .0 .0 .0 .0 .0 .0 .0 .0 .0 .1) (r .0 .0 .0 .0 .0 .0 .0 .0 .0 .1) (r .0 .0 .0 .0 .0 .0 .0 .0 .1) (r .0 .0 .0 .0 .0 .0 .0 .1) (r .0 .0 .0 .0 .0 .0 .1) (r .0 .0 .0 .0 .0 .1) (r .0 .0 .0 .0 .1) (r .0 .0 .0 .1) (r .0 .0 .1) (r .1))
 
 pub sort-of-spec : {M : Type 1} → statement M
 sort-of-spec =
@@ -45,12 +23,18 @@ sort-of-spec =
     (tie.spec
     (λ c κs. search needs)
     (λ c κs. search needs)
-    returns
-    returns-2
-    returns-3
-    returns-4
-    returns-5
-    returns-6
-    (λ c. search needs)
-    returns-8
-    returns-9)
+    (λ c. unfold sortSaid sortOf in rw (c .match .keys1))
+    (λ c. unfold sortSaid sortOf in rw (c .match .keys2))
+    (λ c. unfold sortSaid sortOf in rw (c .match .keys3))
+    (λ c. unfold sortSaid sortOf in rw (c .match .keys4))
+    (λ c. unfold sortSaid sortOf in rw (c .match .keys5))
+    (λ c. unfold sortSaid sortOf in rw (c .match .keys6))
+    returns-7
+    (λ c. unfold sortSaid sortOf in rw (c .match .keys8))
+    (λ c. unfold sortSaid sortOf in rw (c .match .keys9))
+    (λ c. unfold sortSaid sortOf in rw (c .match .keys10))
+    returns-11
+    (λ c. unfold sortSaid sortOf in rw (c .match .keys12))
+    (λ c. unfold sortSaid sortOf in rw (c .match .keys13))
+    (λ c. unfold sortSaid sortOf in rw (c .match .keys14))
+    returns-15)
