@@ -5,17 +5,47 @@ ghost use lib.ListN.{length};
 ghost use Rattle.octets.specs.Answers.{outcome};
 use octets::Converted;
 
-// Reads a file, and answers its length; 0 where there is none.
+// Octets that are read of standard input: one more than the longest text that is not refused.
+pub const ROOM_FOR_TEXT: usize = octets::MOST_TEXT + 1;
+
+// Octets that are read of rows.hex: one more than the longest file that is not refused, of lines with 34 octets in hexadecimal.
+pub const ROOM_FOR_FILE: usize = 69 * octets::MOST_ROWS + 1;
+
+// Reads a file as far as there is room, and answers its length; 0 where there is none. Of a file that is there and cannot be read it makes the octet 0 alone,
+// which is no row and no text. A file is not there only where the system says so of its name.
 pub fn load(path: &[u8], buf: &mut [u8]) -> usize
     ensures { λ r. ⌜ r ≤ length (now (buf .exit)) ⌝ }
 {
     let fd = os::open_read(path);
     if fd < 0 {
-        return 0;
+        if os::errno() == libc::ENOENT {
+            return 0;
+        }
+        return unreadable(buf);
     }
     let n = io::read_full(fd, buf);
+    let all = is_all(fd, n, buf.len());
     libc::close(fd);
-    n
+    if all { n } else { unreadable(buf) }
+}
+
+// The n octets that were read are all for which there is room, or all that the file has: one more read finds its end and does not fail.
+fn is_all(fd: i32, n: usize, room: usize) -> bool {
+    if n == room {
+        return true;
+    }
+    let mut next = [0u8; 1];
+    libc::read(fd, &mut next) == 0
+}
+
+fn unreadable(buf: &mut [u8]) -> usize
+    ensures { λ r. ⌜ r ≤ length (now (buf .exit)) ⌝ }
+{
+    if buf.len() == 0 {
+        return 0;
+    }
+    buf[0] = 0;
+    1
 }
 
 fn print_text(out: &[u8], n: usize) -> u8
