@@ -170,11 +170,17 @@ module _ (l : List ℕ) (n c : ℕ) (p : n ≡ 0 + length (untilBare (oneOf (cod
       let r : drop (length (untilBare (oneOf (code ";") (code ":")) false l)) l ≡ drop n l = bare-rest (oneOf (code ";") (code ":")) l 0 n p in
       rw (k .parts, k .rest, r, name-is, sep-before (code ":") l n c q, sep-behind (code ":") l n c q, e)
 
+  colon-is : c ≡ length (before (code ":") false l)
+  colon-is =
+      let r : drop (length (untilBare (oneOf (code ";") (code ":")) false l)) l ≡ drop n l = bare-rest (oneOf (code ";") (code ":")) l 0 n p in
+      rw (skips (code ";") (code ":") false l .whole, r, length-append, ← before-is (code ":") false (drop n l)) (omega arith)
+
   pub cut-colon : c < length l → Cut l (record { name = n; colon = c; value = c + 1 })
   cut-colon h = record {
     name-within = omega arith;
     colon-within = omega arith;
     value-within = omega arith;
+    colon-at = colon-is;
     line = line-is (c + 1) refl;
   }
 
@@ -183,6 +189,7 @@ module _ (l : List ℕ) (n c : ℕ) (p : n ≡ 0 + length (untilBare (oneOf (cod
     name-within = omega arith;
     colon-within = omega arith;
     value-within = bare-high (oneOf (code ":") (code ":")) l n c q (bare-high (oneOf (code ";") (code ":")) l 0 n p (omega arith));
+    colon-at = colon-is;
     line = line-is c (ended l c h ∙ sym (ended l (c + 1) (omega arith)));
   }
 

@@ -12,7 +12,7 @@ use Rattle.octets.specs.Utf8.{clean}
 use Rattle.octets.specs.Pen.{Pen, pen, wrote, Wrote}
 use Rattle.octets.specs.Answers.{unless}
 use Rattle.octets.proofs.Cases.{cases}
-use Rattle.octets.proofs.Pen.{kept, landed, full}
+use Rattle.octets.proofs.Pen.{kept, Landed, landed, full}
 use Rattle.octets.proofs.Positions.{upto}
 use Rattle.content.specs.Lines.{linesOf, laidOut}
 use Rattle.content.specs.Form.{formed}
@@ -33,7 +33,7 @@ module _ (s o b : List ℕ) (r : ℕ) (w : Wrote (pen o 0) (laidOut (linesOf s))
 
   pub read-none : length b < r → ReadLines s o b NoRoom
   unfolding linesTold
-  read-none h = record { buffer = buffer-is; within = tt; told = rw (long h) }
+  read-none h = record { buffer = buffer-is; within = tt; count = tt; told = rw (long h) }
 
   module _ (h : r ≤ length b) where
     short : leb (length (laidOut (linesOf s))) (length o) ≡ true
@@ -41,20 +41,21 @@ module _ (s o b : List ℕ) (r : ℕ) (w : Wrote (pen o 0) (laidOut (linesOf s))
         (λ e. e)
         (λ e. absurd (omega (arith, kept w, ap (λ (p : Pen). p .at) (w .is), full o (laidOut (linesOf s)) 0 (omega arith) (omega (arith, leb-false (length (laidOut (linesOf s))) (length o) e)))))
 
+    laid-there : Landed o (laidOut (linesOf s)) b r
+    laid-there = landed o (laidOut (linesOf s)) b r (leb-true (length (laidOut (linesOf s))) (length o) short) w
+
     lines-are : linesIn (take (r - 0) (drop 0 b)) ≡ linesOf s
-    lines-are =
-        let l = landed o (laidOut (linesOf s)) b r (leb-true (length (laidOut (linesOf s))) (length o) short) w in
-        ap linesIn (upto b r ∙ l .front) ∙ lines-again (linesOf s) (lines-free s)
+    lines-are = ap linesIn (upto b r ∙ laid-there .front) ∙ lines-again (linesOf s) (lines-free s)
 
     pub read-unclean : all clean (linesIn (take (r - 0) (drop 0 b))) ≡ false → ReadLines s o b NotClean
     unfolding linesTold tested unless
-    read-unclean c = record { buffer = buffer-is; within = tt; told = rw (short, ← lines-are, c) }
+    read-unclean c = record { buffer = buffer-is; within = tt; count = tt; told = rw (short, ← lines-are, c) }
 
     module _ (c : all clean (linesIn (take (r - 0) (drop 0 b))) ≡ true) where
       pub read-unformed : all formed (linesIn (take (r - 0) (drop 0 b))) ≡ false → ReadLines s o b NotFormed
       unfolding linesTold tested unless
-      read-unformed f = record { buffer = buffer-is; within = tt; told = rw (short, ← lines-are, c, f) }
+      read-unformed f = record { buffer = buffer-is; within = tt; count = tt; told = rw (short, ← lines-are, c, f) }
 
       pub read-laid : all formed (linesIn (take (r - 0) (drop 0 b))) ≡ true → ReadLines s o b (Laid r)
       unfolding linesTold tested unless
-      read-laid f = record { buffer = buffer-is; within = h; told = rw (short, ← lines-are, c, f, upto b r) }
+      read-laid f = record { buffer = buffer-is; within = h; count = laid-there .count; told = rw (short, ← lines-are, c, f, upto b r) }

@@ -20,6 +20,8 @@ Bounded n Absent = Unit {0}
 Bounded n (Named from end) = (from ≤ end) × (end ≤ n)
 Bounded n Faulty = Unit {0}
 
+-- `k` is the answer a. The type's name may stand in s at several places: at which of them the bounds of `Named` lie is the code's choice, and the octets
+-- within them are the name.
 pub record Tells (s : List ℕ) (a : Answer (Option (List ℕ))) (k : ValueType) : Type 0 where
   pub is : kindOf s k ≡ a
   pub within : Bounded (length s) k

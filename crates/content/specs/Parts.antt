@@ -6,7 +6,7 @@ use mathlib.Core.Bool.{false}
 use mathlib.Core.List.{List, [], _∷_, map}
 use lib.ListN.{length, getD, take, drop}
 use Rattle.octets.specs.Classes.{lower}
-use Rattle.content.specs.Line.{Param, Line, pieces, unquote, paramValue, paramOf, lineOf}
+use Rattle.content.specs.Line.{Param, Line, before, pieces, unquote, paramValue, paramOf, lineOf}
 use Rattle.content.specs.declared.parts.Parts.{Parts}
 use Rattle.content.specs.declared.parts.ParamParts.{ParamParts}
 use Rattle.content.specs.declared.parts.Span.{Span}
@@ -27,11 +27,13 @@ paramsIn s = map paramOf (others (pieces (code ";") false s))
 unfoldable pub lineAt : List ℕ → Parts → Line
 lineAt l p = record { name = take (p .name) l; params = paramsIn (take (p .colon - p .name) (drop (p .name) l)); value = drop (p .value) l }
 
--- the places of the parts of l
+-- the places of the parts of l, formed or not. Each is fixed: the end of the name and the start of the value by what they cut out, the colon by what stands
+-- before it. Where there is no bare colon, `colon` and `value` are the end of l.
 pub record Cut (l : List ℕ) (p : Parts) : Type 0 where
   pub name-within : p .name ≤ p .colon
   pub colon-within : p .colon ≤ p .value
   pub value-within : p .value ≤ length l
+  pub colon-at : p .colon ≡ length (before (code ":") false l)
   pub line : lineAt l p ≡ lineOf l
 
 -- the parameter that the places cut out of s, where it begins at i

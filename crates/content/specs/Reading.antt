@@ -30,8 +30,16 @@ LaidWithin m NotClean = Unit {0}
 LaidWithin m NotFormed = Unit {0}
 LaidWithin m NoRoom = Unit {0}
 
+-- so many octets are laid out
+abbrev pub LaidUpTo : ℕ → Lines → Type 0
+LaidUpTo m (Laid n) = n ≡ m
+LaidUpTo m NotClean = Unit {0}
+LaidUpTo m NotFormed = Unit {0}
+LaidUpTo m NoRoom = Unit {0}
+
 -- the lines of `text` are laid into the buffer b, which is then `after`
 pub record ReadLines (text b after : List ℕ) (r : Lines) : Type 0 where
   pub buffer : after ≡ (wrote (pen b 0) (laidOut (linesOf text))) .buf
   pub within : LaidWithin (length after) r
+  pub count : LaidUpTo (length (laidOut (linesOf text))) r
   pub told : linesTold after r ≡ pick (leb (length (laidOut (linesOf text))) (length b)) (tested (linesOf text)) (refused 10)

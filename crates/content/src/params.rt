@@ -52,7 +52,7 @@ fn type_at(s: &[u8], from: usize, end: usize) -> ValueType
     ValueType::Named(a, e)
 }
 
-// The type that VALUE names.
+// The type that VALUE names. Of several places that hold its name any may be answered.
 pub fn value_type(s: &[u8]) -> ValueType
     ensures { λ r. ⌜ Tells (now (s .entry)) (valueType (paramsIn (now (s .entry)))) r ⌝ }
 {
