@@ -10,13 +10,9 @@ use Rattle.octets.specs.Pieces.{joined}
 use Rattle.octets.specs.Classes.{between, isDigit, isUpper, isLower, isLetter, nameOctet, isName, upper}
 use Rattle.octets.proofs.Cases.{both, apart, or-false}
 use Rattle.content.specs.Carets.{encodedOctet, encoded}
-use Rattle.content.specs.Write.{asksQuotes, quotedIf, paramValueText, paramText}
+use Rattle.content.specs.Write.{asksQuotes, quotedIf, paramValueText, moreValues, paramText}
 
--- the values behind the first one, each behind its comma
-unfoldable pub moreValues : List (List ℕ) → List ℕ
-moreValues [] = []
-moreValues (v ∷ vs) = (octets "," ++ paramValueText v) ++ moreValues vs
-
+-- the values
 pub joined-values : (v : List ℕ) (vs : List (List ℕ)) → joined (code ",") (map paramValueText (v ∷ vs)) ≡ paramValueText v ++ moreValues vs
 unfolding joined moreValues
 joined-values v [] = sym (append-nil (paramValueText v))

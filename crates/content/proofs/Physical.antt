@@ -20,32 +20,23 @@ use Rattle.octets.proofs.Pieces.{Free, split-part}
 use Rattle.octets.proofs.Limits.{most-columns}
 use Rattle.octets.proofs.Utf8.{broken-stays, broken-start, utf8-start, start-utf8, utf8-both}
 use Rattle.content.specs.Fold.{width, breaks, foldedOctet, nextColumn, foldFrom, textOf}
+use Rattle.content.specs.Physical.{endedText, PhysicalLine, Physical}
 use Rattle.content.proofs.Unfolded.{clean-free}
 use Rattle.content.proofs.Folding.{width-most, breaks-never, onward}
 
--- physical lines, each ended by CRLF
-unfoldable pub rowsText : List (List ℕ) → List ℕ
-rowsText [] = []
-rowsText (r ∷ rs) = r ++ (octets "\r\n" ++ rowsText rs)
-
--- what a physical line is
-pub record Row (r : List ℕ) : Type 0 where
-  pub short : length r ≤ mostColumns
-  pub whole : clean r ≡ true
-
 -- the rest of the physical line at `col`, and those that follow it
-rowsFrom : ℕ → List ℕ → List ℕ × List (List ℕ)
-rowsFrom col [] = ([], [])
-rowsFrom col (c ∷ s) =
-    let r = rowsFrom (nextColumn col c) s in
+physicalFrom : ℕ → List ℕ → List ℕ × List (List ℕ)
+physicalFrom col [] = ([], [])
+physicalFrom col (c ∷ s) =
+    let r = physicalFrom (nextColumn col c) s in
     pick (breaks col c) ([], (code " " ∷ c ∷ r .0) ∷ r .1) (c ∷ r .0, r .1)
 
-rows-text : (col : ℕ) (s rest : List ℕ) → foldFrom col s ++ (octets "\r\n" ++ rest) ≡ rowsText ((rowsFrom col s) .0 ∷ (rowsFrom col s) .1) ++ rest
-unfolding foldFrom rowsFrom rowsText foldedOctet
-rows-text col [] rest = refl
-rows-text col (c ∷ s) rest =
+physical-text : (col : ℕ) (s rest : List ℕ) → foldFrom col s ++ (octets "\r\n" ++ rest) ≡ endedText ((physicalFrom col s) .0 ∷ (physicalFrom col s) .1) ++ rest
+unfolding foldFrom physicalFrom endedText foldedOctet
+physical-text col [] rest = refl
+physical-text col (c ∷ s) rest =
     append-assoc (foldedOctet col c) (foldFrom (nextColumn col c) s) (octets "\r\n" ++ rest)
-    ∙ ap (λ l. foldedOctet col c ++ l) (rows-text (nextColumn col c) s rest)
+    ∙ ap (λ l. foldedOctet col c ++ l) (physical-text (nextColumn col c) s rest)
     ∙ cases (breaks col c) (λ e. rw e) (λ e. rw e)
 
 -- the octets of its character that are still due
@@ -126,7 +117,7 @@ record Fine (col : ℕ) (d : Due) (r : List ℕ × List (List ℕ)) : Type 0 whe
   short : col + length (r .0) ≤ mostColumns
   ends : dueAfter d (r .0) ≡ start
   plain : all plainOctet (r .0) ≡ true
-  others : All Row (r .1)
+  others : All PhysicalLine (r .1)
 
 fine-none : (col : ℕ) → col ≤ mostColumns → Fine col start ([], [])
 unfolding dueAfter all
@@ -137,29 +128,29 @@ unfolding dueAfter all
 fine-octet col c d r p f = record { short = omega (arith, f .short); ends = f .ends; plain = and-true p (f .plain); others = f .others }
 
 -- behind a fold
-fine-row : (c : ℕ) (r : List ℕ × List (List ℕ)) → plainOctet c ≡ true → Fine 2 (due start c) r → Row (code " " ∷ c ∷ r .0)
-fine-row c r p f = record { short = omega (arith, f .short); whole = unfold clean all plainOctet isControl in and-true utf (and-true p (f .plain)) }
+fine-line : (c : ℕ) (r : List ℕ × List (List ℕ)) → plainOctet c ≡ true → Fine 2 (due start c) r → PhysicalLine (code " " ∷ c ∷ r .0)
+fine-line c r p f = record { short = omega (arith, f .short); whole = unfold clean all plainOctet isControl in and-true utf (and-true p (f .plain)) }
   where
     utf : utf8 (code " " ∷ c ∷ r .0) ≡ true
     utf = start-utf8 (code " " ∷ c ∷ r .0) (unfold dueAfter due lead in f .ends)
 
 fine-fold : (col c : ℕ) (r : List ℕ × List (List ℕ)) → col ≤ mostColumns → plainOctet c ≡ true → Fine 2 (due start c) r → Fine col start ([], (code " " ∷ c ∷ r .0) ∷ r .1)
 unfolding dueAfter all
-fine-fold col c r h p f = record { short = rw (add-zero col) h; ends = refl; plain = refl; others = (fine-row c r p f, f .others) }
+fine-fold col c r h p f = record { short = rw (add-zero col) h; ends = refl; plain = refl; others = (fine-line c r p f, f .others) }
 
 -- one octet of the line
 module _ (col c : ℕ) (d : Due) (s : List ℕ) (h : col + left d ≤ mostColumns) (p : plainOctet c ≡ true) (e : dueAfter (due d c) s ≡ start)
-    (rest : (to : ℕ) → to + left (due d c) ≤ mostColumns → Fine to (due d c) (rowsFrom to s)) where
-  unfolded : breaks col c ≡ false → suc col + left (due d c) ≤ mostColumns → Fine col d (rowsFrom col (c ∷ s))
-  unfolding rowsFrom
-  unfolded b k = rw (b, onward col c b (omega arith)) (fine-octet col c d (rowsFrom (suc col) s) p (rest (suc col) k))
+    (rest : (to : ℕ) → to + left (due d c) ≤ mostColumns → Fine to (due d c) (physicalFrom to s)) where
+  unfolded : breaks col c ≡ false → suc col + left (due d c) ≤ mostColumns → Fine col d (physicalFrom col (c ∷ s))
+  unfolding physicalFrom
+  unfolded b k = rw (b, onward col c b (omega arith)) (fine-octet col c d (physicalFrom (suc col) s) p (rest (suc col) k))
 
-  folded : d ≡ start → breaks col c ≡ true → suc (left (due d c)) ≡ width c → Fine col d (rowsFrom col (c ∷ s))
-  unfolding rowsFrom nextColumn
+  folded : d ≡ start → breaks col c ≡ true → suc (left (due d c)) ≡ width c → Fine col d (physicalFrom col (c ∷ s))
+  unfolding physicalFrom nextColumn
   folded q b w =
       let m = most-columns in
-      let r : Fine 2 (due start c) (rowsFrom 2 s) = rw q at (rest 2 (omega (arith, width-most c))) in
-      rw (b, q) (fine-fold col c (rowsFrom 2 s) (omega arith) p r)
+      let r : Fine 2 (due start c) (physicalFrom 2 s) = rw q at (rest 2 (omega (arith, width-most c))) in
+      rw (b, q) (fine-fold col c (physicalFrom 2 s) (omega arith) p r)
 
   fits : breaks col c ≡ false → suc (left (due d c)) ≡ width c → suc col + left (due d c) ≤ mostColumns
   unfolding breaks
@@ -168,70 +159,64 @@ module _ (col c : ℕ) (d : Due) (s : List ℕ) (h : col + left d ≤ mostColumn
       let k = ltb-false mostColumns (col + width c) (rw t at b) in
       omega arith
 
-  one-octet : Fine col d (rowsFrom col (c ∷ s))
+  one-octet : Fine col d (physicalFrom col (c ∷ s))
   one-octet = by (step c d)
     where
-      by : Step d c → Fine col d (rowsFrom col (c ∷ s))
+      by : Step d c → Fine col d (physicalFrom col (c ∷ s))
       by (lost b) = broken-start (sym (broken-stays s) ∙ (rw b at e))
       by (first q w) = cases (breaks col c) (λ b. folded q b w) (λ b. unfolded b (fits b w))
       by (more z w) = unfolded (breaks-never col c z) (omega arith)
 
-fine : (s : List ℕ) (col : ℕ) (d : Due) → col + left d ≤ mostColumns → dueAfter d s ≡ start → all plainOctet s ≡ true → Fine col d (rowsFrom col s)
-unfolding dueAfter all rowsFrom left
+fine : (s : List ℕ) (col : ℕ) (d : Due) → col + left d ≤ mostColumns → dueAfter d s ≡ start → all plainOctet s ≡ true → Fine col d (physicalFrom col s)
+unfolding dueAfter all physicalFrom left
 fine [] col d h e p = rw e (fine-none col (omega (arith, rw e at h)))
 fine (c ∷ s) col d h e p =
     let b = both (plainOctet c) (all plainOctet s) p in
     one-octet col c d s h (b .0) e (λ to k. fine s to (due d c) k e (b .1))
 
--- a text that is physical lines
-pub record Rows (t : List ℕ) : Type 0 where
-  pub rows : List (List ℕ)
-  pub text : t ≡ rowsText rows
-  pub each : All Row rows
+ended-append : (rs ts : List (List ℕ)) → endedText (rs ++ ts) ≡ endedText rs ++ endedText ts
+unfolding endedText
+ended-append [] ts = refl
+ended-append (r ∷ rs) ts = rw (ended-append rs ts) (sym (append-assoc r (octets "\r\n" ++ endedText rs) (endedText ts)))
 
-rows-append : (rs ts : List (List ℕ)) → rowsText (rs ++ ts) ≡ rowsText rs ++ rowsText ts
-unfolding rowsText
-rows-append [] ts = refl
-rows-append (r ∷ rs) ts = rw (rows-append rs ts) (sym (append-assoc r (octets "\r\n" ++ rowsText rs) (rowsText ts)))
-
-line-rows : (l : List ℕ) → clean l ≡ true → All Row ((rowsFrom 0 l) .0 ∷ (rowsFrom 0 l) .1)
-line-rows l h =
+line-physical : (l : List ℕ) → clean l ≡ true → All PhysicalLine ((physicalFrom 0 l) .0 ∷ (physicalFrom 0 l) .1)
+line-physical l h =
     let b : (utf8 l ≡ true) × (all plainOctet l ≡ true) = unfold clean in both (utf8 l) (all plainOctet l) h in
-    let f : Fine 0 start (rowsFrom 0 l) = fine l 0 start (unfold left in omega (arith, most-columns)) (utf8-start l (b .0)) (b .1) in
-    (record { short = omega (arith, f .short); whole = unfold clean in and-true (start-utf8 ((rowsFrom 0 l) .0) (f .ends)) (f .plain) }, f .others)
+    let f : Fine 0 start (physicalFrom 0 l) = fine l 0 start (unfold left in omega (arith, most-columns)) (utf8-start l (b .0)) (b .1) in
+    (record { short = omega (arith, f .short); whole = unfold clean in and-true (start-utf8 ((physicalFrom 0 l) .0) (f .ends)) (f .plain) }, f .others)
 
 -- THE LAW: clean lines are written as physical lines
-pub text-rows : (ls : List (List ℕ)) → All (λ l. clean l ≡ true) ls → Rows (textOf ls)
-text-rows [] h = record { rows = []; text = unfold textOf rowsText in refl; each = tt }
-text-rows (l ∷ ls) h = behind l ls (h .0) (text-rows ls (h .1))
+pub text-physical : (ls : List (List ℕ)) → All (λ l. clean l ≡ true) ls → Physical (textOf ls)
+text-physical [] h = record { lines = []; text = unfold textOf endedText in refl; each = tt }
+text-physical (l ∷ ls) h = behind l ls (h .0) (text-physical ls (h .1))
   where
-    behind : (l : List ℕ) (ls : List (List ℕ)) → clean l ≡ true → Rows (textOf ls) → Rows (textOf (l ∷ ls))
+    behind : (l : List ℕ) (ls : List (List ℕ)) → clean l ≡ true → Physical (textOf ls) → Physical (textOf (l ∷ ls))
     behind l ls h r = record {
-      rows = ((rowsFrom 0 l) .0 ∷ (rowsFrom 0 l) .1) ++ r .rows;
-      text = unfold textOf in (rows-text 0 l (textOf ls) ∙ ap (λ t. rowsText ((rowsFrom 0 l) .0 ∷ (rowsFrom 0 l) .1) ++ t) (r .text) ∙ sym (rows-append ((rowsFrom 0 l) .0 ∷ (rowsFrom 0 l) .1) (r .rows)));
-      each = All-append Row ((rowsFrom 0 l) .0 ∷ (rowsFrom 0 l) .1) (r .rows) (line-rows l h) (r .each);
+      lines = ((physicalFrom 0 l) .0 ∷ (physicalFrom 0 l) .1) ++ r .lines;
+      text = unfold textOf in (physical-text 0 l (textOf ls) ∙ ap (λ t. endedText ((physicalFrom 0 l) .0 ∷ (physicalFrom 0 l) .1) ++ t) (r .text) ∙ sym (ended-append ((physicalFrom 0 l) .0 ∷ (physicalFrom 0 l) .1) (r .lines)));
+      each = All-append PhysicalLine ((physicalFrom 0 l) .0 ∷ (physicalFrom 0 l) .1) (r .lines) (line-physical l h) (r .each);
     }
 
 -- as cut at each LF: a physical line with its CR, and nothing behind the last
-no-newline : (r : List ℕ) → Row r → Free (code "\n") (r ++ octets "\r")
+no-newline : (r : List ℕ) → PhysicalLine r → Free (code "\n") (r ++ octets "\r")
 no-newline r w = All-append (λ x. eqb x (code "\n") ≡ false) r (octets "\r") (clean-free r (w .whole)) (refl, tt)
 
-pub rows-split : (rs : List (List ℕ)) → All Row rs → split (code "\n") (rowsText rs) ≡ map (λ r. r ++ octets "\r") rs ++ [] ∷ []
-unfolding rowsText
-rows-split [] h = unfold split in refl
-rows-split (r ∷ rs) h =
-    ap (split (code "\n")) (sym (append-assoc r (octets "\r") (code "\n" ∷ rowsText rs)))
-    ∙ split-part (code "\n") (r ++ octets "\r") (rowsText rs) (no-newline r (h .0))
-    ∙ ap (λ l. (r ++ octets "\r") ∷ l) (rows-split rs (h .1))
+pub physical-split : (rs : List (List ℕ)) → All PhysicalLine rs → split (code "\n") (endedText rs) ≡ map (λ r. r ++ octets "\r") rs ++ [] ∷ []
+unfolding endedText
+physical-split [] h = unfold split in refl
+physical-split (r ∷ rs) h =
+    ap (split (code "\n")) (sym (append-assoc r (octets "\r") (code "\n" ∷ endedText rs)))
+    ∙ split-part (code "\n") (r ++ octets "\r") (endedText rs) (no-newline r (h .0))
+    ∙ ap (λ l. (r ++ octets "\r") ∷ l) (physical-split rs (h .1))
 
 -- the text is UTF-8
-rows-utf8 : (rs : List (List ℕ)) → All Row rs → utf8 (rowsText rs) ≡ true
-unfolding rowsText
-rows-utf8 [] h = unfold utf8 dueAfter isStart in refl
-rows-utf8 (r ∷ rs) h = utf8-both r (octets "\r\n" ++ rowsText rs) (utf r (h .0 .whole)) (utf8-both (octets "\r\n") (rowsText rs) (unfold utf8 dueAfter due lead isStart in refl) (rows-utf8 rs (h .1)))
+physical-utf8 : (rs : List (List ℕ)) → All PhysicalLine rs → utf8 (endedText rs) ≡ true
+unfolding endedText
+physical-utf8 [] h = unfold utf8 dueAfter isStart in refl
+physical-utf8 (r ∷ rs) h = utf8-both r (octets "\r\n" ++ endedText rs) (utf r (h .0 .whole)) (utf8-both (octets "\r\n") (endedText rs) (unfold utf8 dueAfter due lead isStart in refl) (physical-utf8 rs (h .1)))
   where
     utf : (r : List ℕ) → clean r ≡ true → utf8 r ≡ true
     utf r h = unfold clean in (both (utf8 r) (all plainOctet r) h .0)
 
 pub text-utf8 : (ls : List (List ℕ)) → All (λ l. clean l ≡ true) ls → utf8 (textOf ls) ≡ true
-text-utf8 ls h = let r = text-rows ls h in rw (r .text) (rows-utf8 (r .rows) (r .each))
+text-utf8 ls h = let r = text-physical ls h in rw (r .text) (physical-utf8 (r .lines) (r .each))

@@ -6,6 +6,7 @@ pub mod Parameters
 pub mod Write
 pub mod Fold
 pub mod Folding
+pub mod Physical
 pub mod Scan
 pub mod Walk
 pub mod Parts

@@ -4,7 +4,7 @@ use Prim.Native.Char.{code}
 use mathlib.Core.Bool.{Bool, true, false}
 use mathlib.Core.List.{List, [], _∷_, _++_, map}
 use lib.Dec.{eqb}
-use Rattle.octets.specs.Basics.{_or_, any}
+use Rattle.octets.specs.Basics.{octets, _or_, any}
 use Rattle.octets.specs.Pieces.{joined}
 use Rattle.octets.specs.Classes.{upper}
 use Rattle.content.specs.Carets.{encoded}
@@ -19,6 +19,11 @@ quotedIf false v = v
 
 unfoldable pub paramValueText : List ℕ → List ℕ
 paramValueText v = quotedIf (any asksQuotes v) (encoded v)
+
+-- the values behind a parameter's first one, each behind its comma
+unfoldable pub moreValues : List (List ℕ) → List ℕ
+moreValues [] = []
+moreValues (v ∷ vs) = (octets "," ++ paramValueText v) ++ moreValues vs
 
 -- ;NAME=VALUE,VALUE
 unfoldable pub paramText : Param → List ℕ

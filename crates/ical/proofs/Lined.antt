@@ -18,9 +18,9 @@ use Rattle.tape.specs.declared.Text.{Text}
 use Rattle.tape.proofs.Walks.{elements-inside}
 use Rattle.tape.proofs.Values.{list-end, list-next}
 use Rattle.content.specs.Line.{Param}
-use Rattle.content.specs.Write.{paramsText, lineText}
+use Rattle.content.specs.Write.{moreValues, paramsText, lineText}
 use Rattle.content.specs.Fold.{textOf}
-use Rattle.content.proofs.ParamText.{moreValues, param-text, name-text}
+use Rattle.content.proofs.ParamText.{param-text, name-text}
 use Rattle.content.proofs.Folding.{text-append}
 use Rattle.values.specs.Coded.{sortSaid}
 use Rattle.values.specs.Write.{valuesText}

@@ -18,8 +18,8 @@ use Rattle.tape.specs.declared.Text.{Text}
 use Rattle.tape.proofs.Values.{string-some, no-string, list-end, list-first, list-next, members-end, members-first, members-next}
 use Rattle.content.specs.Line.{Param}
 use Rattle.content.specs.Parameters.{called, isBase64, encodes, isEncoded, mayReturn}
-use Rattle.content.specs.Write.{paramValueText, paramText, paramsText}
-use Rattle.content.proofs.ParamText.{moreValues, joined-values}
+use Rattle.content.specs.Write.{paramValueText, moreValues, paramText, paramsText}
+use Rattle.content.proofs.ParamText.{joined-values}
 use Rattle.converter.specs.Skeleton.{valuesFrom, paramsFrom}
 use Rattle.properties.specs.Standing.{IntoArray}
 use Rattle.properties.specs.ParamValues.{paramValuesText}

@@ -14,9 +14,8 @@ ghost use mathlib.Core.List.{map};
 ghost use Rattle.json.specs.Tree.{octetsOf};
 ghost use Rattle.json.specs.Tape.{tagString};
 ghost use Rattle.tape.specs.Decode.{tagAt, valueAt, listAt, membersAt};
-ghost use Rattle.content.specs.Write.{paramsText};
+ghost use Rattle.content.specs.Write.{moreValues, paramsText};
 ghost use Rattle.content.specs.Folding.{folding, Folded};
-ghost use Rattle.content.proofs.ParamText.{moreValues};
 ghost use Rattle.converter.specs.Skeleton.{valuesFrom, paramsFrom};
 ghost use Rattle.properties.specs.ParamValues.{paramValuesText};
 

@@ -6,9 +6,9 @@ use native.Mathlib.Omega.{arith}
 use lib.ListN.{length}
 use Rattle.json.specs.Tree.{octetsOf}
 use Rattle.tape.specs.Decode.{listAt}
+use Rattle.content.specs.Write.{moreValues}
 use Rattle.content.specs.Folding.{folding}
 use Rattle.content.proofs.Folding.{Leads, leads-start, leads-on, leads-end}
-use Rattle.content.proofs.ParamText.{moreValues}
 use Rattle.properties.proofs.ParamWalk.{texts-end, texts-next, more-none, more-next}
 use borrow.Author.Needs.{needs}
 use Rattle.properties.proofs.writing.write_more.Statement.{statement}
