@@ -25,4 +25,3 @@ pub mod Tested
 pub mod HeadPieces
 pub mod FormParts
 pub mod LineParts
-pub mod WrittenPlain

@@ -6,13 +6,13 @@ pub mod Nesting
 pub mod Readings
 pub mod WrittenLines
 pub mod PropertyReading
+pub mod Stating
 pub mod Older
 pub mod Held
 pub mod Routes
-pub mod Stating
 pub mod ByRow
 pub mod PropertyTold
 pub mod Carrying
 pub mod Demand3
-pub mod SkeletonNames
+pub mod FromJcal
 pub mod EveryLine

@@ -38,19 +38,19 @@ pub record Tells (t : Table) (l : List ℕ) (e : Event Property) : Type 0 where
   pub event : Step (λ l p. readProperty t l ≡ accepted p) (eventOf (lineOf l)) e
 
 -- BEGIN and END
-pub begin-text : (n : List ℕ) → beginLine n ≡ lineText (octets "BEGIN") [] (upper n)
+begin-text : (n : List ℕ) → beginLine n ≡ lineText (octets "BEGIN") [] (upper n)
 unfolding beginLine lineText paramsText upper upperOctet isLower between
 begin-text n = refl
 
-pub end-text : (n : List ℕ) → endLine n ≡ lineText (octets "END") [] (upper n)
+end-text : (n : List ℕ) → endLine n ≡ lineText (octets "END") [] (upper n)
 unfolding endLine lineText paramsText upper upperOctet isLower between
 end-text n = refl
 
-pub begin-name : isName (octets "BEGIN") ≡ true
+begin-name : isName (octets "BEGIN") ≡ true
 unfolding isName filled all nameOctet isLetter isUpper isLower isDigit between
 begin-name = refl
 
-pub end-name : isName (octets "END") ≡ true
+end-name : isName (octets "END") ≡ true
 unfolding isName filled all nameOctet isLetter isUpper isLower isDigit between
 end-name = refl
 
@@ -73,10 +73,10 @@ module _ (t : Table) (name n : List ℕ) (k : isName name ≡ true) (h : isLower
   }
 
 module _ (t : Table) (n : List ℕ) (h : isLowerName n ≡ true) where
-  begin-tells : Tells t (beginLine n) (begins n)
+  pub begin-tells : Tells t (beginLine n) (begins n)
   begin-tells = rw (begin-text n) (bare-tells t (octets "BEGIN") n begin-name h (rw (begin-event n h) (both-begin h)))
 
-  end-tells : Tells t (endLine n) (ends n)
+  pub end-tells : Tells t (endLine n) (ends n)
   end-tells = rw (end-text n) (bare-tells t (octets "END") n end-name h (rw (end-event n h) both-end))
 
 property-tells : {b new : Table} {q p : Property} → Returned b new q p → Tells new (propertyLine b q) (holds p)

@@ -7,4 +7,5 @@ pub mod ToJcal
 pub mod Skeleton
 pub mod Return
 pub mod ToIcal
+pub mod Written
 pub mod Claim

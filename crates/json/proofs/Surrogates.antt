@@ -75,7 +75,7 @@ ed-lead c = by R (leb c 127) (λ _ h. never h refl) (λ _. by R (leb c 193) (λ 
     R : Due → Type 0
     R d = isED d ≡ true → c ≡ 237
 
-ed-next : (d : Due) (c : ℕ) → isED (due d c) ≡ true → c ≡ 237
+pub ed-next : (d : Due) (c : ℕ) → isED (due d c) ≡ true → c ≡ 237
 unfolding due isED
 ed-next d c = go d
   where

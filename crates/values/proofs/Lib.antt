@@ -9,5 +9,6 @@ pub mod Naming
 pub mod Groups
 pub mod Halves
 pub mod Floats
-pub mod PlainTexts
-pub mod PlainValues
+pub mod Encoded
+pub mod CleanTexts
+pub mod CleanValues

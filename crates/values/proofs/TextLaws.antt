@@ -279,7 +279,7 @@ escaped-utf8 t h = run-utf8 (Unit {0}) (λ q c. q) (λ q c. escapedOctet c) (λ 
       lasts = λ q. unfold all in refl;
     }
 
-pub escaped-plain : (t : List ℕ) → Text t → all plainOctet (textText t) ≡ true
+escaped-plain : (t : List ℕ) → Text t → all plainOctet (textText t) ≡ true
 escaped-plain t h = run-all (Unit {0}) (λ q c. q) (λ q c. escapedOctet c) (λ q. []) (λ q s. textText s) escapes-runs textOctet plainOctet each (λ q. unfold all in refl) t tt h
   where
     each : (q : Unit {0}) (c : ℕ) → textOctet c ≡ true → all plainOctet (escapedOctet c) ≡ true

@@ -1,0 +1,169 @@
+-- The texts that values are written as are clean: fixed forms, durations, binary and numbers.
+use Prim.Native.Nat.{ℕ}
+use Prim.Native.Char.{code}
+use mathlib.Core.Path.{_≡_, refl, _∙_}
+use mathlib.Core.Bool.{Bool, true, false, not}
+use mathlib.Core.List.{List, [], _∷_}
+use native.Mathlib.Omega.{arith}
+use borrow.Author.Tests.{eqb-true}
+use lib.Dec.{eqb, leb}
+use lib.ListN.{length}
+use Rattle.octets.specs.Basics.{_and_, all, All}
+use Rattle.octets.specs.Pieces.{split, joined}
+use Rattle.octets.specs.Optional.{isSome, when}
+use Rattle.octets.specs.Classes.{between, isDigit, isUpper, isLower, isLetter}
+use Rattle.octets.specs.Utf8.{clean}
+use Rattle.octets.specs.Decimal.{isSign, digits, minus, unsigned, integerText}
+use Rattle.octets.proofs.Cases.{cases, never, both, and-true, either, all-weaker, all-append}
+use Rattle.octets.proofs.Classes.{between-true, within-between}
+use Rattle.octets.proofs.Pieces.{joined-split}
+use Rattle.octets.proofs.Utf8.{printable-clean}
+use Rattle.octets.proofs.Decimal.{digits-all}
+use Rattle.calendar.specs.Forms.{Slot, digit, sign, letter, added, fits, keeps, basic, dateForm, clockForm, utc, timeForm, dateTimeForm, offsetForm}
+use Rattle.calendar.specs.Dates.{dateIs, timeIs, dateTimeIs, offsetIs, dateText, timeText, dateTimeText, offsetText}
+use Rattle.calendar.specs.Durations.{durationIs, forwardIs, periodEndIs, periodEndText}
+use Rattle.calendar.proofs.Readback.{capital, capital-printable, readable, fits-capital, duration-capital}
+use Rattle.content.proofs.WrittenOctets.{printable, joined-has}
+use Rattle.values.specs.Simple.{Group, whole, broken, base64Octet, group, groupAfter, isWhole, binaryIs, pointed, floatOf, integerOf}
+use Rattle.values.proofs.Groups.{group-other}
+use Rattle.values.proofs.NumberLaws.{integer-numeral, numeral-clean}
+
+abbrev pub Clean : List ℕ → Type 0
+Clean s = clean s ≡ true
+
+abbrev Printable : List ℕ → Type 0
+Printable s = all printable s ≡ true
+
+-- classes of octets that are printable
+digit-printable : (c : ℕ) → isDigit c ≡ true → printable c ≡ true
+unfolding isDigit
+digit-printable c h = let b = between-true (code "0") (code "9") c h in within-between 32 126 c (omega arith) (omega arith)
+
+pub capitals-clean : (s : List ℕ) → all capital s ≡ true → Clean s
+capitals-clean s h = printable-clean s (capital-printable s h)
+
+sign-printable : (c : ℕ) → isSign c ≡ true → printable c ≡ true
+unfolding isSign between
+sign-printable c h = either (eqb c (code "+")) (eqb c (code "-")) h (λ e. rw (eqb-true c (code "+") e)) (λ e. rw (eqb-true c (code "-") e))
+
+-- fixed forms: what the basic text keeps
+basic-capital : (f : List Slot) (t : List ℕ) → all capital t ≡ true → all capital (basic f t) ≡ true
+unfolding basic all
+basic-capital [] t h = refl
+basic-capital (p ∷ f) [] h = refl
+basic-capital (p ∷ f) (x ∷ t) h =
+    let b = both (capital x) (all capital t) h in
+    all-append capital (keeps p x) (basic f t) ∙ and-true (kept p (b .0)) (basic-capital f t (b .1))
+  where
+    kept : (p : Slot) → capital x ≡ true → all capital (keeps p x) ≡ true
+    kept digit e = unfold keeps all in rw e
+    kept sign e = unfold keeps all in rw e
+    kept (letter l) e = unfold keeps all in rw e
+    kept (added a) e = unfold keeps all in refl
+
+form-clean : (f : List Slot) (t : List ℕ) (b : Bool) → all readable f ≡ true → (fits f t and b) ≡ true → Clean (basic f t)
+form-clean f t b r h = capitals-clean (basic f t) (basic-capital f t (fits-capital f t r (both (fits f t) b h .0)))
+
+pub date-clean : (t : List ℕ) → dateIs t ≡ true → Clean (dateText t)
+unfolding dateIs dateText
+date-clean t h = form-clean dateForm t _ (unfold all readable dateForm between in refl) h
+
+pub time-clean : (t : List ℕ) → timeIs t ≡ true → Clean (timeText t)
+unfolding timeIs timeText
+time-clean t h = form-clean (timeForm (leb 9 (length t))) t _ (forms (leb 9 (length t))) h
+  where
+    forms : (b : Bool) → all readable (timeForm b) ≡ true
+    forms true = unfold all readable timeForm utc clockForm between in refl
+    forms false = unfold all readable timeForm utc clockForm between in refl
+
+pub date-time-clean : (t : List ℕ) → dateTimeIs t ≡ true → Clean (dateTimeText t)
+unfolding dateTimeIs dateTimeText
+date-time-clean t h = form-clean (dateTimeForm (leb 20 (length t))) t _ (forms (leb 20 (length t))) h
+  where
+    forms : (b : Bool) → all readable (dateTimeForm b) ≡ true
+    forms true = unfold all readable dateTimeForm utc dateForm clockForm between in refl
+    forms false = unfold all readable dateTimeForm utc dateForm clockForm between in refl
+
+pub offset-clean : (t : List ℕ) → offsetIs t ≡ true → Clean (offsetText t)
+unfolding offsetIs offsetText
+offset-clean t h = form-clean (offsetForm (leb 7 (length t))) t _ (forms (leb 7 (length t))) h
+  where
+    forms : (b : Bool) → all readable (offsetForm b) ≡ true
+    forms true = unfold all readable offsetForm clockForm between in refl
+    forms false = unfold all readable offsetForm clockForm between in refl
+
+-- durations and the ends of periods
+pub duration-clean : (t : List ℕ) → durationIs t ≡ true → Clean t
+duration-clean t h = capitals-clean t (duration-capital t h)
+
+pub period-end-clean : (t : List ℕ) → periodEndIs t ≡ true → Clean (periodEndText t)
+unfolding periodEndIs periodEndText forwardIs
+period-end-clean t h = cases (dateTimeIs t)
+    (λ e. rw e (date-time-clean t e))
+    (λ e. rw e (duration-clean t (both (not (minus t)) (durationIs t) (rw e at h) .1)))
+
+-- binary
+base64-printable : (c : ℕ) → base64Octet c ≡ true → printable c ≡ true
+unfolding base64Octet isLetter isUpper isLower
+base64-printable c h = either (isLetter c) _ h
+    (λ e. either (isUpper c) (isLower c) e
+    (λ d. let b = between-true (code "A") (code "Z") c d in within-between 32 126 c (omega arith) (omega arith))
+    (λ d. let b = between-true (code "a") (code "z") c d in within-between 32 126 c (omega arith) (omega arith)))
+    (λ k. either (isDigit c) _ k (digit-printable c)
+    (λ m. either (eqb c (code "+")) (eqb c (code "/")) m
+    (λ e. rw (eqb-true c (code "+") e) (unfold between in refl))
+    (λ e. rw (eqb-true c (code "/") e) (unfold between in refl))))
+
+broken-never : (s : List ℕ) → isWhole (groupAfter broken s) ≡ false
+unfolding groupAfter group
+broken-never [] = unfold isWhole in refl
+broken-never (c ∷ s) = broken-never s
+
+groups-printable : (g : Group) (s : List ℕ) → isWhole (groupAfter g s) ≡ true → Printable s
+unfolding groupAfter all
+groups-printable g [] h = refl
+groups-printable g (c ∷ s) h = and-true here (groups-printable (group g c) s h)
+  where
+    here : printable c ≡ true
+    here =
+        cases (base64Octet c) (base64-printable c) λ n.
+        cases (eqb c (code "=")) (λ e. rw (eqb-true c (code "=") e) (unfold between in refl)) λ m.
+        never h (rw (group-other g c n m) (broken-never s))
+
+pub binary-clean : (s : List ℕ) → binaryIs s ≡ true → Clean s
+unfolding binaryIs
+binary-clean s h = printable-clean s (groups-printable whole s h)
+
+-- numbers
+digits-printable : (s : List ℕ) → digits s ≡ true → Printable s
+digits-printable s h = all-weaker isDigit printable digit-printable s (digits-all s h)
+
+pieces-printable : (ls : List (List ℕ)) → pointed ls ≡ true → All Printable ls
+unfolding pointed
+pieces-printable [] h = never h refl
+pieces-printable (w ∷ []) h = (digits-printable w h, tt)
+pieces-printable (w ∷ f ∷ []) h = let b = both (digits w) (digits f) h in (digits-printable w (b .0), (digits-printable f (b .1), tt))
+pieces-printable (w ∷ f ∷ g ∷ ls) h = never h refl
+
+unsigned-printable : (s : List ℕ) → Printable (unsigned s) → Printable s
+unfolding unsigned all
+unsigned-printable [] h = refl
+unsigned-printable (c ∷ s) h = cases (isSign c) (λ e. and-true (sign-printable c e) (rw e at h)) (λ e. rw e at h)
+
+printable-joined : (sep : ℕ) → printable sep ≡ true → (ls : List (List ℕ)) → All Printable ls → Printable (joined sep ls)
+printable-joined sep e ls h = joined-has Printable (λ s k. k) (λ s t h k. all-append printable s t ∙ and-true h k) sep e ls h
+
+when-some : {A : Type 0} (b : Bool) (a : A) → isSome (when b a) ≡ true → b ≡ true
+unfolding isSome when
+when-some true a h = refl
+when-some false a h = h
+
+pub float-clean : (s : List ℕ) → isSome (floatOf s) ≡ true → Clean s
+unfolding floatOf
+float-clean s h =
+    let ps = split (code ".") (unsigned s) in
+    printable-clean s (unsigned-printable s (rw (joined-split (code ".") (unsigned s)) at (printable-joined (code ".") (unfold between in refl) ps (pieces-printable ps (when-some _ _ h)))))
+
+pub integer-clean : (s : List ℕ) → isSome (integerOf s) ≡ true → Clean (integerText s)
+unfolding integerOf
+integer-clean s h = numeral-clean (integer-numeral s (both (digits (unsigned s)) _ (when-some _ _ h) .0))
