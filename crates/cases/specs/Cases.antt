@@ -15,26 +15,42 @@ calendar line = octets "BEGIN:VCALENDAR\r\n" ++ (line ++ octets "\r\nEND:VCALEND
 abbrev pub jcal : List ℕ → List ℕ
 jcal property = octets "[\"vcalendar\",[" ++ (property ++ octets "],[]]")
 
--- What a case says: under these rows the line has this property in jCal, or is refused; the property has this line in iCalendar; for this
--- input `stops` prints this page.
+-- What a case says: under these rows the line has this property in jCal, or is refused; the property has this line in iCalendar; a whole text
+-- and this jCal are written as each other; for this input `stops` prints this page.
 pub data Case : Type 0 where
   holds : List ℕ → List ℕ → List ℕ → Case
   refuses : List ℕ → List ℕ → ℕ → Case
   returns : List ℕ → List ℕ → List ℕ → Case
+  pairs : List ℕ → List ℕ → List ℕ → Case
   prints : List ℕ → List ℕ → Case
 
 abbrev pub Holds : Case → Type 0
 Holds (holds rows line property) = toJcal rows (calendar line) ≡ accepted (jcal property)
 Holds (refuses rows line number) = toJcal rows (calendar line) ≡ refused number
 Holds (returns rows property line) = toIcal rows (jcal property) ≡ accepted (calendar line)
+Holds (pairs rows text j) = (toJcal rows text ≡ accepted j) × (toIcal rows j ≡ accepted text)
 Holds (prints input page) = printed input ≡ page
 
 abbrev pub none : List ℕ
 none = []
 
--- X-TROUGH as a date-time, one value
+-- X-TROUGH as a date-time, many values
 abbrev pub added : List ℕ
 added = octets "0501582D54524F554748\n"
+
+-- its line, and its property in jCal without the row and with it
+abbrev pub trough : List ℕ
+trough = octets "X-TROUGH:20240229T060000Z"
+
+abbrev pub unlisted : List ℕ
+unlisted = octets "[\"x-trough\",{},\"unknown\",\"20240229T060000Z\"]"
+
+abbrev pub listed : List ℕ
+listed = octets "[\"x-trough\",{},\"date-time\",\"2024-02-29T06:00:00Z\"]"
+
+-- the line that says the type, for a table without the row
+abbrev pub stated : List ℕ
+stated = octets "X-TROUGH;VALUE=DATE-TIME:20240229T060000Z"
 
 abbrev pub cases : List Case
 cases =
@@ -51,9 +67,10 @@ cases =
     ∷ prints (octets "20240228T180000\nFREQ=HOURLY;INTERVAL=12;COUNT=4\n10\n")
     (octets "stops 4\n1 2024-02-28T18:00:00\n2 2024-02-29T06:00:00\n3 2024-02-29T18:00:00\n4 2024-03-01T06:00:00\n")
     ∷ prints (octets "20240229\nFREQ=DAILY;INTERVAL=366\n2\n") (octets "stops 2\n1 2024-02-29\n2 2025-03-01\n")
-    ∷ holds none (octets "X-TROUGH:20240229T060000Z") (octets "[\"x-trough\",{},\"unknown\",\"20240229T060000Z\"]")
-    ∷ holds added (octets "X-TROUGH:20240229T060000Z") (octets "[\"x-trough\",{},\"date-time\",\"2024-02-29T06:00:00Z\"]")
-    ∷ returns none (octets "[\"x-trough\",{},\"date-time\",\"2024-02-29T06:00:00Z\"]") (octets "X-TROUGH;VALUE=DATE-TIME:20240229T060000Z")
+    ∷ holds none trough unlisted
+    ∷ holds added trough listed
+    ∷ returns none listed stated
+    ∷ pairs none (octets "BEGIN:VCALENDAR\r\nEND:VCALENDAR\r\n") (octets "[\"vcalendar\",[],[]]")
     ∷ []
 
 -- THE CLAIM

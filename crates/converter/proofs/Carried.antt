@@ -3,7 +3,7 @@ use Prim.Native.Nat.{ℕ}
 use mathlib.Core.Path.{_≡_}
 use mathlib.Core.Bool.{true, false}
 use mathlib.Core.List.{List}
-use Rattle.octets.specs.Basics.{octets, All}
+use Rattle.octets.specs.Basics.{octets, pick, All}
 use Rattle.octets.specs.Classes.{isName, sameName}
 use Rattle.octets.specs.Utf8.{clean}
 use Rattle.octets.specs.Answers.{accepted}
@@ -21,6 +21,7 @@ use Rattle.converter.specs.Jcal.{propertyJson}
 use Rattle.converter.specs.Skeleton.{isProperty, propertyFrom}
 use Rattle.converter.specs.Return.{checked}
 use Rattle.converter.specs.ToIcal.{propertyLine}
+use Rattle.converter.specs.Claim.{excepted, asUnknown}
 
 -- what tests 3 and 4 say of a line that is neither BEGIN nor END
 pub record LineFine (l : Line) : Type 0 where
@@ -40,6 +41,7 @@ pub record Twice (a new : Table) (q p : Property) : Type 0 where
   pub fine : LineFine line
   pub held : readProperty a line ≡ accepted q
   pub read : readProperty new line ≡ accepted p
+  pub seen : q ≡ pick (excepted a new line) (asUnknown line) p
 
 -- what jCal has of it is a property, neat, and says what it is
 pub record Told (q : Property) : Type 0 where

@@ -1,23 +1,27 @@
 -- Lines that the newer table reads, as a table whose rows it keeps holds them: it accepts them, and its component has the shape of the newer's.
 use Prim.Native.Nat.{ℕ}
-use mathlib.Core.Path.{_≡_, refl, sym, subst, _∙_}
-use mathlib.Core.List.{List, [], _∷_}
+use mathlib.Core.Path.{_≡_, refl, sym, ap, subst, _∙_}
+use mathlib.Core.List.{List, [], _∷_, _++_, map}
+use Rattle.octets.specs.Basics.{pick}
 use Rattle.octets.specs.Answers.{accepted}
 use Rattle.types.specs.Table.{Table}
 use Rattle.types.specs.Rows.{Keeps}
 use Rattle.types.proofs.Tables.{Well-formed}
-use Rattle.content.specs.Line.{Line}
+use Rattle.content.specs.Line.{Line, lineOf}
 use Rattle.converter.specs.Tree.{Property, Component}
 use Rattle.converter.specs.Structure.{Event, begins, ends, holds, fresh}
 use Rattle.converter.specs.Growth.{treeOf}
 use Rattle.converter.specs.Property.{readProperty}
 use Rattle.converter.specs.ToJcal.{readLinesBy, readLines}
-use Rattle.converter.specs.Claim.{readAsOlder}
+use Rattle.converter.specs.Claim.{excepted, readAsOlder, those, Rearranged}
 use Rattle.converter.proofs.Carried.{LineFine, LineLaw, Twice}
 use Rattle.converter.proofs.Shapes.{no-pair, pair, both-begin, both-end, both-hold, Steps, steps-nest, steps-read, Alike}
-use Rattle.converter.proofs.Nesting.{Top, top-of, shaped, Reads, read-steps}
+use Rattle.converter.proofs.Nesting.{Top, top-of, Reads, read-steps}
 use Rattle.converter.proofs.Readings.{eventsAt, lines-taken, taken-lines, lines-known}
 use Rattle.converter.proofs.Older.{older-reads}
+use Rattle.converter.proofs.Collected.{alike-list, steps-list, Collected, events-collected}
+use Rattle.converter.proofs.Exceptions.{exceptedIn, excepted-lines}
+use Rattle.converter.proofs.Alongside.{excepted-line}
 
 -- the component that the table makes of the lines, beside the newer's
 pub record Held (a new : Table) (ls : List (List ℕ)) (c : Component) : Type 0 where
@@ -25,6 +29,7 @@ pub record Held (a new : Table) (ls : List (List ℕ)) (c : Component) : Type 0 
   pub read : readLines a ls ≡ accepted held
   pub seen : readLinesBy (readAsOlder a new) ls ≡ accepted held
   pub shape : Alike (Twice a new) held c
+  pub each : Rearranged (alike-list (excepted-line a new) shape) (those (excepted a new) (map lineOf ls))
   pub top : Top held
   pub top-new : Top c
 
@@ -34,15 +39,17 @@ module _ (a new : Table) (w : Well-formed new) (k : Keeps a new) where
     read : Steps (λ l q. readProperty a l ≡ accepted q) es found
     seen : Steps (λ l q. readAsOlder a new l ≡ accepted q) es found
     twice : Steps (Twice a new) found ps
+    listed : steps-list (excepted-line a new) twice ≡ exceptedIn a new es
 
   found-too : {es : List (Event Line)} {ps : List (Event Property)} → Steps (Reads LineFine (readProperty new)) es ps → Found es ps
-  found-too no-pair = record { found = []; read = no-pair; seen = no-pair; twice = no-pair }
+  unfolding steps-list exceptedIn
+  found-too no-pair = record { found = []; read = no-pair; seen = no-pair; twice = no-pair; listed = refl }
   found-too (pair (both-begin {n} l) s) =
       let r = found-too s in
-      record { found = begins n ∷ r .found; read = pair (both-begin l) (r .read); seen = pair (both-begin l) (r .seen); twice = pair (both-begin l) (r .twice) }
+      record { found = begins n ∷ r .found; read = pair (both-begin l) (r .read); seen = pair (both-begin l) (r .seen); twice = pair (both-begin l) (r .twice); listed = r .listed }
   found-too (pair (both-end {n}) s) =
       let r = found-too s in
-      record { found = ends n ∷ r .found; read = pair both-end (r .read); seen = pair both-end (r .seen); twice = pair both-end (r .twice) }
+      record { found = ends n ∷ r .found; read = pair both-end (r .read); seen = pair both-end (r .seen); twice = pair both-end (r .twice); listed = r .listed }
   found-too (pair (both-hold {a = l} {b = p} h) s) =
       let r = found-too s in
       let t = older-reads a new w k l p (h .0) (h .1) in
@@ -50,7 +57,8 @@ module _ (a new : Table) (w : Well-formed new) (k : Keeps a new) where
         found = holds (t .held) ∷ r .found;
         read = pair (both-hold (t .read)) (r .read);
         seen = pair (both-hold (t .seen)) (r .seen);
-        twice = pair (both-hold (record { line = l; fine = h .0; held = t .read; read = h .1 })) (r .twice);
+        twice = pair (both-hold (record { line = l; fine = h .0; held = t .read; read = h .1; seen = t .is })) (r .twice);
+        listed = ap (λ (ls : List Line). pick (excepted a new l) (l ∷ []) [] ++ ls) (r .listed);
       }
 
   -- THE LAW
@@ -61,13 +69,17 @@ module _ (a new : Table) (w : Well-formed new) (k : Keeps a new) where
       let s = read-steps LineFine (readProperty new) (eventsAt ls) (t .found) fresh (t .read) (t .close) (lines-known law ls (t .are-clean) (t .are-formed)) in
       let r = found-too s in
       let n = sym (steps-nest fresh (r .read)) ∙ t .close in
+      let g =
+      subst (λ d. Collected (excepted-line a new) (treeOf (r .found)) d (those (excepted a new) (map lineOf ls))) (t .grown)
+      (subst (Collected (excepted-line a new) (treeOf (r .found)) (treeOf (t .found))) (r .listed ∙ excepted-lines a new w ls) (events-collected (excepted-line a new) (r .twice) n)) in
       record {
         held = treeOf (r .found);
         read = taken-lines (readProperty a) ls (treeOf (r .found))
             (record { are-clean = t .are-clean; are-formed = t .are-formed; close = t .close; found = r .found; read = steps-read (readProperty a) (r .read); grown = refl });
         seen = taken-lines (readAsOlder a new) ls (treeOf (r .found))
             (record { are-clean = t .are-clean; are-formed = t .are-formed; close = t .close; found = r .found; read = steps-read (readAsOlder a new) (r .seen); grown = refl });
-        shape = subst (Alike (Twice a new) (treeOf (r .found))) (t .grown) (shaped (r .twice) n);
+        shape = g .shape;
+        each = g .as-often;
         top = top-of (r .found) n;
         top-new = subst Top (t .grown) (top-of (t .found) (sym (steps-nest fresh s) ∙ t .close));
       }

@@ -17,7 +17,7 @@ use Rattle.octets.proofs.Answers.{not-accepted, accepted-same, then-accepted}
 use Rattle.converter.specs.Tree.{Property, Component, leaf, levels, levelsIn}
 use Rattle.converter.specs.Structure.{Event, begins, ends, holds, stray, Nest, fresh, closed, inside, fault, left, nest, nestAfter, verdict, structured}
 use Rattle.converter.specs.Growth.{Level, level, innermost, around, withProperty, withComponent, levelsFrom, outermost, treeOf, eachProperty, behindEvent}
-use Rattle.converter.proofs.Shapes.{no-pair, pair, Step, both-begin, both-end, both-hold, Steps, Alike, trees-alike}
+use Rattle.converter.proofs.Shapes.{no-pair, pair, Step, both-begin, both-end, both-hold, Steps}
 use Rattle.converter.proofs.Events.{IsTop}
 
 -- events that are accepted are closed, and stay as they are
@@ -107,14 +107,6 @@ top-of (begins m ∷ es) h = cases (same m (octets "vcalendar"))
 top-of (ends m ∷ es) h = never-closed 5 es h
 top-of (holds p ∷ es) h = never-closed 5 es h
 top-of (stray ∷ es) h = never-closed 5 es h
-
--- events in step that are closed make components of one shape
-pub shaped : {R : Property → Property → Type 0} {es fs : List (Event Property)} → Steps R es fs → nestAfter fresh es ≡ closed → Alike R (treeOf es) (treeOf fs)
-unfolding nestAfter nest
-shaped no-pair h = let z : _≡_ {A = ℕ} 0 1 = cc in absurd (omega arith)
-shaped {R} (pair (both-begin {n} l) s) h = trees-alike R n l s
-shaped (pair {xs = es} (both-end {n}) s) h = never-closed 5 es h
-shaped (pair {xs = es} (both-hold r) s) h = never-closed 5 es h
 
 -- an event in front of those that are accepted
 pub behind-accepted {ℓ} : {P : Type ℓ} {B : Type 0} (e : Event B) (a : Answer (List (Event B))) (ps : List (Event B)) → behindEvent e a ≡ accepted ps

@@ -1,12 +1,14 @@
--- One route: to jCal under one file of rows, back under another, and the newer's reading of what came back.
+-- The routes: to jCal under one file of rows, back under another, and the newer's reading of what came back.
 use Prim.Native.Nat.{ℕ, _≤_}
 use mathlib.Core.Path.{_≡_, refl, sym, ap, _∙_}
 use mathlib.Core.List.{List, [], _∷_, _++_, append-assoc, append-nil}
+use native.Mathlib.Omega.{arith}
 use borrow.Author.Tests.{le-leb}
-use lib.ListN.{length}
+use lib.ListN.{length, take, drop, length-append}
+use lib.Seq.{take-append-seam}
 use Rattle.octets.specs.Basics.{All}
 use Rattle.octets.specs.Limits.{mostText}
-use Rattle.octets.specs.Answers.{Answer, accepted, then, unless, answer}
+use Rattle.octets.specs.Answers.{Answer, accepted, then, unless, Settled, settled, answer}
 use Rattle.types.specs.Table.{Table, find}
 use Rattle.types.specs.Rows.{tableOf}
 use Rattle.json.specs.Print.{print}
@@ -17,9 +19,9 @@ use Rattle.converter.specs.Jcal.{jcalOf}
 use Rattle.converter.specs.Return.{checked}
 use Rattle.converter.specs.ToJcal.{readLines, reading, toJcal}
 use Rattle.converter.specs.ToIcal.{jsonOf, checkedAll, linesOf, written, toIcal}
-use Rattle.converter.specs.Claim.{Writes, Route}
-use Rattle.converter.proofs.Carried.{Told, Carried}
-use Rattle.converter.proofs.Shapes.{Made, made, MadeIn, nothing-more, made-more, alike-made, alike-weaker}
+use Rattle.converter.specs.Claim.{Writes}
+use Rattle.converter.proofs.Carried.{Told, Returned, Carried}
+use Rattle.converter.proofs.Shapes.{Alike, Made, made, MadeIn, nothing-more, made-more, alike-made, alike-weaker}
 use Rattle.converter.proofs.Skeletons.{jcal-utf8, jcal-parsed, jcal-back}
 use Rattle.converter.proofs.Nesting.{Top}
 use Rattle.converter.proofs.Readings.{is-reading}
@@ -30,6 +32,17 @@ use Rattle.converter.proofs.Held.{Held}
 pub accepted-writes : (a : Answer (List ℕ)) (t : List ℕ) → a ≡ accepted t → Writes a t
 unfolding answer
 accepted-writes a t e out h = rw (e, le-leb (length t) (length out) h)
+
+-- and no other text than the accepted one
+pub writes-once : (a : Answer (List ℕ)) (t u : List ℕ) → a ≡ accepted u → Writes a t → t ≡ u
+writes-once a t u e w =
+    let l = length-append t u in
+    let x = drop (length t) (t ++ u) in
+    let y = drop (length u) (t ++ u) in
+    let s : settled 0 (length t) (t ++ x) ≡ settled 0 (length u) (u ++ y) = sym (w (t ++ u) (omega arith)) ∙ accepted-writes a u e (t ++ u) (omega arith) in
+    let n : length t ≡ length u = ap (λ (z : Settled). z .length) s in
+    let b : t ++ x ≡ u ++ y = ap (λ (z : Settled). z .buffer) s in
+    sym (take-append-seam t x) ∙ ap (λ (k : ℕ). take k (t ++ x)) n ∙ ap (take (length u)) b ∙ take-append-seam u y
 
 -- it passes 7, 8 and 9 on its way back
 abbrev pub Passes : Table → Property → Type 0
@@ -66,16 +79,23 @@ goes-forth : (rows s : List ℕ) (c : Component) → reading rows s ≡ accepted
 unfolding toJcal then
 goes-forth rows s c e = rw e
 
--- THE LAW
-module _ (a b new : Table) (laws : Carried a b new) where
-  pub route : (there back newest s : List ℕ) (c : Component) → tableOf there ≡ accepted a → tableOf back ≡ accepted b → tableOf newest ≡ accepted new
-      → length s ≤ mostText → Held a new (unfolded s) c → Route there back newest s c
-  route there back newest s c ta tb tn l h =
-      let returned = alike-weaker (λ q p t. laws .returned t) (h .shape) in
-      record {
-        jcal = print (jcalOf (h .held));
-        again = textOf (linesOf b (h .held));
-        forth = accepted-writes _ _ (goes-forth there s (h .held) (is-reading there s a (h .held) ta (record { short = l; lines = h .read })));
-        return = λ k. accepted-writes _ _ (goes-back back b (h .held) tb (alike-made (λ q p t. laws .told t) (h .shape)) (alike-made (λ q p r. (r .passed, r .passes)) returned) (h .top) k);
-        kept = λ k m. is-reading newest (textOf (linesOf b (h .held))) new c tn (record { short = m; lines = ap (readLines new) (lines-unfold returned) ∙ lines-read returned (h .top-new) });
-      }
+-- THE LAWS
+pub forth : (there s : List ℕ) (a new : Table) (c : Component) → tableOf there ≡ accepted a → length s ≤ mostText → (h : Held a new (unfolded s) c) → Writes (toJcal there s) (print (jcalOf (h .held)))
+forth there s a new c ta l h = accepted-writes _ _ (goes-forth there s (h .held) (is-reading there s a (h .held) ta (record { short = l; lines = h .read })))
+
+module _ (a b new : Table) (laws : Carried a b new) (ls : List (List ℕ)) (c : Component) (h : Held a new ls c) where
+  abbrev jcal : List ℕ
+  jcal = print (jcalOf (h .held))
+
+  abbrev again : List ℕ
+  again = textOf (linesOf b (h .held))
+
+  returned : Alike (Returned b new) (h .held) c
+  returned = alike-weaker (λ q p t. laws .returned t) (h .shape)
+
+  pub return : (back : List ℕ) → tableOf back ≡ accepted b → length jcal ≤ mostText → Writes (toIcal back jcal) again
+  return back tb k =
+      accepted-writes _ _ (goes-back back b (h .held) tb (alike-made (λ q p t. laws .told t) (h .shape)) (alike-made (λ q p r. (r .passed, r .passes)) returned) (h .top) k)
+
+  pub kept : (newest : List ℕ) → tableOf newest ≡ accepted new → length again ≤ mostText → reading newest again ≡ accepted c
+  kept newest tn m = is-reading newest again new c tn (record { short = m; lines = ap (readLines new) (lines-unfold returned) ∙ lines-read returned (h .top-new) })

@@ -77,21 +77,21 @@ module _ (R : Property → Property → Type 0) where
       no-more : Alikes leaf leaf
       one-more : {c d : Component} {cs ds : Forest} → Alike c d → Alikes cs ds → Alikes (grow c cs) (grow d ds)
 
-  record AlikeLevel (k l : Level) : Type 0 where
-    properties : Pairwise R (k .properties) (l .properties)
-    subs : Alikes (k .subs) (l .subs)
+  pub record AlikeLevel (k l : Level) : Type 0 where
+    pub properties : Pairwise R (k .properties) (l .properties)
+    pub subs : Alikes (k .subs) (l .subs)
 
-  first-alike : {ks ls : List Level} → Pairwise AlikeLevel ks ls → AlikeLevel (innermost ks) (innermost ls)
+  unfoldable pub first-alike : {ks ls : List Level} → Pairwise AlikeLevel ks ls → AlikeLevel (innermost ks) (innermost ls)
   unfolding innermost
   first-alike no-pair = record { properties = no-pair; subs = no-more }
   first-alike (pair h r) = h
 
-  around-alike : {ks ls : List Level} → Pairwise AlikeLevel ks ls → Pairwise AlikeLevel (around ks) (around ls)
+  unfoldable pub around-alike : {ks ls : List Level} → Pairwise AlikeLevel ks ls → Pairwise AlikeLevel (around ks) (around ls)
   unfolding around
   around-alike no-pair = no-pair
   around-alike (pair h r) = r
 
-  levels-alike : {es fs : List (Event Property)} → Steps R es fs → Pairwise AlikeLevel (levelsFrom es) (levelsFrom fs)
+  unfoldable pub levels-alike : {es fs : List (Event Property)} → Steps R es fs → Pairwise AlikeLevel (levelsFrom es) (levelsFrom fs)
   unfolding levelsFrom withProperty withComponent
   levels-alike no-pair = no-pair
   levels-alike (pair (both-begin n) l) =
@@ -104,7 +104,7 @@ module _ (R : Property → Property → Type 0) where
       pair (record { properties = pair r (first-alike here .properties); subs = first-alike here .subs }) (around-alike here)
 
   -- THE LAW: events in step, the first of which begins a component, make components of one shape
-  pub trees-alike : (n : List ℕ) {es fs : List (Event Property)} → isLowerName n ≡ true → Steps R es fs → Alike (treeOf (begins n ∷ es)) (treeOf (begins n ∷ fs))
+  unfoldable pub trees-alike : (n : List ℕ) {es fs : List (Event Property)} → isLowerName n ≡ true → Steps R es fs → Alike (treeOf (begins n ∷ es)) (treeOf (begins n ∷ fs))
   unfolding treeOf levelsFrom outermost withComponent innermost
   trees-alike n h l = let here = first-alike (levels-alike l) in alike h (here .properties) (here .subs)
 

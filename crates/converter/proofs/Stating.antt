@@ -42,6 +42,23 @@ unfolding valueType
 value-states [] t h = missing (accepted-same h)
 value-states (p ∷ ps) t h = cases (called (octets "value") p) (λ e. token-states (p .values) t (rw e at h)) (λ e. value-states ps t (rw e at h))
 
+-- VALUE states a type where it stands, and only there
+token-some : (vs : List (List ℕ)) → token vs ≡ accepted none → ⊥
+unfolding token
+token-some [] h = not-accepted h
+token-some (v ∷ []) h = cases (isName v and not (same (lower v) (octets "unknown"))) (λ e. missing (sym (accepted-same (rw e at h)))) (λ e. not-accepted (rw e at h))
+token-some (v ∷ w ∷ vs) h = not-accepted h
+
+pub none-stated : (ps : List Param) → valueType ps ≡ accepted none → any (called (octets "value")) ps ≡ false
+unfolding valueType any
+none-stated [] h = refl
+none-stated (p ∷ ps) h = cases (called (octets "value") p) (λ e. absurd (token-some (p .values) (rw e at h))) (λ e. rw e (none-stated ps (rw e at h)))
+
+pub some-stated : (ps : List Param) (t : List ℕ) → valueType ps ≡ accepted (some t) → any (called (octets "value")) ps ≡ true
+unfolding valueType any
+some-stated [] t h = missing (accepted-same h)
+some-stated (p ∷ ps) t h = cases (called (octets "value") p) (λ e. rw e) (λ e. rw e (some-stated ps t (rw e at h)))
+
 -- parameters without VALUE
 abbrev pub Silent : List Param → Type 0
 Silent ps = All (λ p. called (octets "value") p ≡ false) ps

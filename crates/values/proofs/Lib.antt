@@ -9,6 +9,7 @@ pub mod Naming
 pub mod Groups
 pub mod Halves
 pub mod Floats
+pub mod Arrays
 pub mod Encoded
 pub mod CleanTexts
 pub mod CleanValues
