@@ -32,7 +32,7 @@ use Rattle.converter.specs.Property.{typeOf, codeOf, manyOf, encodingFit
 use Rattle.converter.specs.Return.{isUnknown, statedType, writtenSort, firstOctets, takenBy, checked, isDefault, shown}
 use Rattle.converter.proofs.PropertyReading.{read-as, as-read, read-alike, stated-code, stated-type}
 use Rattle.converter.proofs.Older.{stated-older, unprocessed-older}
-use Rattle.converter.proofs.Stating.{Stated, StatedIf}
+use Rattle.converter.proofs.Stating.{Stated, StatedIf, shown-stated}
 
 -- the newer's row, or none
 abbrev pub Below : Option Row → Option Row → Type 0
@@ -89,10 +89,6 @@ module _ (n : List ℕ) (ps : List Param) (raw : List ℕ) (fine : clean raw ≡
         (λ e. rw (b, s .known, e) (default-alike r w t (eqb-true (r .code) (codeNamed t) e) n ps x))
         (λ e. rw (b, s .known, e))
 
-    shown-stated : (rb : Option Row) → StatedIf (shown rb t)
-    unfolding shown
-    shown-stated rb = cases (isUnknown t or isDefault rb t) (λ e. rw e tt) (λ e. rw e s)
-
     module _ (rn rb : Option Row) (b : Below rn rb) (w : Typed rn) (vs : List Json) (fits : encodingFits (codeNamed t) (isEncoded ps) ≡ true)
         (told : valuesOf n (codeNamed t) (manyOf rn) raw ≡ some vs) where
       v : Valued n (codeNamed t) (manyOf rn) raw vs
@@ -122,7 +118,7 @@ module _ (n : List ℕ) (ps : List Param) (raw : List ℕ) (fine : clean raw ≡
             valued = v .held .one-or-more;
             passed = property n ps t vs;
             passes = known-passes;
-            stated = shown-stated rb;
+            stated = shown-stated rb t (s .named);
             line = rw sort-is (v .held .line fine);
             again = rw sort-is (shown-alike rn rb b w x ∙ as-read rn n (some t) ps x vs (rw (stated-code rn t) fits) (rw (stated-code rn t) (v .again)) ∙ rw (stated-type rn t));
           }

@@ -4,17 +4,16 @@ use Prim.Native.Nat.{ℕ}
 use mathlib.Core.Path.{_≡_, refl, sym, ap, subst, _∙_}
 use mathlib.Core.Bool.{true, not}
 use mathlib.Core.List.{List, [], _∷_, _++_, map}
-use mathlib.Core.Option.{Option}
 use lib.Dec.{leb}
 use lib.ListN.{length}
-use Rattle.octets.specs.Basics.{octets, pick, _or_, all, All}
+use Rattle.octets.specs.Basics.{octets, pick, all, All}
 use Rattle.octets.specs.Classes.{isLowerName, textOctet}
 use Rattle.octets.specs.Limits.{mostText}
 use Rattle.octets.specs.Utf8.{utf8, clean}
 use Rattle.octets.specs.Answers.{Answer, accepted, then, unless}
-use Rattle.octets.proofs.Cases.{cases, both, neither, All-weaker, All-append, All-front, All-back}
+use Rattle.octets.proofs.Cases.{both, All-weaker, All-append, All-front, All-back}
 use Rattle.octets.proofs.Answers.{not-accepted, accepted-same, then-accepted, unless-accepted}
-use Rattle.types.specs.Table.{Row, Table, find}
+use Rattle.types.specs.Table.{Table, find}
 use Rattle.types.specs.Rows.{tableOf}
 use Rattle.json.specs.Tree.{Json}
 use Rattle.json.specs.Reads.{Out, ok, deep, bad}
@@ -33,14 +32,14 @@ use Rattle.values.specs.Write.{valuesAre, valuesText}
 use Rattle.values.proofs.CleanValues.{values-clean}
 use Rattle.converter.specs.Tree.{Property, Component, Forest, propertiesOf, propertiesIn}
 use Rattle.converter.specs.Property.{codeOf, manyOf, encodingFits}
-use Rattle.converter.specs.Return.{isUnknown, statedType, writtenSort, takenBy, checked, isDefault, shown, withValue, writtenLine}
+use Rattle.converter.specs.Return.{isUnknown, statedType, writtenSort, takenBy, checked, shown, withValue, writtenLine}
 use Rattle.converter.specs.Skeleton.{calendarOf}
 use Rattle.converter.specs.ToIcal.{jsonOf, checkedAll, beginLine, endLine, propertyLine, linesOf, linesIn, written, toIcal}
 use Rattle.converter.specs.Written.{LinesFit, Apart, LinesApart}
 use Rattle.converter.proofs.Shapes.{Made, made, MadeIn, nothing-more, made-more}
 use Rattle.converter.proofs.WrittenLines.{begin-tells, end-tells}
 use Rattle.converter.proofs.Routes.{Passes}
-use Rattle.converter.proofs.Stating.{StatedIf, with-writable, with-texts}
+use Rattle.converter.proofs.Stating.{shown-stated, with-writable, with-texts}
 use Rattle.converter.proofs.FromJcal.{PropertyFine, calendar-fine}
 
 -- a clean line that does not begin with a space or tab
@@ -49,10 +48,6 @@ record Whole (l : List ℕ) : Type 0 where
   upright : Upright l
 
 -- the newline of a parameter, or of a value, is encoded or refused; what VALUE states is a name
-shown-stated : (row : Option Row) (t : List ℕ) → isLowerName t ≡ true → StatedIf (shown row t)
-unfolding shown
-shown-stated row t h = cases (isUnknown t or isDefault row t) (λ e. rw e tt) (λ e. rw e (record { named = h; known = neither (isUnknown t) (isDefault row t) e .0 }))
-
 params-texts : (ps : List Param) → All (λ (q : Param). all utf8 (q .values) ≡ true) ps → all mayReturn ps ≡ true → All Texts ps
 unfolding all mayReturn
 params-texts [] u h = tt

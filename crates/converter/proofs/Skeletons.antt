@@ -1,16 +1,17 @@
 -- The jCal of a component: it is printed and parsed, it has the skeleton, and what it holds is the component.
 use Prim.Native.Nat.{ℕ, zero, suc, _+_, _≤_}
 use mathlib.Core.Path.{_≡_, refl}
-use mathlib.Core.Bool.{true}
+use mathlib.Core.Bool.{Bool, true}
 use mathlib.Core.List.{List, [], _∷_, map}
 use native.Mathlib.Omega.{arith}
 use borrow.Author.Tests.{le-leb}
+use lib.Dec.{leb}
 use Rattle.octets.specs.Basics.{octets, all, same, All}
 use Rattle.octets.specs.Optional.{isSome, holds, given}
 use Rattle.octets.specs.Classes.{isLowerName}
 use Rattle.octets.specs.Limits.{mostLevels, mostOpen}
 use Rattle.octets.specs.Utf8.{utf8}
-use Rattle.octets.specs.Answers.{accepted, unless}
+use Rattle.octets.specs.Answers.{Answer, accepted, unless}
 use Rattle.octets.proofs.Cases.{and-true}
 use Rattle.octets.proofs.Limits.{most-levels, most-open}
 use Rattle.json.specs.Tree.{str, listOf, string?, number?, array?, octetsOf, elements, element}
@@ -101,9 +102,13 @@ top-named : (c : Component) → IsTop c → same (octetsOf (element 0 (jcalOf c)
 unfolding jcalOf given array? string? number? octetsOf element elements listOf
 top-named (component n ps cs) t = t
 
+passes : {A : Type 0} (n : ℕ) (b : Bool) (a : Answer A) → b ≡ true → unless n b (λ _. a) ≡ a
+unfolding unless
+passes n b a e = rw e
+
 -- THE LAW of the skeleton
 pub jcal-back : (c : Component) → Made Told c → levels c ≤ mostLevels → IsTop c → calendarOf (jcalOf c) ≡ accepted c
 unfolding calendarOf isCalendar unless
 jcal-back c h l t =
     let k : levels c ≤ mostOpen = omega (arith, l, most-levels, most-open) in
-    rw (neat-sound (neat-jcal h l), is-component h mostOpen k, top-named c t, component-back h mostOpen k, le-leb (levels c) mostLevels l)
+    rw (neat-sound (neat-jcal h l), is-component h mostOpen k, top-named c t, component-back h mostOpen k) (passes 6 (leb (levels c) mostLevels) (accepted c) (le-leb (levels c) mostLevels l))

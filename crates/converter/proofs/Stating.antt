@@ -5,7 +5,7 @@ use mathlib.Core.Bool.{true, false, not}
 use mathlib.Core.List.{List, [], _∷_, map}
 use mathlib.Core.Option.{Option, none, some}
 use borrow.Author.Tests.{not-true}
-use Rattle.octets.specs.Basics.{octets, _and_, all, any, filled, same, among, twice, All}
+use Rattle.octets.specs.Basics.{octets, _and_, _or_, all, any, filled, same, among, twice, All}
 use Rattle.octets.specs.Classes.{between, isDigit, isLower, lowerNameOctet, isName, isLowerName, upper, lower}
 use Rattle.octets.specs.Answers.{accepted}
 use Rattle.octets.proofs.Cases.{cases, never, both, neither, and-true, or-false}
@@ -13,13 +13,14 @@ use Rattle.octets.proofs.Classes.{same-is, same-itself, name-lower, lower-name,
 use Rattle.octets.proofs.Utf8.{clean-upper}
 use Rattle.octets.proofs.Optional.{missing, some-same}
 use Rattle.octets.proofs.Answers.{not-accepted, accepted-same}
+use Rattle.types.specs.Table.{Row}
 use Rattle.content.specs.Line.{Param}
 use Rattle.content.specs.Parameters.{called, nameTwice, token, valueType, withoutValue, mayReturn}
 use Rattle.content.proofs.Names.{lower-upper}
 use Rattle.content.proofs.Written.{Writable}
 use Rattle.content.proofs.WrittenClean.{Texts, name-clean}
 use Rattle.values.proofs.Neat.{Textual, clean-textual}
-use Rattle.converter.specs.Return.{isUnknown, withValue}
+use Rattle.converter.specs.Return.{isUnknown, isDefault, shown, withValue}
 
 -- a type that can be stated: a lowercase name, and not "unknown"
 pub record Stated (t : List ℕ) : Type 0 where
@@ -113,6 +114,10 @@ silent-among (p ∷ ps) h = or-false (other (p .name) (h .0)) (silent-among ps (
 abbrev pub StatedIf : Option (List ℕ) → Type 0
 StatedIf none = Unit {0}
 StatedIf (some t) = Stated t
+
+pub shown-stated : (row : Option Row) (t : List ℕ) → isLowerName t ≡ true → StatedIf (shown row t)
+unfolding shown
+shown-stated row t h = cases (isUnknown t or isDefault row t) (λ e. rw e tt) (λ e. rw e (record { named = h; known = neither (isUnknown t) (isDefault row t) e .0 }))
 
 module _ (ps : List Param) (silent : Silent ps) where
   pub with-type : (v : Option (List ℕ)) → StatedIf v → valueType (withValue v ps) ≡ accepted v
