@@ -45,9 +45,9 @@ unfolding asUnknown
 older-printed l = property-printed l (octets "unknown") (str (l .value) ∷ []) ∙ ap (propertyText l) (unknown-typed (l .value))
 
 module _ (a new : Table) where
-  -- wherever they stand, x and y stand beside each other, but for the properties of the lines
-  pub record Along (ls : List Line) (x y : List ℕ) : Type 0 where
-    pub before : (ks : List Line) (n o : List ℕ) → Beside a new ks n o → Beside a new (ls ++ ks) (x ++ n) (y ++ o)
+  -- in front of texts that stand beside each other, x and y do so too, and differ at the properties of the lines ls
+  record Along (ls : List Line) (x y : List ℕ) : Type 0 where
+    before : (ks : List Line) (n o : List ℕ) → Beside a new ks n o → Beside a new (ls ++ ks) (x ++ n) (y ++ o)
 
   same-before : (t : List ℕ) {ks : List Line} {n o : List ℕ} → Beside a new ks n o → Beside a new ks (t ++ n) (t ++ o)
   same-before [] b = b
@@ -81,6 +81,7 @@ module _ (a new : Table) where
       older : q ≡ asUnknown (t .line) → print (propertyJson q) ≡ propertyText (t .line) (octets "\"unknown\"," ++ printString (t .line .value))
       older e = ap (λ x. print (propertyJson x)) e ∙ older-printed (t .line)
 
+  -- properties, as items of an array
   more-properties : {qs ps : List Property} (l : Pairwise (Twice a new) qs ps)
       → Along (pairs-list excepted-line l) (moreItems (itemsOf (map propertyJson ps))) (moreItems (itemsOf (map propertyJson qs)))
   unfolding pairs-list moreItems itemsOf
@@ -93,6 +94,7 @@ module _ (a new : Table) where
   first-properties no-pair = along-same (octets "]")
   first-properties (pair t l) = along-append (along-property t) (more-properties l)
 
+  -- components
   mutual
     unfolding jcalOf print alike-list
 

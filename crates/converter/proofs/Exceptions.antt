@@ -1,4 +1,4 @@
--- The excepted lines of a text are lines of properties.
+-- The excepted lines of a text are those of its properties: BEGIN and END are never listed.
 use Prim.Native.Nat.{ℕ}
 use mathlib.Core.Path.{_≡_, refl, _∙_}
 use mathlib.Core.Bool.{true, false, not}
@@ -17,6 +17,7 @@ use Rattle.converter.specs.Claim.{excepted, those}
 use Rattle.converter.proofs.Readings.{eventsAt}
 
 module _ (a new : Table) where
+  -- among events
   unfoldable pub exceptedIn : List (Event Line) → List Line
   exceptedIn [] = []
   exceptedIn (begins n ∷ es) = exceptedIn es
@@ -24,7 +25,7 @@ module _ (a new : Table) where
   exceptedIn (holds l ∷ es) = pick (excepted a new l) (l ∷ []) [] ++ exceptedIn es
   exceptedIn (stray ∷ es) = exceptedIn es
 
-  -- neither BEGIN nor END is listed
+  -- at one line
   module _ (w : Well-formed new) (l : Line) where
     unlisted : find new (l .name) ≡ none → excepted a new l ≡ false
     unfolding excepted isSome
