@@ -1,13 +1,13 @@
 -- The turns of the loop that reads a recurrence rule: each reads the part at `at`, and refuses the text, goes on, or ends.
 use Prim.Native.Nat.{ℕ, _+_, _-_, _≤_, _<_}
-use mathlib.Core.Path.{_≡_, refl, sym, ap, _∙_}
+use mathlib.Core.Path.{_≡_, refl, sym, _∙_}
 use mathlib.Core.Bool.{Bool, true, false, not}
 use mathlib.Core.List.{List, [], _∷_}
 use mathlib.Core.Option.{Option, none, some}
 use native.Mathlib.Omega.{arith}
 use borrow.Author.Tests.{ltb-true, ltb-false, lt-ltb, le-ltb, ne-eqb, not-true}
 use lib.Dec.{ltb}
-use lib.ListN.{length, getD, take, drop, set, replicate, length-drop}
+use lib.ListN.{length, getD, take, drop, set, length-drop}
 use lib.Seq.{drop-drop}
 use Rattle.octets.specs.Optional.{map?, both?, isSome, guard}
 use Rattle.octets.specs.Classes.{upper}
@@ -19,10 +19,10 @@ use Rattle.calendar.specs.Rules.{ruleFrom, readRule}
 use Rattle.calendar.specs.Reading.{valuesStand, withValue, barred, mayFollow, ruleRead}
 use Rattle.calendar.specs.declared.parts.PartAt.{PartAt}
 use Rattle.calendar.specs.declared.rules.Head.{Head}
-use Rattle.calendar.proofs.Options.{some-when, map-is, some-map}
+use Rattle.calendar.proofs.Options.{map-is, some-map}
 use Rattle.calendar.proofs.Keys.{key-count}
 use Rattle.calendar.proofs.Walk.{readParts, partFound, first-more, first-last, first-from, first-to}
-use Rattle.calendar.proofs.Gathering.{Gathered, gathered-none, gathered-more, gathered-lost, gathered-barred, gathered-all}
+use Rattle.calendar.proofs.Gathering.{Gathered, gathered-more, gathered-lost, gathered-barred, gathered-all}
 
 -- the values of a part stand where the part can be read
 keyed-stands : (v : List ℕ) (k : Key) → isSome (keyedPart (upper v) k) ≡ valuesStand (k .sort) v
@@ -52,7 +52,7 @@ unfolding readRule partsOf readParts
 the-rule s = refl
 
 -- there is a rule where there are its parts
-rule-stands : (s : List ℕ) → isSome (readRule s) ≡ isSome (partsOf (upper s))
+pub rule-stands : (s : List ℕ) → isSome (readRule s) ≡ isSome (partsOf (upper s))
 unfolding readRule
 rule-stands s = some-map ruleFrom (partsOf (upper s))
 
@@ -76,14 +76,6 @@ module _ (seen : List Bool) (k : ℕ) (v : List ℕ) where
       let a = both (ltb k (length keys)) _ e in
       let b = both (not (barred seen k)) _ (a .1) in
       (ltb-true k 14 (rw key-count at (a .0)), not-true (barred seen k) (b .0), b .1)
-
--- The parts before `at` are read, whatever they say.
-pub record Passed (s : List ℕ) (at : ℕ) (seen : List Bool) : Type 0 where
-  pub head : Head
-  pub gathered : Gathered (readParts (upper s)) (readParts (upper (drop at s))) seen head
-
-pub passed-none : (s : List ℕ) → Passed s 0 (replicate 14 false)
-passed-none s = record { head = _; gathered = gathered-none (readParts (upper s)) }
 
 module _ (s : List ℕ) (at : ℕ) (q : PartAt) (is : q ≡ firstPart (take (length s - at) (drop at s))) where
   here : firstPart (drop at s) ≡ q
@@ -154,20 +146,6 @@ module _ (s : List ℕ) (at : ℕ) (q : PartAt) (is : q ≡ firstPart (take (len
 
       pub rule-end : length (take (length s - at) (drop at s)) ≤ q .to → ruleRead (withValue head (q .key) value) (set seen (q .key) true) ≡ readRule s
       rule-end l = sym (gathered-all (step _ (last l))) ∙ the-rule s
-
-  -- a loop that only tests the parts
-  module _ (seen : List Bool) (p : Passed s at seen) where
-    pub test-refused : mayFollow seen (q .key) value ≡ false → false ≡ isSome (partsOf (upper s))
-    unfolding isSome
-    test-refused e = ap isSome (turn-refused seen (p .head) (p .gathered) e) ∙ rule-stands s
-
-    module _ (ok : mayFollow seen (q .key) value ≡ true) where
-      pub test-on : q .to < length (take (length s - at) (drop at s)) → Passed s (at + q .to + 1) (set seen (q .key) true)
-      test-on l = record { head = withValue (p .head) (q .key) value; gathered = rule-on seen (p .head) (p .gathered) ok l }
-
-      pub test-end : length (take (length s - at) (drop at s)) ≤ q .to → getD (set seen (q .key) true) 0 false ≡ isSome (partsOf (upper s))
-      unfolding ruleRead
-      test-end l = sym (some-when (getD (set seen (q .key) true) 0 false) _) ∙ ap isSome (rule-end seen (p .head) (p .gathered) ok l) ∙ rule-stands s
 
 -- as the code tests what may follow
 module _ (seen : List Bool) (k : ℕ) where

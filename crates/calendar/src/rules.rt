@@ -288,21 +288,8 @@ pub fn read_rule(s: &[u8]) -> RuleRead
 pub fn is_rule(s: &[u8]) -> bool
     ensures { λ r. ⌜ r ≡ isSome (partsOf (upper (now (s .entry)))) ⌝ }
 {
-    let mut seen = [false; 14];
-    let mut at = 0;
-    loop {
-        let rest = &s[at..];
-        let part = first_part(rest);
-        let key = part.key;
-        let from = part.from;
-        let to = part.to;
-        if !may_follow(seen, key, &rest[from..to]) {
-            return false;
-        }
-        seen[key] = true;
-        if to >= rest.len() {
-            return seen[0];
-        }
-        at = at + to + 1;
+    match read_rule(s) {
+        RuleRead::Is(_) => true,
+        RuleRead::NoRule => false,
     }
 }
