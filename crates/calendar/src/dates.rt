@@ -3,18 +3,21 @@ ghost use mathlib.Core.Path.{_≡_};
 ghost use Prim.Native.Nat.{_≤_, _-_};
 ghost use lib.Dec.{ltb};
 ghost use Rattle.octets.specs.Optional.{when};
-ghost use Rattle.calendar.specs.Gregorian.{leapDay, monthDays, isDay, dayNumber, dayCount, dateAt};
+ghost use Rattle.calendar.specs.Gregorian.{leapDay, monthDays, isDay, dateOn, dayNumber, dayCount, dateAt};
 ghost use Rattle.calendar.specs.Answers.{dayNumberSaid, dateSaid};
 use octets::LAST_YEAR;
-
-// The days that can be named.
-pub const DAY_COUNT: u32 = 3652425;
 
 pub struct Date {
     pub year: u32,
     pub month: u32,
     pub day: u32,
 }
+
+// The years that can be named; they are whole cycles of 400.
+const YEARS: u32 = Date::LAST.year + 1;
+
+// The days that can be named.
+pub const DAY_COUNT: u32 = 365 * YEARS + YEARS / 4 - YEARS / 100 + YEARS / 400;
 
 // The number of a date's day, or that there is no such day.
 pub enum DayNumber {
@@ -41,16 +44,16 @@ impl Date {
         day: 31,
     };
 
-    // The first day that can be named.
+    // The first day that can be named: 0000-01-01, whose number is 0.
     pub fn first() -> Date
-        ensures { λ r. ⌜ r ≡ dateAt 0 ⌝ }
+        ensures { λ r. ⌜ (r ≡ dateOn 0 1 1) × (r ≡ dateAt 0) ⌝ }
     {
         Date::FIRST
     }
 
-    // The last day that can be named.
+    // The last day that can be named: 9999-12-31, whose number is one less than there are days.
     pub fn last() -> Date
-        ensures { λ r. ⌜ r ≡ dateAt (dayCount - 1) ⌝ }
+        ensures { λ r. ⌜ (r ≡ dateOn 9999 12 31) × (r ≡ dateAt (dayCount - 1)) ⌝ }
     {
         Date::LAST
     }
@@ -119,7 +122,8 @@ fn month_days(y: u32, m: u32) -> u32
 pub fn is_day(y: u32, m: u32, d: u32) -> bool
     ensures { λ r. ⌜ r ≡ isDay y m d ⌝ }
 {
-    if (LAST_YEAR as u32) < y {
+    let last = Date::LAST;
+    if last.year < y {
         return false;
     }
     if m < 1 {

@@ -7,9 +7,6 @@ use Rattle.calendar.specs.Gregorian.{isDay}
 use Rattle.calendar.proofs.dates.is_day.Statement.{statement}
 use Rattle.calendar.proofs.dates.is_day.Tie as tie
 
-cast-if1 : tie.Need-cast-if1
-cast-if1 c = search needs
-
 returns : tie.Need-returns
 unfolding isDay between
 returns c = simp (last-year, lt-leb _ _ (c .if1 .taken))
@@ -46,4 +43,4 @@ returns-5 c =
 pub is-day-spec : {M : Type 1} → statement M
 is-day-spec =
     tie.close
-    (tie.spec cast-if1 returns returns-2 returns-3 returns-4 month-days-requires returns-5)
+    (tie.spec returns returns-2 returns-3 returns-4 month-days-requires returns-5)
