@@ -2,6 +2,7 @@
 use Prim.Native.Nat.{ℕ}
 use mathlib.Core.Option.{Option, none, some}
 use Rattle.octets.specs.Basics.{pick}
+use Rattle.octets.specs.Optional.{given}
 use Rattle.calendar.specs.Moments.{isMoment, moved}
 use Rattle.calendar.specs.declared.dates.Date.{Date}
 use Rattle.calendar.specs.declared.dates.DayNumber.{DayNumber}
@@ -12,7 +13,7 @@ use Rattle.calendar.specs.declared.moments.Moment.{Moment}
 use Rattle.calendar.specs.declared.moments.MomentRead.{MomentRead}
 use Rattle.calendar.specs.declared.moments.MomentRead.the-variants.{Is, NoMoment}
 use Rattle.calendar.specs.declared.moments.Moved.{Moved}
-use Rattle.calendar.specs.declared.moments.Moved.the-variants.{At, Past as PastLast}
+use Rattle.calendar.specs.declared.moments.Moved.the-variants.{At, Past as PastLast, NoMoment as NotMoved}
 
 abbrev pub dayNumberSaid : DayNumber → Option ℕ
 dayNumberSaid (Day n) = some n
@@ -26,10 +27,12 @@ abbrev pub momentSaid : MomentRead → Option Moment
 momentSaid (Is m) = some m
 momentSaid NoMoment = none
 
+-- the moment that is reached, if there is one
 abbrev pub movedSaid : Moved → Option Moment
 movedSaid (At m) = some m
 movedSaid PastLast = none
+movedSaid NotMoved = none
 
--- h hours later, if not past 9999; what is no moment is not moved
-unfoldable pub movedOn : Moment → ℕ → Option Moment
-movedOn m h = pick (isMoment m) (moved m h) none
+-- h hours later, or past 9999; what is no moment is not moved
+unfoldable pub movedOn : Moment → ℕ → Moved
+movedOn m h = pick (isMoment m) (given PastLast At (moved m h)) NotMoved

@@ -1,7 +1,7 @@
 // Moments: a date, a local date-time or one in UTC.
 ghost use mathlib.Core.Path.{_≡_};
 ghost use Rattle.calendar.specs.Moments.{kindOf, momentFrom, readMoment};
-ghost use Rattle.calendar.specs.Answers.{momentSaid, movedSaid, movedOn};
+ghost use Rattle.calendar.specs.Answers.{momentSaid, movedOn};
 use crate::dates::DAY_COUNT;
 use crate::dates::Date;
 use crate::dates::DateAt;
@@ -33,24 +33,25 @@ pub enum MomentRead {
     NoMoment,
 }
 
-// A moment moved on, or that it lies past the last day.
+// A moment moved on, or that it lies past the last day then, or that there was no such moment to move.
 pub enum Moved {
     At(Moment),
     Past,
+    NoMoment,
 }
 
 impl Moment {
     // The moment so many hours later. One that cannot be named is not moved.
     pub fn moved(self, hours: u64) -> Moved
-        ensures { λ r. ⌜ movedSaid r ≡ movedOn self hours ⌝ }
+        ensures { λ r. ⌜ r ≡ movedOn self hours ⌝ }
     {
         let date = self.date;
         let kind = self.kind;
         if !is_clock(self.hour, self.minute, self.second) {
-            return Moved::Past;
+            return Moved::NoMoment;
         }
         let DayNumber::Day(n) = date.day_number() else {
-            return Moved::Past;
+            return Moved::NoMoment;
         };
         let here = (n as u64) * 24 + (self.hour as u64);
         if HOUR_COUNT - here <= hours {

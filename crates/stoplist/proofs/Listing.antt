@@ -1,5 +1,5 @@
 -- What a plan's run lays into the list is the definition's answer.
-use Prim.Native.Nat.{ℕ, _-_}
+use Prim.Native.Nat.{ℕ}
 use mathlib.Core.Path.{_≡_, refl, ap, _∙_}
 use mathlib.Core.Bool.{Bool, true, false, not, false≢true}
 use mathlib.Core.List.{List, [], map}
@@ -48,9 +48,9 @@ idle-begins room =
 idle-stops : (room : ℕ) → stopsOf (idle room) ≡ []
 idle-stops room = ended-stops (idle room) (unfold idle in refl)
 
-run-begins : (room h : ℕ) (m : Moment) (r : Rule) → isMoment m ≡ true → realEnd (r .end) → Begins (runAt 0 room m h (r .end)) room
+run-begins : (room h : ℕ) (m : Moment) (r : Rule) → isMoment m ≡ true → realEnd (r .end) → Begins (runAt 0 room (stop m) h (r .end)) room
 unfolding runAt
-run-begins room h m r a b = record { sound = at-sound 0 room m h (r .end) a b; front = refl; whole = refl }
+run-begins room h m r a b = record { sound = at-sound 0 room (stop m) h (r .end) a b; front = refl; whole = refl }
 
 abbrev onTime : Moment → Bool
 onTime m = not (eqb (m .second) 60)
@@ -75,8 +75,8 @@ module _ (start rule : List ℕ) where
     pub none : (why : Refusal) → p .listed ≡ Refused why → stopsOf (p .run) ≡ []
 
   served-stops : (m : Moment) (r : Rule) (room : ℕ) → isMoment m ≡ true → realEnd (r .end)
-      → stopsOf (runAt 0 room m (hoursOf (r .frequency) (r .interval)) (r .end)) ≡ map stop (momentsFrom room (hoursOf (r .frequency) (r .interval)) (r .end) (some m))
-  served-stops m r room a b = rw (sub-zero room) at (stops-at 0 room m (hoursOf (r .frequency) (r .interval)) (r .end) a b)
+      → stopsOf (runAt 0 room (stop m) (hoursOf (r .frequency) (r .interval)) (r .end)) ≡ map stop (momentsFrom room (hoursOf (r .frequency) (r .interval)) (r .end) (some m))
+  served-stops m r room a b = rw (sub-zero room) at (stops-at 0 room (stop m) (hoursOf (r .frequency) (r .interval)) (r .end) a b)
 
   planned-tells : (room : ℕ) (o : Option Moment) (q : Option Rule) → guard onTime (readMoment start) ≡ o → readRule rule ≡ q → Tells (planned o q room) room
   unfolding planned refusedFor told listOf startOf then orElse unless

@@ -15,7 +15,7 @@ use Rattle.calendar.specs.declared.moments.Moment.{Moment}
 use Rattle.calendar.specs.declared.rules.Rule.{Rule}
 use Rattle.octets.specs.declared.Refusal.the-variants.{BadStart, BadRule, NotServed}
 use Rattle.stoplist.specs.declared.Listed.the-variants.{Stops}
-use Rattle.stoplist.specs.Stops.{hoursOf, served}
+use Rattle.stoplist.specs.Stops.{hoursOf, served, stop}
 use Rattle.stoplist.specs.Runs.{runAt}
 use Rattle.stoplist.specs.Plans.{kindPlace, refusedFor, planned, planOf}
 
@@ -53,6 +53,6 @@ module _ (start rule : List ℕ) (room : ℕ) where
         not-served s = rw (← e, ne-eqb (m .second) 60 n, ← q, s)
 
         pub is-planned : served r (m .kind) ≡ true
-            → record { listed = Stops 0; run = runAt 0 room m (hoursOf (r .frequency) (r .interval)) (r .end) } ≡ planOf start rule room
+            → record { listed = Stops 0; run = runAt 0 room (stop m) (hoursOf (r .frequency) (r .interval)) (r .end) } ≡ planOf start rule room
         unfolding planOf guard when planned
         is-planned s = rw (← e, ne-eqb (m .second) 60 n, ← q, s)

@@ -9,16 +9,21 @@ use native.Mathlib.Numerals.{add-one}
 use borrow.Author.Tests.{lt-ltb, ltb-true, ltb-false}
 use lib.Dec.{ltb}
 use Rattle.octets.specs.Basics.{_and_}
+use Rattle.octets.specs.Optional.{given}
 use Rattle.octets.proofs.Cases.{cases, both, not-both}
 use Rattle.calendar.specs.Moments.{isMoment, secondNumber, notBehind, moved}
 use Rattle.calendar.specs.Answers.{movedOn}
 use Rattle.calendar.specs.declared.moments.Moment.{Moment}
+use Rattle.calendar.specs.declared.moments.Moved.the-variants.{At as MomentAt, Past as MomentPast}
 use Rattle.calendar.specs.declared.rules.End.{End}
 use Rattle.calendar.specs.declared.rules.End.the-variants.{Count, Until, Open}
 use Rattle.calendar.proofs.Real.{moved-real}
+use Rattle.stoplist.specs.declared.Stop.{Stop}
+use Rattle.stoplist.specs.declared.StopMoved.{StopMoved}
+use Rattle.stoplist.specs.declared.StopMoved.the-variants.{At, Past, NoMoment}
 use Rattle.stoplist.specs.declared.runs.Run.{Run}
-use Rattle.stoplist.specs.Stops.{allows, oneLess, momentsFrom, stop}
-use Rattle.stoplist.specs.Runs.{seconds, within, runAt, nextFrom, nextRun, advanced, stopsOf, realEnd, Sound}
+use Rattle.stoplist.specs.Stops.{allows, oneLess, momentsFrom, stop, stopAt, stopOn}
+use Rattle.stoplist.specs.Runs.{seconds, within, runAt, ended, nextFrom, nextRun, advanced, stopsOf, realEnd, Sound}
 
 real-seconds : (m : Moment) → isMoment m ≡ true → seconds m ≡ secondNumber m
 unfolding seconds
@@ -37,14 +42,14 @@ less-real (Count (suc n)) r = tt
 less-real (Until u) r = r
 less-real Open r = tt
 
-pub at-sound : (at room : ℕ) (m : Moment) (h : ℕ) (e : End) → isMoment m ≡ true → realEnd e → Sound (runAt at room m h e)
+pub at-sound : (at room : ℕ) (s : Stop) (h : ℕ) (e : End) → isMoment (s .moment) ≡ true → realEnd e → Sound (runAt at room s h e)
 unfolding runAt
-at-sound at room m h e r q =
+at-sound at room s h e r q =
     record {
       real = r;
       end = q;
-      fits = λ b. ltb-true at room (both (ltb at room) (within e m) b .0);
-      allowed = λ b. sym (within-allows e m r q) ∙ both (ltb at room) (within e m) b .1;
+      fits = λ b. ltb-true at room (both (ltb at room) (within e (s .moment)) b .0);
+      allowed = λ b. sym (within-allows e (s .moment) r q) ∙ both (ltb at room) (within e (s .moment)) b .1;
     }
 
 -- the moments of a run at a place where there is room
@@ -66,9 +71,11 @@ one-moment : (n k h : ℕ) (e : End) (m : Moment) → n ≡ k + 1 → allows e m
 unfolding momentsFrom
 one-moment n k h e m p a = rw (p, add-one, a)
 
-pub stops-at : (at room : ℕ) (m : Moment) (h : ℕ) (e : End) → isMoment m ≡ true → realEnd e → stopsOf (runAt at room m h e) ≡ map stop (momentsFrom (room - at) h e (some m))
+pub stops-at : (at room : ℕ) (s : Stop) (h : ℕ) (e : End) → isMoment (s .moment) ≡ true → realEnd e
+    → stopsOf (runAt at room s h e) ≡ map stop (momentsFrom (room - at) h e (some (s .moment)))
 unfolding stopsOf runAt
-stops-at at room m h e r q =
+stops-at at room s h e r q =
+    let m = s .moment in
     cases (ltb at room and within e m) (λ b. rw b) λ b. rw b
     (not-both (ltb at room) (within e m) b
     (λ n. let z : room - at ≡ 0 = (let l = ltb-false at room n in omega arith) in rw (no-room (room - at) h e (some m) z))
@@ -78,20 +85,21 @@ module _ (r : Run) (s : Sound r) (b : r .more ≡ true) where
   abbrev here : Moment
   here = r .stop .moment
 
-  real-move : movedOn here (r .hours) ≡ moved here (r .hours)
-  unfolding movedOn
-  real-move = rw (s .real)
+  -- where a moment is reached, or none
+  abbrev reaching : Option Moment → Run
+  reaching o = nextFrom r (stopAt (r .stop) (given MomentPast MomentAt o))
 
   pub next-at : (nextRun r .at ≡ r .at + 1) × (nextRun r .room ≡ r .room)
   unfolding nextRun
-  next-at = go (movedOn here (r .hours))
+  next-at = go (stopOn (r .stop) (r .hours))
     where
-      go : (o : Option Moment) → (nextFrom r o .at ≡ r .at + 1) × (nextFrom r o .room ≡ r .room)
-      go none = unfold nextFrom in (refl, refl)
-      go (some m) = unfold nextFrom runAt in (refl, refl)
+      go : (o : StopMoved) → (nextFrom r o .at ≡ r .at + 1) × (nextFrom r o .room ≡ r .room)
+      go (At m) = unfold nextFrom runAt in (refl, refl)
+      go Past = unfold nextFrom ended in (refl, refl)
+      go NoMoment = unfold nextFrom ended in (refl, refl)
 
-  from-moved : (o : Option Moment) → moved here (r .hours) ≡ o → Sound (nextFrom r o) × (stopsOf (nextFrom r o) ≡ map stop (momentsFrom (r .room - (r .at + 1)) (r .hours) (oneLess (r .end)) o))
-  unfolding nextFrom
+  from-moved : (o : Option Moment) → moved here (r .hours) ≡ o → Sound (reaching o) × (stopsOf (reaching o) ≡ map stop (momentsFrom (r .room - (r .at + 1)) (r .hours) (oneLess (r .end)) o))
+  unfolding nextFrom stopAt given ended
   from-moved none e = (
     record { real = s .real; end = s .end; fits = λ f. never-more f; allowed = λ f. never-more f },
     (unfold stopsOf in rw (none-left (r .room - (r .at + 1)) (r .hours) (oneLess (r .end)))),
@@ -101,11 +109,11 @@ module _ (r : Run) (s : Sound r) (b : r .more ≡ true) where
       never-more f = absurd (false≢true f)
   from-moved (some m) e =
       let q = moved-real here m (r .hours) (s .real) e in
-      (at-sound (r .at + 1) (r .room) m (r .hours) (oneLess (r .end)) q (less-real (r .end) (s .end)), stops-at (r .at + 1) (r .room) m (r .hours) (oneLess (r .end)) q (less-real (r .end) (s .end)))
+      (at-sound (r .at + 1) (r .room) (stop m) (r .hours) (oneLess (r .end)) q (less-real (r .end) (s .end)), stops-at (r .at + 1) (r .room) (stop m) (r .hours) (oneLess (r .end)) q (less-real (r .end) (s .end)))
 
-  next-is : nextRun r ≡ nextFrom r (moved here (r .hours))
-  unfolding nextRun
-  next-is = ap (nextFrom r) real-move
+  next-is : nextRun r ≡ reaching (moved here (r .hours))
+  unfolding nextRun stopOn movedOn
+  next-is = rw (s .real)
 
   pub next-sound : Sound (nextRun r)
   next-sound = rw next-is (from-moved (moved here (r .hours)) refl .0)

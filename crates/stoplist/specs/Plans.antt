@@ -49,7 +49,7 @@ unfoldable pub planned : Option Moment → Option Rule → ℕ → Plan
 planned none r room = refusedFor BadStart room
 planned (some m) none room = refusedFor BadRule room
 planned (some m) (some r) room =
-    pick (served r (m .kind)) (record { listed = Stops 0; run = runAt 0 room m (hoursOf (r .frequency) (r .interval)) (r .end) }) (refusedFor NotServed room)
+    pick (served r (m .kind)) (record { listed = Stops 0; run = runAt 0 room (stop m) (hoursOf (r .frequency) (r .interval)) (r .end) }) (refusedFor NotServed room)
 
 unfoldable pub planOf : List ℕ → List ℕ → ℕ → Plan
 planOf start rule room = planned (guard (λ (m : Moment). not (eqb (m .second) 60)) (readMoment start)) (readRule rule) room

@@ -3,18 +3,19 @@ use Prim.Native.Nat.{ℕ, _+_, _-_, _<_}
 use mathlib.Core.Path.{_≡_}
 use mathlib.Core.Bool.{Bool, true, false}
 use mathlib.Core.List.{List, [], _++_, map}
-use mathlib.Core.Option.{Option, none, some}
+use mathlib.Core.Option.{some}
 use lib.Dec.{ltb, leb}
 use lib.ListN.{length, drop}
 use Rattle.octets.specs.Basics.{pick, _and_}
 use Rattle.calendar.specs.Moments.{isMoment, secondNumber}
-use Rattle.calendar.specs.Answers.{movedOn}
 use Rattle.calendar.specs.declared.moments.Moment.{Moment}
 use Rattle.calendar.specs.declared.rules.End.{End}
 use Rattle.calendar.specs.declared.rules.End.the-variants.{Count, Until, Open}
 use Rattle.stoplist.specs.declared.Stop.{Stop}
+use Rattle.stoplist.specs.declared.StopMoved.{StopMoved}
+use Rattle.stoplist.specs.declared.StopMoved.the-variants.{At, Past, NoMoment}
 use Rattle.stoplist.specs.declared.runs.Run.{Run}
-use Rattle.stoplist.specs.Stops.{allows, oneLess, momentsFrom, stop}
+use Rattle.stoplist.specs.Stops.{allows, oneLess, momentsFrom, stop, stopOn}
 
 -- seconds from the first day on; 0 for what is no moment
 unfoldable pub seconds : Moment → ℕ
@@ -26,15 +27,20 @@ within (Count n) m = leb 1 n
 within (Until u) m = leb (seconds m) (seconds u)
 within Open m = true
 
-unfoldable pub runAt : ℕ → ℕ → Moment → ℕ → End → Run
-runAt at room m h e = record { more = ltb at room and within e m; at = at; room = room; stop = stop m; hours = h; end = e }
+unfoldable pub runAt : ℕ → ℕ → Stop → ℕ → End → Run
+runAt at room s h e = record { more = ltb at room and within e (s .moment); at = at; room = room; stop = s; hours = h; end = e }
 
-unfoldable pub nextFrom : Run → Option Moment → Run
-nextFrom r none = record { more = false; at = r .at + 1; room = r .room; stop = r .stop; hours = r .hours; end = r .end }
-nextFrom r (some m) = runAt (r .at + 1) (r .room) m (r .hours) (oneLess (r .end))
+-- behind the last stop
+unfoldable pub ended : Run → Run
+ended r = record { more = false; at = r .at + 1; room = r .room; stop = r .stop; hours = r .hours; end = r .end }
+
+unfoldable pub nextFrom : Run → StopMoved → Run
+nextFrom r (At s) = runAt (r .at + 1) (r .room) s (r .hours) (oneLess (r .end))
+nextFrom r Past = ended r
+nextFrom r NoMoment = ended r
 
 unfoldable pub nextRun : Run → Run
-nextRun r = nextFrom r (movedOn (r .stop .moment) (r .hours))
+nextRun r = nextFrom r (stopOn (r .stop) (r .hours))
 
 -- the run as it is where there is no room for more
 unfoldable pub advanced : Run → Run

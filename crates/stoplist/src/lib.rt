@@ -5,17 +5,43 @@ pub mod runs;
 ghost use mathlib.Core.Path.{_≡_};
 ghost use Prim.Native.Nat.{_<_};
 ghost use lib.ListN.{length, set};
-ghost use Rattle.stoplist.specs.Stops.{listOf, answer, outcome};
+ghost use Rattle.stoplist.specs.Stops.{stopOn, listOf, answer, outcome};
 ghost use Rattle.stoplist.specs.Runs.{stopsOf, Begins, Laid};
 use crate::plans::conclude;
 use crate::plans::make_plan;
 use crate::runs::Run;
 use crate::runs::next;
 use calendar::moments::Moment;
+use calendar::moments::Moved;
 use octets::Refusal;
 
 pub struct Stop {
     pub moment: Moment,
+}
+
+// A stop moved on, or that it lies past the last day then, or that there was no such moment to move.
+pub enum StopMoved {
+    At(Stop),
+    Past,
+    NoMoment,
+}
+
+impl Stop {
+    // The stop so many hours later. Its other fields are kept.
+    pub fn moved(self, hours: u64) -> StopMoved
+        ensures { λ r. ⌜ r ≡ stopOn self hours ⌝ }
+    {
+        let mut stop = self;
+        let moment = stop.moment;
+        match moment.moved(hours) {
+            Moved::At(m) => {
+                stop.moment = m;
+                StopMoved::At(stop)
+            }
+            Moved::Past => StopMoved::Past,
+            Moved::NoMoment => StopMoved::NoMoment,
+        }
+    }
 }
 
 // How many stops were listed, or why none were.

@@ -181,7 +181,8 @@ pub fn make_plan(start: &[u8], rule: &[u8], room: usize) -> Plan
     }
     let f = r.frequency;
     let end = r.end;
-    let run = run_at(0, room, m, hours_of(f, r.interval), end);
+    let stop = Stop { moment: m };
+    let run = run_at(0, room, stop, hours_of(f, r.interval), end);
     Plan {
         listed: Listed::Stops(0),
         run: run,

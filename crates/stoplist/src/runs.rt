@@ -4,9 +4,9 @@ ghost use Prim.Native.Nat.{_<_};
 ghost use Rattle.stoplist.specs.Stops.{oneLess};
 ghost use Rattle.stoplist.specs.Runs.{seconds, within, runAt, nextRun, advanced};
 use crate::Stop;
+use crate::StopMoved;
 use calendar::dates::DayNumber;
 use calendar::moments::Moment;
-use calendar::moments::Moved;
 use calendar::rules::End;
 use calendar::texts::is_clock;
 
@@ -61,14 +61,13 @@ fn one_less(end: End) -> End
     }
 }
 
-// The run at a moment for which there may be room.
-pub fn run_at(at: usize, room: usize, m: Moment, hours: u64, end: End) -> Run
-    ensures { λ r. ⌜ r ≡ runAt at room m hours end ⌝ }
+// The run at a stop for which there may be room.
+pub fn run_at(at: usize, room: usize, stop: Stop, hours: u64, end: End) -> Run
+    ensures { λ r. ⌜ r ≡ runAt at room stop hours end ⌝ }
 {
-    let stop = Stop { moment: m };
     if at < room {
         return Run {
-            more: is_within(end, m),
+            more: is_within(end, stop.moment),
             at: at,
             room: room,
             stop: stop,
@@ -93,18 +92,17 @@ pub(crate) fn next(run: Run) -> Run
 {
     let stop = run.stop;
     let end = run.end;
-    let m = stop.moment;
-    match m.moved(run.hours) {
-        Moved::At(n) => run_at(run.at + 1, run.room, n, run.hours, one_less(end)),
-        Moved::Past => Run {
+    let StopMoved::At(later) = stop.moved(run.hours) else {
+        return Run {
             more: false,
             at: run.at + 1,
             room: run.room,
             stop: stop,
             hours: run.hours,
             end: end,
-        },
-    }
+        };
+    };
+    run_at(run.at + 1, run.room, later, run.hours, one_less(end))
 }
 
 // The run at the next moment, or the run as it is where there is no room for more.

@@ -9,13 +9,14 @@ use native.Mathlib.Nat.{suc-mul, mul-le-mul-left, mul-le-mul-right}
 use borrow.Author.Tests.{lt-ltb, ltb-true, le-leb, lt-leb, leb-true}
 use lib.Dec.{ltb, leb}
 use lib.ListN.{length, length-map}
-use Rattle.octets.specs.Optional.{isSome, when}
+use Rattle.octets.specs.Optional.{isSome, when, given}
 use Rattle.octets.proofs.Cases.{both, and-false-right}
 use Rattle.octets.proofs.Optional.{when-is, some-is}
 use Rattle.calendar.specs.Gregorian.{dayCount}
 use Rattle.calendar.specs.Moments.{isMoment, hourNumber, atHour, moved}
-use Rattle.calendar.specs.Answers.{movedOn}
+use Rattle.calendar.specs.Answers.{movedSaid, movedOn}
 use Rattle.calendar.specs.declared.moments.Moment.{Moment}
+use Rattle.calendar.specs.declared.moments.Moved.the-variants.{At, Past}
 use Rattle.calendar.specs.declared.rules.End.{End}
 use Rattle.calendar.specs.declared.rules.End.the-variants.{Count, Until, Open}
 use Rattle.calendar.proofs.Inverse.{number-back}
@@ -91,6 +92,12 @@ counted-from (suc room) (suc k) h e m r l a =
         → suc k ≡ length (momentsFrom room h (oneLess e) (some (atHour m (hourNumber m + h)))) → suc (suc k) ≡ length (momentsFrom (suc room) h e (some m))
     onto o p i = unfold momentsFrom in rw (o .0, p) (ap suc i)
 
+-- a moment that is reached is said to be
+said-back : (o : Option Moment) → movedSaid (given Past At o) ≡ o
+unfolding given
+said-back none = refl
+said-back (some m) = refl
+
 -- what the test tells
 module _ (m : Moment) (h n : ℕ) where
   pub too-many : 100000000 < n → false ≡ reached m h n
@@ -101,11 +108,11 @@ module _ (m : Moment) (h n : ℕ) where
   unfolding reached
   too-far l = rw (lt-leb h 100000000 l, and-false-right (leb n 100000000)) (sym (and-false-right (leb 1 n)))
 
-  pub is-past : none ≡ movedOn m ((n - 1) * h) → false ≡ reached m h n
+  pub is-past : none ≡ movedSaid (movedOn m ((n - 1) * h)) → false ≡ reached m h n
   unfolding reached isSome
   is-past e = rw (← e, and-false-right (leb h 100000000), and-false-right (leb n 100000000)) (sym (and-false-right (leb 1 n)))
 
-  pub is-there : (x : Moment) → (n ≡ 0 → ⊥) → n ≤ 100000000 → h ≤ 100000000 → some x ≡ movedOn m ((n - 1) * h) → true ≡ reached m h n
+  pub is-there : (x : Moment) → (n ≡ 0 → ⊥) → n ≤ 100000000 → h ≤ 100000000 → some x ≡ movedSaid (movedOn m ((n - 1) * h)) → true ≡ reached m h n
   unfolding reached isSome
   is-there x z a b e = rw (le-leb 1 n (positive n z), le-leb n 100000000 a, le-leb h 100000000 b, ← e)
     where
@@ -119,7 +126,7 @@ module _ (m : Moment) (h n : ℕ) where
       let a = both (leb 1 n) _ e in
       let s = both (leb h 100000000) _ (both (leb n 100000000) _ (a .1) .1) .1 in (
         leb-true 1 n (a .0),
-        some-is _ (rw r at s) (λ x w. ltb-true _ _ (when-is (ltb (hourNumber m + (n - 1) * h) (dayCount * 24)) _ x w .0)),
+        some-is _ (rw (r, said-back) at s) (λ x w. ltb-true _ _ (when-is (ltb (hourNumber m + (n - 1) * h) (dayCount * 24)) _ x w .0)),
       )
 
 pub product-fits : (a b : ℕ) → a ≤ 100000000 → b ≤ 100000000 → a * b ≤ 10000000000000000

@@ -8,7 +8,7 @@ use lib.Dec.{leb}
 use Rattle.octets.specs.Basics.{_and_}
 use Rattle.octets.specs.Pieces.{split}
 use Rattle.octets.specs.Optional.{isSome}
-use Rattle.calendar.specs.Answers.{movedOn}
+use Rattle.calendar.specs.Answers.{movedSaid, movedOn}
 use Rattle.calendar.specs.declared.moments.Moment.{Moment}
 use Rattle.calendar.specs.declared.rules.End.{End}
 use Rattle.calendar.specs.declared.rules.End.the-variants.{Count, Until, Open}
@@ -32,7 +32,7 @@ allowedBy Open room = room
 
 -- the last of n moments, h hours apart, is not past the last day; asked of numbers whose product is a word
 unfoldable pub reached : Moment → ℕ → ℕ → Bool
-reached m h n = leb 1 n and leb n 100000000 and leb h 100000000 and isSome (movedOn m ((n - 1) * h))
+reached m h n = leb 1 n and leb n 100000000 and leb h 100000000 and isSome (movedSaid (movedOn m ((n - 1) * h)))
 
 -- what a read number says
 abbrev pub mostSaid : Most → Option ℕ

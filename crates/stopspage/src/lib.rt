@@ -129,6 +129,7 @@ fn is_reached(m: Moment, hours: u64, n: usize) -> bool
     match m.moved(last * hours) {
         Moved::At(_) => true,
         Moved::Past => false,
+        Moved::NoMoment => false,
     }
 }
 

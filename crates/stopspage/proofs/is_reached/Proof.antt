@@ -34,11 +34,17 @@ enum-told c = search needs
 enum-told-2 : tie.Need-enum-told-2
 enum-told-2 c = search needs
 
+enum-told-3 : tie.Need-enum-told-3
+enum-told-3 c = search needs
+
 returns-4 : tie.Need-returns-4
-returns-4 c = is-there _ _ _ _ (c .before .before .before .before .before .if1 .left) (c .before .before .before .before .if2 .left) (c .before .before .before .if3 .left) (ap movedSaid (sym (c .enum-told .given .1)) ∙ c .before .before .moved .ensures)
+returns-4 c = is-there _ _ _ _ (c .before .before .before .before .before .if1 .left) (c .before .before .before .before .if2 .left) (c .before .before .before .if3 .left) (ap movedSaid (sym (c .enum-told .given .1) ∙ c .before .before .moved .ensures))
 
 returns-5 : tie.Need-returns-5
-returns-5 c = is-past _ _ _ (ap movedSaid (sym (c .enum-told2 .given .1)) ∙ c .before .before .moved .ensures)
+returns-5 c = is-past _ _ _ (ap movedSaid (sym (c .enum-told2 .given .1) ∙ c .before .before .moved .ensures))
+
+returns-6 : tie.Need-returns-6
+returns-6 c = is-past _ _ _ (ap movedSaid (sym (c .enum-told3 .given .1) ∙ c .before .before .moved .ensures))
 
 pub is-reached-spec : {M : Type 1} → statement M
 is-reached-spec =
@@ -52,5 +58,7 @@ is-reached-spec =
     moved-requires
     enum-told
     enum-told-2
+    enum-told-3
     returns-4
-    returns-5)
+    returns-5
+    returns-6)

@@ -1,50 +1,45 @@
--- `stoplist::runs::next` meets its contract: the moment moved on, or none.
-use mathlib.Core.Path.{sym, ap, _∙_}
+-- `stoplist::runs::next` meets its contract: the stop moved on, or none.
+use mathlib.Core.Path.{_≡_, refl, sym, _∙_}
+use mathlib.Core.List.{[], _∷_}
+use mathlib.Core.Logic.{⊎-elim}
+use native.Mathlib.Omega.{arith}
+use types.Run.{OneOf}
+use denote.Enum.Declared.{tagOf}
 use borrow.Author.Needs.{needs}
-use Rattle.calendar.specs.Answers.{movedSaid}
-use Rattle.stoplist.specs.Runs.{nextRun, nextFrom}
+use Rattle.stoplist.specs.declared.StopMoved.{StopMoved}
+use Rattle.stoplist.specs.declared.StopMoved.the-variants.{At, Past, NoMoment}
+use Rattle.stoplist.specs.declared.runs.Run.{Run}
+use Rattle.stoplist.specs.Runs.{nextRun, nextFrom, ended}
+use Rattle.stoplist.proofs.StopMoved as moved
 use Rattle.stoplist.proofs.runs.next.Statement.{statement}
 use Rattle.stoplist.proofs.runs.next.Tie as tie
 
-moved-requires : tie.Need-moved-requires
-moved-requires c κs = search needs
-
-enum-known-n : tie.Need-enum-known-n
-enum-known-n c = search needs
-
-add-run-at : tie.Need-add-run-at
-add-run-at c = search needs
-
-one-less-requires : tie.Need-one-less-requires
-one-less-requires c κs = search needs
-
-run-at-requires : tie.Need-run-at-requires
-run-at-requires c κs = search needs
-
-enum-told : tie.Need-enum-told
-enum-told c = search needs
-
-add-t10 : tie.Need-add-t10
-add-t10 c = search needs
+-- the answers but the first
+no-later : (r : Run) (o : StopMoved) → OneOf (1 ∷ 2 ∷ []) (tagOf moved.the-type o) → ended r ≡ nextFrom r o
+unfolding nextFrom
+no-later r (At s) k = absurd (⊎-elim (λ e. omega arith) (λ e. omega arith) k)
+no-later r Past k = refl
+no-later r NoMoment k = refl
 
 returns : tie.Need-returns
-unfolding nextRun nextFrom
-returns c = rw (sym (ap movedSaid (sym (c .before .before .before .before .n .given .1)) ∙ c .before .before .before .before .before .before .moved .ensures), ← (c .before .one-less .ensures)) (c .run-at .ensures)
+unfolding nextRun ended
+returns c = rw (← (c .before .before .moved .ensures)) (no-later _ _ (c .before .match .keys2))
 
 returns-2 : tie.Need-returns-2
 unfolding nextRun nextFrom
-returns-2 c = rw (sym (ap movedSaid (sym (c .before .enum-told .given .1)) ∙ c .before .before .before .moved .ensures))
+returns-2 c =
+    rw (sym (c .before .before .before .before .before .before .moved .ensures) ∙ c .before .before .before .before .later .given .1, ← (c .before .one-less .ensures))
+    (c .run-at .ensures)
 
 pub next-spec : {M : Type 1} → statement M
 next-spec =
     tie.close
     (tie.spec
-    moved-requires
-    enum-known-n
-    add-run-at
-    one-less-requires
-    run-at-requires
-    enum-told
-    add-t10
+    (λ c κs. search needs)
+    (λ c. search needs)
+    (λ c. search needs)
     returns
+    (λ c. search needs)
+    (λ c κs. search needs)
+    (λ c κs. search needs)
     returns-2)
