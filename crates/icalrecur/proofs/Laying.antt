@@ -4,7 +4,7 @@ use mathlib.Core.Path.{_≡_, sym, _∙_}
 use mathlib.Core.Bool.{Bool}
 use mathlib.Core.List.{List, _++_}
 use Rattle.octets.specs.Pen.{Pen, Wrote}
-use Rattle.octets.proofs.Pen.{as-text, then}
+use Rattle.octets.proofs.Pen.{as-text, then, front-behind}
 use Rattle.icalrecur.specs.Laying.{LaidAs}
 use Rattle.icalrecur.specs.declared.wording.Laid.{Laid}
 use Rattle.icalrecur.specs.declared.wording.Laid.the-variants.{To, Invalid}
@@ -13,4 +13,4 @@ use Rattle.icalrecur.specs.declared.wording.Laid.the-variants.{To, Inval
 pub laid-behind : {p q : Pen} {xs : List ℕ} (ys : List ℕ) {zs : List ℕ} (reached arrived : ℕ → Type 0) (out : List ℕ) (r : Laid) {stands holds : Bool} → stands ≡ holds → xs ++ ys ≡ zs
     → ((e : ℕ) → reached e → arrived e) → Wrote p xs q → LaidAs stands ys q out reached r → LaidAs holds zs p out arrived r
 laid-behind ys reached arrived out (To n e) a b go w t = (sym a ∙ t .0, as-text (then w (t .1)) b, go e (t .2))
-laid-behind ys reached arrived out Invalid a b go w t = sym a ∙ t
+laid-behind ys reached arrived out Invalid a b go w t = (sym a ∙ t .0, front-behind w (t .1))

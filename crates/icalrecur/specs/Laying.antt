@@ -3,11 +3,12 @@ use Prim.Native.Nat.{ℕ}
 use mathlib.Core.Path.{_≡_}
 use mathlib.Core.Bool.{Bool, true, false}
 use mathlib.Core.List.{List}
-use Rattle.octets.specs.Pen.{Pen, pen, Wrote}
+use Rattle.octets.specs.Pen.{Pen, pen, Wrote, FrontKept}
 use Rattle.icalrecur.specs.declared.wording.Laid.{Laid}
 use Rattle.icalrecur.specs.declared.wording.Laid.the-variants.{To, Invalid}
 
--- the piece stands, its text is written, and the place on the tape was reached; or it does not stand, and what is left in the buffer is the code's choice
+-- the piece stands, its text is written, and the place on the tape was reached; or it does not stand, and the buffer is as long and as before in front
+-- of the pen, and the code's choice behind
 abbrev pub LaidAs : Bool → List ℕ → Pen → List ℕ → (ℕ → Type 0) → Laid → Type 0
 LaidAs stands text p out reached (To q e) = (stands ≡ true) × Wrote p text (pen out q) × reached e
-LaidAs stands text p out reached Invalid = stands ≡ false
+LaidAs stands text p out reached Invalid = (stands ≡ false) × FrontKept p out

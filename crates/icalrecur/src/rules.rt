@@ -14,8 +14,8 @@ use tape::OBJECT;
 use tape::after;
 use tape::tag;
 
-// Writes the value at `at`, if it is a recurrence rule. Its text is laid into `text` and its normal form into `rule`, both as long as the tape;
-// what is left there is the code's choice.
+// Writes the value at `at`, if it is a recurrence rule; else `out` is as before in front of the pen, and the code's choice behind. The rule's text is
+// laid into `text` and its normal form into `rule`, both as long as the tape: they keep their length, and what is left in them is the code's choice.
 pub fn write_rule(
     out: &mut [u8],
     p: Folder,

@@ -2,6 +2,7 @@
 use mathlib.Core.Path.{sym, _∙_}
 use borrow.Author.Needs.{needs}
 use borrow.Author.Tests.{not-true, not-false}
+use Rattle.octets.proofs.Pen.{front-same}
 use Rattle.content.proofs.Folding.{as-folded}
 use Rattle.icalrecur.proofs.Room.{first-short, second-short, both-there}
 use Rattle.icalrecur.proofs.Ruling.{no-object-rule, other-members, rule-stands, laid-within, shown-within, normal-text}
@@ -9,17 +10,17 @@ use Rattle.icalrecur.proofs.rules.write_rule.Statement.{statement}
 use Rattle.icalrecur.proofs.rules.write_rule.Tie as tie
 
 returns : tie.Need-returns
-returns c = first-short _ _ _ _ (c .if1 .taken)
+returns c = (first-short _ _ _ _ (c .if1 .taken), front-same)
 
 returns-2 : tie.Need-returns-2
-returns-2 c = second-short _ _ _ _ (c .if2 .taken)
+returns-2 c = (second-short _ _ _ _ (c .if2 .taken), front-same)
 
 returns-3 : tie.Need-returns-3
 returns-3 c =
     let at-tag = c .before in
     let at-if2 = at-tag .before in
     let at-if1 = at-if2 .before in
-    both-there _ _ _ _ (at-if1 .if1 .left) (at-if2 .if2 .left) ∙ no-object-rule _ _ (λ z. c .if3 .taken (at-tag .tag .ensures ∙ z))
+    (both-there _ _ _ _ (at-if1 .if1 .left) (at-if2 .if2 .left) ∙ no-object-rule _ _ (λ z. c .if3 .taken (at-tag .tag .ensures ∙ z)), front-same)
 
 part-is-rule-end : tie.Need-part-is-rule-end
 part-is-rule-end c =
@@ -45,7 +46,7 @@ returns-4 c =
     let at-if1 = at-if2 .before in
     let o = sym (at-tag .tag .ensures) ∙ at-if3 .if3 .left in
     let one = rw (at-n .n .given .1) at (at-lay-members .lay-members .ensures) in
-    both-there _ _ _ _ (at-if1 .if1 .left) (at-if2 .if2 .left) ∙ rule-stands o (at-after .after .ensures) (at-if1 .if1 .left) (one .1) (one .0) ∙ sym (at-is-rule .is-rule .ensures) ∙ not-true _ (c .if4 .taken)
+    (both-there _ _ _ _ (at-if1 .if1 .left) (at-if2 .if2 .left) ∙ rule-stands o (at-after .after .ensures) (at-if1 .if1 .left) (one .1) (one .0) ∙ sym (at-is-rule .is-rule .ensures) ∙ not-true _ (c .if4 .taken), front-same)
 
 part-put-rule-end : tie.Need-part-put-rule-end
 part-put-rule-end c =
@@ -84,7 +85,7 @@ returns-5 c =
     let at-if2 = at-tag .before in
     let at-if1 = at-if2 .before in
     let one = rw (c .enum-told .given .1) at (at-lay-members .lay-members .ensures) in
-    both-there _ _ _ _ (at-if1 .if1 .left) (at-if2 .if2 .left) ∙ other-members (sym (at-tag .tag .ensures) ∙ at-if3 .if3 .left) (at-after .after .ensures) one
+    (both-there _ _ _ _ (at-if1 .if1 .left) (at-if2 .if2 .left) ∙ other-members (sym (at-tag .tag .ensures) ∙ at-if3 .if3 .left) (at-after .after .ensures) (one .0), front-same)
 
 returns-6 : tie.Need-returns-6
 returns-6 c =

@@ -2,7 +2,7 @@
 use mathlib.Core.Path.{sym, ap, _∙_}
 use borrow.Author.Needs.{needs}
 use borrow.Author.Tests.{not-true, not-false}
-use Rattle.octets.proofs.Pen.{as-text}
+use Rattle.octets.proofs.Pen.{as-text, front-same}
 use Rattle.values.specs.Recur.{itemText}
 use Rattle.icalrecur.specs.Kinds.{itemIs}
 use Rattle.icalrecur.proofs.Parting.{string-wording, number-wording}
@@ -16,7 +16,7 @@ returns c =
     let at-match = at-string-is .before .before in
     let at-text-at = at-match .before in
     let at-tag = at-text-at .before in
-    ap (itemIs _) (string-value (at-text-at .text-at .ensures) (sym (at-tag .tag .ensures) ∙ at-match .match .keys1)) ∙ sym (at-string-is .string-is .ensures) ∙ not-true _ (c .if1 .taken)
+    (ap (itemIs _) (string-value (at-text-at .text-at .ensures) (sym (at-tag .tag .ensures) ∙ at-match .match .keys1)) ∙ sym (at-string-is .string-is .ensures) ∙ not-true _ (c .if1 .taken), front-same)
 
 returns-2 : tie.Need-returns-2
 returns-2 c =
@@ -24,7 +24,7 @@ returns-2 c =
     let at-match = at-number-is .before .before in
     let at-text-at = at-match .before in
     let at-tag = at-text-at .before in
-    ap (itemIs _) (number-value (at-text-at .text-at .ensures) (sym (at-tag .tag .ensures) ∙ at-match .match .keys2)) ∙ sym (at-number-is .number-is .ensures) ∙ not-true _ (c .if2 .taken)
+    (ap (itemIs _) (number-value (at-text-at .text-at .ensures) (sym (at-tag .tag .ensures) ∙ at-match .match .keys2)) ∙ sym (at-number-is .number-is .ensures) ∙ not-true _ (c .if2 .taken), front-same)
 
 returns-3 : tie.Need-returns-3
 returns-3 c =
@@ -51,7 +51,7 @@ returns-4 c =
 returns-5 : tie.Need-returns-5
 returns-5 c =
     let at-tag = c .before .before in
-    no-item _ _ _ (λ e. c .match .rest .0 .1 (at-tag .tag .ensures ∙ e)) (λ e. c .match .rest .1 (at-tag .tag .ensures ∙ e))
+    (no-item _ _ _ (λ e. c .match .rest .0 .1 (at-tag .tag .ensures ∙ e)) (λ e. c .match .rest .1 (at-tag .tag .ensures ∙ e)), front-same)
 
 pub lay-item-spec : {M : Type 1} → statement M
 lay-item-spec =

@@ -2,7 +2,7 @@
 use mathlib.Core.Path.{sym, _∙_}
 use borrow.Author.Needs.{needs}
 use borrow.Author.Tests.{not-true, not-false}
-use Rattle.octets.proofs.Pen.{then}
+use Rattle.octets.proofs.Pen.{then, front-same}
 use Rattle.tape.specs.Promise.{Next}
 use Rattle.icalrecur.proofs.Laying.{laid-behind}
 use Rattle.icalrecur.proofs.Parting.{member-keyed}
@@ -11,14 +11,14 @@ use Rattle.icalrecur.proofs.wording.lay_member.Statement.{statement}
 use Rattle.icalrecur.proofs.wording.lay_member.Tie as tie
 
 returns : tie.Need-returns
-returns c = member-case _ _ (sym (c .before .is-lower-name .ensures) ∙ not-true _ (c .if1 .taken))
+returns c = (member-case _ _ (sym (c .before .is-lower-name .ensures) ∙ not-true _ (c .if1 .taken)), front-same)
 
 returns-2 : tie.Need-returns-2
 returns-2 c =
     let at-key-place = c .before in
     let at-if1 = at-key-place .before in
     let at-is-lower-name = at-if1 .before in
-    member-unknown _ _ (rw (at-key-place .key-place .ensures) at (c .if2 .taken)) (sym (at-is-lower-name .is-lower-name .ensures) ∙ not-false _ (at-if1 .if1 .left))
+    (member-unknown _ _ (rw (at-key-place .key-place .ensures) at (c .if2 .taken)) (sym (at-is-lower-name .is-lower-name .ensures) ∙ not-false _ (at-if1 .if1 .left)), front-same)
 
 returns-3 : tie.Need-returns-3
 returns-3 c =

@@ -1,11 +1,12 @@
 -- `icalrecur::wording::lay_members` meets its contract.
-use Prim.Native.Nat.{_-_}
+use Prim.Native.Nat.{ℕ, _-_}
 use mathlib.Core.Path.{_≡_, refl, sym, _∙_}
+use mathlib.Core.List.{List}
 use native.Mathlib.Omega.{arith}
 use lib.ListN.{length}
 use borrow.Author.Needs.{needs}
-use Rattle.octets.proofs.Pen.{as-text, nothing, Leads, leads-start, leads-on, leads-last}
-use Rattle.octets.specs.Pen.{pen}
+use Rattle.octets.proofs.Pen.{as-text, nothing, then, kept, front-behind, Leads, leads-start, leads-on, leads-last}
+use Rattle.octets.specs.Pen.{pen, Wrote}
 use Rattle.json.specs.Tape.{tagEnd}
 use Rattle.tape.proofs.Scans.{Keyed, member-on}
 use Rattle.tape.specs.Decode.{tagAt, membersAt}
@@ -17,7 +18,7 @@ use Rattle.icalrecur.proofs.wording.lay_members.Statement.{statement}
 use Rattle.icalrecur.proofs.wording.lay_members.Tie as tie
 
 abbrev Inv-loop : tie.InvT-loop
-Inv-loop out₀ at t i to₀ from₀ out to from = ((tagAt t from ≡ tagEnd) → ⊥) × (length out ≡ length out₀) × (kindsAre (membersAt t from) ≡ kindsAre (membersAt t i)) × Leads (pen out₀ at) (objectText (membersAt t i)) (pen out to) (objectText (membersAt t from))
+Inv-loop out₀ at t i to₀ from₀ out to from = ((tagAt t from ≡ tagEnd) → ⊥) × ((xs : List ℕ) × Wrote (pen out₀ at) xs (pen out to)) × (kindsAre (membersAt t from) ≡ kindsAre (membersAt t i)) × Leads (pen out₀ at) (objectText (membersAt t i)) (pen out to) (objectText (membersAt t from))
 
 abbrev μ-loop : tie.MeasureT-loop
 μ-loop out₀ at t i to₀ from₀ out to from = length t - from
@@ -28,7 +29,7 @@ returns c =
     (kinds-end _ _ z, as-text nothing (members-none _ _ z), z)
 
 loop-holds : tie.Need-loop-holds Inv-loop μ-loop
-loop-holds c = (λ e. c .if1 .left (c .before .tag .ensures ∙ e), refl, refl, leads-start)
+loop-holds c = (λ e. c .if1 .left (c .before .tag .ensures ∙ e), (_, nothing), refl, leads-start)
 
 returns-2 : tie.Need-returns-2 Inv-loop μ-loop
 returns-2 c =
@@ -36,7 +37,7 @@ returns-2 c =
     let at-text-at = at-lay-member .before .before .before in
     let at-loop = at-text-at .before in
     let one = rw (c .enum-told .given .1) at (at-lay-member .lay-member .ensures) in
-    sym (at-loop .loop .inv .2) ∙ member-stops (at-loop .loop .inv .0) (at-text-at .text-at .ensures) one
+    (sym (at-loop .loop .inv .2) ∙ member-stops (at-loop .loop .inv .0) (at-text-at .text-at .ensures) (one .0), front-behind (at-loop .loop .inv .1 .1) (one .1))
 
 returns-3 : tie.Need-returns-3 Inv-loop μ-loop
 returns-3 c =
@@ -71,7 +72,7 @@ loop-again c =
     let at-loop = at-text-at .before in
     let one = rw (at-q .q .given .1) at (at-lay-member .lay-member .ensures) in
     let m : Keyed _ _ _ _ = record { some = at-loop .loop .inv .0; key = at-text-at .text-at .ensures; next = one .2 } in
-    (λ e. at-if2 .if2 .left (at-tag2 .tag2 .ensures ∙ e), omega (arith, at-loop .loop .inv .1), sym (member-stands m (one .0)) ∙ at-loop .loop .inv .2, leads-on (leads-on (at-loop .loop .inv .3) (one .1) (members-more m (λ e. at-if2 .if2 .left (at-tag2 .tag2 .ensures ∙ e)))) (at-put .put .ensures) refl)
+    (λ e. at-if2 .if2 .left (at-tag2 .tag2 .ensures ∙ e), (_, then (then (at-loop .loop .inv .1 .1) (one .1)) (at-put .put .ensures)), sym (member-stands m (one .0)) ∙ at-loop .loop .inv .2, leads-on (leads-on (at-loop .loop .inv .3) (one .1) (members-more m (λ e. at-if2 .if2 .left (at-tag2 .tag2 .ensures ∙ e)))) (at-put .put .ensures) refl)
 
 pub lay-members-spec : {M : Type 1} → statement M
 lay-members-spec =
@@ -88,11 +89,11 @@ lay-members-spec =
     (λ c. search needs)
     (λ c κs. search needs)
     (λ c. search needs)
-    (λ c. search needs)
+    (λ c. omega (arith, kept (c .before .before .before .before .before .before .before .before .loop .inv .1 .1)))
     returns-2
     (λ c. search needs)
     (λ c κs. search needs)
-    (λ c. search needs)
+    (λ c. omega (arith, kept (c .before .before .before .before .before .before .before .before .before .before .before .loop .inv .1 .1)))
     returns-3
     (λ c κs. search needs)
     loop-less

@@ -3,7 +3,7 @@ use mathlib.Core.Logic.{inl}
 use mathlib.Core.Path.{sym, _∙_}
 use borrow.Author.Needs.{needs}
 use borrow.Author.Tests.{not-true, not-false}
-use Rattle.octets.proofs.Pen.{nothing}
+use Rattle.octets.proofs.Pen.{nothing, front-same}
 use Rattle.tape.proofs.Walks.{next-inside}
 use Rattle.tape.specs.Promise.{Next, Left}
 use Rattle.icalrecur.proofs.Laying.{laid-behind}
@@ -24,7 +24,7 @@ returns-2 c =
     let at-has-several = c .before in
     let at-if1 = at-has-several .before in
     let at-tag = at-if1 .before in
-    one-kind _ _ _ (sym (at-tag .tag .ensures) ∙ at-if1 .if1 .left) (sym (at-has-several .has-several .ensures) ∙ not-true _ (c .if2 .taken))
+    (one-kind _ _ _ (sym (at-tag .tag .ensures) ∙ at-if1 .if1 .left) (sym (at-has-several .has-several .ensures) ∙ not-true _ (c .if2 .taken)), front-same)
 
 returns-3 : tie.Need-returns-3
 returns-3 c =
