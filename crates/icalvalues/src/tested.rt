@@ -112,7 +112,8 @@ fn write_values(out: &mut [u8], p: Folder, t: &[u8], at: usize, sort: Sort, many
 }
 
 // Writes the values from `at` to the end of their group, if the sort takes them; several of them only where the name may have many and the sort
-// splits. `text` and `rule` are as long as the tape, or the values are invalid; what is left there is the code's choice.
+// splits. Else `out` is as before in front of the pen, and the code's choice behind. `text` and `rule` are as long as the tape, or the values are
+// invalid; they keep their length, and what is left in them is the code's choice.
 pub fn write_tested(
     out: &mut [u8],
     p: Folder,

@@ -1,5 +1,6 @@
 -- `icalvalues::escaping::fold_escaped` meets its contract.
 use Rattle.icalvalues.proofs.Bared.{escaped, stays, text-plain}
+use Rattle.octets.proofs.Pen.{front-same}
 use Rattle.octets.specs.Classes.{isControl, plainOctet, textOctet}
 use Rattle.values.specs.Texts.{escapedOctet}
 use mathlib.Core.Logic.{inl, inr}
@@ -26,7 +27,7 @@ unfolding textOctet plainOctet isControl escapedOctet
 returns-3 c = rw (c .before .before .before .before .match .keys2) (refl, c .before .before .fold-pair2 .ensures)
 
 returns-4 : tie.Need-returns-4
-returns-4 c = rw (text-plain _ (c .before .before .match .rest .1)) (sym (c .before .is-plain-octet .ensures) ∙ c .if1 .left)
+returns-4 c = rw (text-plain _ (c .before .before .match .rest .1)) (sym (c .before .is-plain-octet .ensures) ∙ c .if1 .left, front-same)
 
 pub fold-escaped-spec : {M : Type 1} → statement M
 fold-escaped-spec =

@@ -1,5 +1,6 @@
 -- `icalvalues::leaves::write_end` meets its contract.
 use Rattle.icalvalues.proofs.Arrays.{end-moment, end-forward, end-other}
+use Rattle.octets.proofs.Pen.{front-wrote}
 use Rattle.content.proofs.Folding.{then, as-folded}
 use mathlib.Core.Path.{sym, _∙_}
 use borrow.Author.Needs.{needs}
@@ -22,7 +23,7 @@ returns-2 c =
     (e .0, then (at-fold-octet .fold-octet .ensures) (as-folded (at-fold-upper .fold-upper .ensures) (e .1)))
 
 returns-3 : tie.Need-returns-3
-returns-3 c = end-other _ (sym (c .before .before .before .is-extended .ensures) ∙ c .before .before .if1 .left) (sym (c .before .is-forward .ensures) ∙ c .if2 .left)
+returns-3 c = (end-other _ (sym (c .before .before .before .is-extended .ensures) ∙ c .before .before .if1 .left) (sym (c .before .is-forward .ensures) ∙ c .if2 .left), front-wrote (c .before .before .before .before .before .before .fold-octet .ensures .wrote))
 
 pub write-end-spec : {M : Type 1} → statement M
 write-end-spec =

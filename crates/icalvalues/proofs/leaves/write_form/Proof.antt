@@ -1,4 +1,5 @@
 -- `icalvalues::leaves::write_form` meets its contract.
+use Rattle.octets.proofs.Pen.{front-same}
 use mathlib.Core.Path.{sym, _∙_}
 use borrow.Author.Needs.{needs}
 use Rattle.icalvalues.proofs.leaves.write_form.Statement.{statement}
@@ -8,7 +9,7 @@ returns : tie.Need-returns
 returns c = (sym (c .before .before .before .before .before .is-extended .ensures) ∙ c .before .before .before .before .if1 .taken, c .before .before .fold-basic .ensures)
 
 returns-2 : tie.Need-returns-2
-returns-2 c = sym (c .before .is-extended .ensures) ∙ c .if1 .left
+returns-2 c = (sym (c .before .is-extended .ensures) ∙ c .if1 .left, front-same)
 
 pub write-form-spec : {M : Type 1} → statement M
 write-form-spec =

@@ -3,6 +3,7 @@ use Rattle.icalvalues.proofs.Sorts.{no-number}
 use Rattle.values.specs.Write.{isNumber, valueIs, valueText}
 use Rattle.values.specs.Coded.{sortSaid}
 use Rattle.json.specs.Tree.{string?, number?, octetsOf}
+use Rattle.octets.proofs.Pen.{front-same}
 use Rattle.octets.specs.Optional.{holds, given}
 use borrow.Author.Tests.{not-true, not-false}
 use mathlib.Core.Path.{sym, _∙_}
@@ -12,7 +13,7 @@ use Rattle.icalvalues.proofs.leaves.write_number.Tie as tie
 
 returns : tie.Need-returns
 unfolding sortSaid valueIs isNumber holds number?
-returns c = rw (c .before .before .enum-told2 .given .1) (sym (c .before .is-integer .ensures) ∙ not-true _ (c .if1 .taken))
+returns c = rw (c .before .before .enum-told2 .given .1) (sym (c .before .is-integer .ensures) ∙ not-true _ (c .if1 .taken), front-same)
 
 returns-2 : tie.Need-returns-2
 unfolding sortSaid valueIs valueText isNumber holds number? octetsOf given string?
@@ -23,7 +24,7 @@ unfolding sortSaid valueIs valueText isNumber holds number? octetsOf given strin
 returns-3 c = rw (c .before .before .before .before .before .before .enum-told2 .given .1) (sym (c .before .before .before .before .before .is-integer .ensures) ∙ not-false _ (c .before .before .before .before .if1 .left), c .before .before .fold-integer .ensures)
 
 returns-4 : tie.Need-returns-4
-returns-4 c = no-number _ _ (c .match .keys3)
+returns-4 c = (no-number _ _ (c .match .keys3), front-same)
 
 pub write-number-spec : {M : Type 1} → statement M
 write-number-spec =

@@ -2,6 +2,7 @@
 use Rattle.icalvalues.proofs.Sorts.{no-string}
 use Rattle.values.specs.Write.{isString, isLettered, valueIs, valueText}
 use Rattle.values.specs.Coded.{sortSaid}
+use Rattle.octets.proofs.Pen.{front-same}
 use Rattle.octets.specs.Optional.{holds, given}
 use Rattle.json.specs.Tree.{string?, number?, octetsOf}
 use mathlib.Core.Path.{sym, _∙_}
@@ -12,7 +13,7 @@ use Rattle.icalvalues.proofs.leaves.write_string.Tie as tie
 
 returns : tie.Need-returns
 unfolding sortSaid valueIs isLettered holds string?
-returns c = rw (c .before .before .enum-told5 .given .1) (sym (c .before .is-duration .ensures) ∙ not-true _ (c .if1 .taken))
+returns c = rw (c .before .before .enum-told5 .given .1) (sym (c .before .is-duration .ensures) ∙ not-true _ (c .if1 .taken), front-same)
 
 returns-2 : tie.Need-returns-2
 unfolding sortSaid valueIs valueText isString isLettered holds string? number? octetsOf given
@@ -47,7 +48,7 @@ unfolding sortSaid valueIs valueText isString isLettered holds string? number? o
 returns-9 c = rw (c .before .before .before .before .enum-told8 .given .1) (c .before .before .write-form4 .ensures)
 
 returns-10 : tie.Need-returns-10
-returns-10 c = no-string _ _ (c .match .keys9)
+returns-10 c = (no-string _ _ (c .match .keys9), front-same)
 
 pub write-string-spec : {M : Type 1} → statement M
 write-string-spec =

@@ -1,5 +1,6 @@
 -- `icalvalues::single::boolean_at` meets its contract.
 use Rattle.icalvalues.proofs.Places.{false-value, true-value, no-boolean-value}
+use Rattle.octets.proofs.Pen.{front-same}
 use Rattle.content.proofs.Folding.{as-folded}
 use mathlib.Core.Path.{sym, _∙_}
 use borrow.Author.Needs.{needs}
@@ -15,7 +16,7 @@ returns-2 c = let v = true-value _ _ (sym (c .before .before .before .before .be
     (v .0, as-folded (c .before .before .fold-all2 .ensures) (v .1), c .before .before .before .before .before .before .before .behind .ensures)
 
 returns-3 : tie.Need-returns-3
-returns-3 c = no-boolean-value _ _ (λ z. c .match .rest .0 .1 (c .before .tag .ensures ∙ z)) (λ z. c .match .rest .1 (c .before .tag .ensures ∙ z))
+returns-3 c = (no-boolean-value _ _ (λ z. c .match .rest .0 .1 (c .before .tag .ensures ∙ z)) (λ z. c .match .rest .1 (c .before .tag .ensures ∙ z)), front-same)
 
 pub boolean-at-spec : {M : Type 1} → statement M
 boolean-at-spec =

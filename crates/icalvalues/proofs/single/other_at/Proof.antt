@@ -1,5 +1,6 @@
 -- `icalvalues::single::other_at` meets its contract.
 use Rattle.icalvalues.proofs.Sorts.{no-other}
+use Rattle.octets.proofs.Pen.{front-same}
 use Rattle.tape.proofs.Values.{no-string, no-number}
 use Rattle.values.specs.Coded.{sortSaid}
 use borrow.Author.Needs.{needs}
@@ -15,7 +16,7 @@ unfolding sortSaid
 returns-2 c = rw (c .before .before .before .before .enum-told2 .given .1) (c .before .before .period-at .ensures)
 
 returns-3 : tie.Need-returns-3
-returns-3 c = no-other _ (no-string _ _ (c .before .before .before .pre .1)) (no-number _ _ (c .before .before .before .pre .2)) _ (c .match .keys3) (c .before .before .before .pre .0)
+returns-3 c = (no-other _ (no-string _ _ (c .before .before .before .pre .1)) (no-number _ _ (c .before .before .before .pre .2)) _ (c .match .keys3) (c .before .before .before .pre .0), front-same)
 
 pub other-at-spec : {M : Type 1} → statement M
 other-at-spec =

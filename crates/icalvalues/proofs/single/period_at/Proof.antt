@@ -5,6 +5,7 @@ use Rattle.icalvalues.proofs.Places.{lettered-is, no-lettered, string-t
 use Rattle.values.specs.Coded.{sortSaid}
 use Rattle.values.specs.Write.{valueIs}
 use Rattle.tape.proofs.Walks.{next-inside, along-next, along-end}
+use Rattle.octets.proofs.Pen.{front-same, front-behind, front-wrote}
 use Rattle.content.proofs.Folding.{then, as-folded}
 use Rattle.calendar.specs.Durations.{periodEndIs}
 use mathlib.Core.Logic.{inl}
@@ -14,15 +15,17 @@ use Rattle.icalvalues.proofs.single.period_at.Statement.{statement}
 use Rattle.icalvalues.proofs.single.period_at.Tie as tie
 
 returns : tie.Need-returns
-returns c = no-period _ _ (λ z. c .if1 .taken (c .before .tag .ensures ∙ z))
+returns c = (no-period _ _ (λ z. c .if1 .taken (c .before .tag .ensures ∙ z)), front-same)
 
 returns-2 : tie.Need-returns-2
 unfolding valueIs
-returns-2 c = no-start _ _ (c .before .before .after .ensures) (sym (c .before .before .before .before .tag .ensures) ∙ c .before .before .before .if1 .left) (no-lettered _ _ _ (λ z. c .if2 .taken (c .before .tag2 .ensures ∙ z)))
+returns-2 c = (no-start _ _ (c .before .before .after .ensures) (sym (c .before .before .before .before .tag .ensures) ∙ c .before .before .before .if1 .left) (no-lettered _ _ _ (λ z. c .if2 .taken (c .before .tag2 .ensures ∙ z))), front-same)
 
 returns-3 : tie.Need-returns-3
 unfolding sortSaid
-returns-3 c = no-start _ _ (c .before .before .before .before .before .before .before .before .after .ensures) (sym (c .before .before .before .before .before .before .before .before .before .before .tag .ensures) ∙ c .before .before .before .before .before .before .before .before .before .if1 .left) (rw (c .enum-told .given .1) at (c .before .before .before .before .string-at .ensures))
+returns-3 c =
+    let w = rw (c .enum-told .given .1) at (c .before .before .before .before .string-at .ensures) in
+    (no-start _ _ (c .before .before .before .before .before .before .before .before .after .ensures) (sym (c .before .before .before .before .before .before .before .before .before .before .tag .ensures) ∙ c .before .before .before .before .before .before .before .before .before .if1 .left) (w .0), w .1)
 
 returns-4 : tie.Need-returns-4
 unfolding sortSaid
@@ -34,7 +37,7 @@ returns-4 c =
     let at-if1 = at-after .before in
     let at-tag = at-if1 .before in
     let w = rw (at-v .v .given .1) at (at-string-at .string-at .ensures) in
-    no-end _ _ (at-after .after .ensures) (sym (at-tag .tag .ensures) ∙ at-if1 .if1 .left) (w .2) (no-lettered _ _ _ (λ z. c .if3 .taken (at-tag3 .tag3 .ensures ∙ z)))
+    (no-end _ _ (at-after .after .ensures) (sym (at-tag .tag .ensures) ∙ at-if1 .if1 .left) (w .2) (no-lettered _ _ _ (λ z. c .if3 .taken (at-tag3 .tag3 .ensures ∙ z))), front-wrote (w .1 .wrote))
 
 returns-5 : tie.Need-returns-5
 unfolding sortSaid
@@ -51,7 +54,7 @@ returns-5 c =
     let at-if1 = at-after .before in
     let at-tag = at-if1 .before in
     let w = rw (at-v .v .given .1) at (at-string-at .string-at .ensures) in
-    more-than-two _ _ (at-after .after .ensures) (sym (at-tag .tag .ensures) ∙ at-if1 .if1 .left) (w .2) (string-there _ _ (sym (at-tag2 .tag2 .ensures) ∙ at-if2 .if2 .left)) (string-there _ _ (sym (at-tag3 .tag3 .ensures) ∙ at-if3 .if3 .left)) (at-text-at .text-at .ensures .behind) (λ z. c .if4 .taken (at-tag4 .tag4 .ensures ∙ z))
+    (more-than-two _ _ (at-after .after .ensures) (sym (at-tag .tag .ensures) ∙ at-if1 .if1 .left) (w .2) (string-there _ _ (sym (at-tag2 .tag2 .ensures) ∙ at-if2 .if2 .left)) (string-there _ _ (sym (at-tag3 .tag3 .ensures) ∙ at-if3 .if3 .left)) (at-text-at .text-at .ensures .behind) (λ z. c .if4 .taken (at-tag4 .tag4 .ensures ∙ z)), front-wrote (w .1 .wrote))
 
 returns-6 : tie.Need-returns-6
 unfolding sortSaid
@@ -96,7 +99,8 @@ returns-7 c =
     let at-if1 = at-after .before in
     let at-tag = at-if1 .before in
     let w = rw (at-v .v .given .1) at (at-string-at .string-at .ensures) in
-    no-end _ _ (at-after .after .ensures) (sym (at-tag .tag .ensures) ∙ at-if1 .if1 .left) (w .2) (lettered-is (at-text-at .text-at .ensures) periodEndIs (sym (at-tag3 .tag3 .ensures) ∙ at-if3 .if3 .left) ∙ rw (c .enum-told2 .given .1) at (at-write-end .write-end .ensures))
+    let f = rw (c .enum-told2 .given .1) at (at-write-end .write-end .ensures) in
+    (no-end _ _ (at-after .after .ensures) (sym (at-tag .tag .ensures) ∙ at-if1 .if1 .left) (w .2) (lettered-is (at-text-at .text-at .ensures) periodEndIs (sym (at-tag3 .tag3 .ensures) ∙ at-if3 .if3 .left) ∙ f .0), front-behind (w .1 .wrote) (f .1))
 
 pub period-at-spec : {M : Type 1} → statement M
 period-at-spec =

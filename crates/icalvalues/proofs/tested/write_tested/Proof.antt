@@ -1,6 +1,7 @@
 -- `icalvalues::tested::write_tested` meets its contract.
 use Rattle.icalvalues.proofs.Told.{rule-stop, rule-more, rule-alone}
 use Rattle.icalvalues.proofs.Sorts.{no-recur}
+use Rattle.octets.proofs.Pen.{front-same}
 use Rattle.icalrecur.proofs.Room.{room, first-short, second-short, both-there}
 use Rattle.values.specs.Coded.{sortSaid}
 use mathlib.Core.Path.{sym, _∙_}
@@ -9,10 +10,10 @@ use Rattle.icalvalues.proofs.tested.write_tested.Statement.{statement}
 use Rattle.icalvalues.proofs.tested.write_tested.Tie as tie
 
 returns : tie.Need-returns
-returns c = first-short _ _ _ _ (c .if1 .taken)
+returns c = (first-short _ _ _ _ (c .if1 .taken), front-same)
 
 returns-2 : tie.Need-returns-2
-returns-2 c = second-short _ _ _ _ (c .if2 .taken)
+returns-2 c = (second-short _ _ _ _ (c .if2 .taken), front-same)
 
 write-values-requires : tie.Need-write-values-requires
 write-values-requires c κs = no-recur _ (c .before .match .keys2)
@@ -22,7 +23,7 @@ returns-3 c = rw (room _ _ (c .before .before .before .before .before .before .i
 
 returns-4 : tie.Need-returns-4
 unfolding sortSaid
-returns-4 c = rw (room _ _ (c .before .before .before .before .before .before .if1 .left), room _ _ (c .before .before .before .before .before .if2 .left), c .before .before .before .enum-told .given .1) (rule-more _ _ _ (c .before .before .behind .ensures) (λ z. c .if3 .taken (c .before .tag .ensures ∙ z)))
+returns-4 c = rw (room _ _ (c .before .before .before .before .before .before .if1 .left), room _ _ (c .before .before .before .before .before .if2 .left), c .before .before .before .enum-told .given .1) (rule-more _ _ _ (c .before .before .behind .ensures) (λ z. c .if3 .taken (c .before .tag .ensures ∙ z)), front-same)
 
 returns-5 : tie.Need-returns-5
 unfolding sortSaid
@@ -47,8 +48,9 @@ returns-6 c =
     let at-enum-told = at-write-rule .before .before .before .before .before .before .before .before in
     let at-if2 = at-enum-told .before .before in
     let at-if1 = at-if2 .before in
-    let v = sym (both-there _ _ _ _ (at-if1 .if1 .left) (at-if2 .if2 .left)) ∙ rw (c .enum-told2 .given .1) at (at-write-rule .write-rule .ensures) in
-    rw (room _ _ (at-if1 .if1 .left), room _ _ (at-if2 .if2 .left), at-enum-told .enum-told .given .1) (rule-stop _ _ _ v)
+    let w = rw (c .enum-told2 .given .1) at (at-write-rule .write-rule .ensures) in
+    let v = sym (both-there _ _ _ _ (at-if1 .if1 .left) (at-if2 .if2 .left)) ∙ w .0 in
+    rw (room _ _ (at-if1 .if1 .left), room _ _ (at-if2 .if2 .left), at-enum-told .enum-told .given .1) (rule-stop _ _ _ v, w .1)
 
 pub write-tested-spec : {M : Type 1} → statement M
 write-tested-spec =

@@ -4,6 +4,7 @@ use Rattle.icalvalues.proofs.Grouped.{left-here, taken-none, joined-non
 use Rattle.icalvalues.proofs.Sorts.{simple-left}
 use Rattle.icalvalues.specs.Valued.{taken}
 use Rattle.icalvalues.specs.Parts.{simple}
+use Rattle.octets.proofs.Pen.{front-same}
 use Rattle.content.proofs.Folding.{none, as-folded}
 use Rattle.values.specs.Write.{valuesAre, valuesText}
 use Rattle.values.specs.Coded.{sortSaid}
@@ -41,7 +42,7 @@ returns-4 c = rw (c .before .before .before .before .enum-told2 .given .1) (stat
 
 returns-5 : tie.Need-returns-5
 unfolding valuesAre taken
-returns-5 c = taken-none _ _ _ _ (sym (c .before .before .tag .ensures) ∙ c .before .if1 .left) ∙ sym (c .before .before .before .may-be-several .ensures) ∙ c .if2 .left
+returns-5 c = (taken-none _ _ _ _ (sym (c .before .before .tag .ensures) ∙ c .before .if1 .left) ∙ sym (c .before .before .before .may-be-several .ensures) ∙ c .if2 .left, front-same)
 
 pub write-values-spec : {M : Type 1} → statement M
 write-values-spec =
