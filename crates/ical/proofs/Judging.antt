@@ -13,6 +13,7 @@ use Rattle.octets.specs.Basics.{octets, pick, _and_, _or_, all, same, single, f
 use Rattle.octets.specs.Optional.{isSome, holds, given, map?, guard}
 use Rattle.octets.specs.Classes.{lowerNameOctet, isLowerName, lower, isName}
 use Rattle.octets.specs.Answers.{Answer, refused, accepted, then, orElse, unless, number}
+use Rattle.octets.specs.Pen.{pen, FrontKept}
 use Rattle.octets.specs.declared.Refusal.{Refusal}
 use Rattle.octets.proofs.Answers.{not-accepted}
 use Rattle.octets.proofs.Cases.{same?, never, both, and-true-right, and-false-right}
@@ -119,14 +120,14 @@ module _ (k : Ruling) (n : List ℕ) where
   pub stood : (t s u : List ℕ) (i : ℕ) (f : FoldPen) (out : List ℕ) {b : Bool} (r : Valued) → b ≡ (not (k .taken) or isSome (valuesOf n (k .code) (k .many) (firstOctets (listAt t i)))) → b ≡ true
       → length t ≤ length s → length t ≤ length u → ValuedAs (hasRoom t s and hasRoom t u) (k .many) (sortSaid (k .sort)) t i f out r → Stands k n t i f out r
   stood t s u i f out (Wrote e q) g h a b v = (is-standing (listAt t i) g h (rw (room t s a, room t u b) at (v .0)), v .1, v .2)
-  stood t s u i f out Invalid g h a b v = is-standing (listAt t i) g h (rw (room t s a, room t u b) at v)
+  stood t s u i f out Invalid g h a b v = (is-standing (listAt t i) g h (rw (room t s a, room t u b) at (v .0)), v .1)
 
   -- by the answer
   module _ (t : List ℕ) (i : ℕ) (f : FoldPen) (out : List ℕ) (r : Valued) (v : Stands k n t i f out r) where
     pub stands-told : {e : ℕ} {q : Folder} → r ≡ Wrote e q → Stands k n t i f out (Wrote e q)
     stands-told z = rw z at v
 
-    pub invalid-told : r ≡ Invalid → standing k n (listAt t i) ≡ false
+    pub invalid-told : r ≡ Invalid → Stands k n t i f out Invalid
     invalid-told z = rw z at v
 
 -- nothing stands against it
@@ -279,7 +280,7 @@ module _ (t : List ℕ) (i : ℕ) (a : Answer (Unit {0})) (out : List ℕ) (to :
   pub passes : {n q : ℕ} → r ≡ Passed n q → Puts t i a out to lines out′ n q
   passes z = rw z at c
 
-  pub refuses : {w : Refusal} → r ≡ Refused w → a ≡ refused (number w)
+  pub refuses : {w : Refusal} → r ≡ Refused w → (a ≡ refused (number w)) × FrontKept (pen out to) out′
   refuses z = rw z at c
 
 -- the property at i of a tape, by its parts

@@ -1,6 +1,6 @@
 -- The stages of the conversion over a tape are those of the definition over the value that was parsed.
 use Prim.Native.Nat.{ℕ, _+_, _*_, _-_, _≤_, _<_}
-use mathlib.Core.Path.{_≡_, refl}
+use mathlib.Core.Path.{_≡_, refl, sym}
 use mathlib.Core.Bool.{true, false}
 use mathlib.Core.List.{List}
 use native.Mathlib.Omega.{arith}
@@ -15,7 +15,7 @@ use Rattle.octets.specs.declared.Refusal.{Refusal}
 use Rattle.octets.specs.declared.Converted.{Converted}
 use Rattle.octets.specs.declared.Converted.the-variants.{Written, Refused}
 use Rattle.octets.proofs.Positions.{upto}
-use Rattle.octets.proofs.Limits.{most-text, most-levels, most-open}
+use Rattle.octets.proofs.Limits.{most-text, most-levels}
 use Rattle.octets.proofs.Cases.{cases, both}
 use Rattle.types.specs.Table.{Table}
 use Rattle.types.specs.Rows.{tableOf}
@@ -40,7 +40,21 @@ use Rattle.converter.specs.Skeleton.{isComponent, isCalendar, componentFrom, ca
 use Rattle.converter.specs.ToIcal.{jsonOf, checkedAll, linesOf, written, toIcal}
 use Rattle.ical.specs.Stages.{componentOn, judged, tapeText, parsedText}
 use Rattle.ical.proofs.Judging.{ok}
+use Rattle.ical.proofs.Levels.{fewer}
 use Rattle.ical.proofs.Told.{IsTape}
+
+-- the component on a tape, which has at most eight levels
+module _ (t : List ℕ) (c : isCalendar (valueAt t 0) ≡ true) {n : ℕ} (l : n ≡ levels (componentFrom mostOpen (valueAt t 0))) (h : n ≤ 8) where
+  eight-levels : (isComponent 8 (valueAt t 0) ≡ true) × (componentFrom 8 (valueAt t 0) ≡ componentFrom mostOpen (valueAt t 0))
+  unfolding isCalendar
+  eight-levels = fewer mostOpen 8 (valueAt t 0) (both (isComponent mostOpen (valueAt t 0)) (same (octetsOf (element 0 (valueAt t 0))) (octets "vcalendar")) c .0) (omega arith)
+
+  pub component-there : isComponent 8 (valueAt t 0) ≡ true
+  component-there = eight-levels .0
+
+  pub component-on : componentOn t ≡ componentFrom 8 (valueAt t 0)
+  unfolding componentOn
+  component-on = sym (eight-levels .1)
 
 -- the tests of a tape
 module _ (T : Table) (t : List ℕ) where
@@ -58,9 +72,9 @@ module _ (T : Table) (t : List ℕ) where
       unfolding judged unless componentOn
       too-deep h = rw (s, c, lt-leb (levels (componentFrom mostOpen (valueAt t 0))) mostLevels (omega (arith, most-levels)))
 
-      pub shallow : n ≤ 8 → judged T t ≡ checkedAll T (propertiesOf (componentFrom 32 (valueAt t 0)))
+      pub shallow : n ≤ 8 → judged T t ≡ checkedAll T (propertiesOf (componentFrom 8 (valueAt t 0)))
       unfolding judged unless componentOn
-      shallow h = rw (s, c, le-leb (levels (componentFrom mostOpen (valueAt t 0))) mostLevels (omega (arith, most-levels)), most-open)
+      shallow h = rw (s, c, le-leb (levels (componentFrom mostOpen (valueAt t 0))) mostLevels (omega (arith, most-levels)), eight-levels t c l h .1)
 
   -- the text
   pub text-refused : {m : ℕ} → judged T t ≡ refused m → tapeText T t ≡ refused m
@@ -75,15 +89,6 @@ module _ (T : Table) (t : List ℕ) where
 pub refused-alike : (n : ℕ) (a b : List ℕ) → length a ≡ length b → answer (refused n) a ≡ answer (refused n) b
 unfolding answer zeroed
 refused-alike n a b e = rw e
-
--- the component on a tape
-pub component-on : (t : List ℕ) → componentOn t ≡ componentFrom 32 (valueAt t 0)
-unfolding componentOn
-component-on t = rw most-open
-
-pub component-there : (t : List ℕ) → isCalendar (valueAt t 0) ≡ true → isComponent 32 (valueAt t 0) ≡ true
-unfolding isCalendar
-component-there t h = rw most-open at (both (isComponent mostOpen (valueAt t 0)) (same (octetsOf (element 0 (valueAt t 0))) (octets "vcalendar")) h .0)
 
 -- what the shape of a tape tells
 module _ (t : List ℕ) (r : Shape) (c : Shapes t r) where

@@ -3,7 +3,7 @@ use Prim.Native.Nat.{ℕ}
 use mathlib.Core.Path.{_≡_}
 use mathlib.Core.List.{List}
 use Rattle.octets.specs.Answers.{Answer, refused, accepted, then, number}
-use Rattle.octets.specs.Pen.{pen, Wrote}
+use Rattle.octets.specs.Pen.{pen, Wrote, FrontKept}
 use Rattle.types.specs.Table.{Table, find}
 use Rattle.tape.specs.Promise.{Next}
 use Rattle.content.specs.Fold.{textOf}
@@ -22,7 +22,7 @@ pub record Puts (t : List ℕ) (i : ℕ) (a : Answer (Unit {0})) (out : List ℕ
   pub behind : Next t i n
   pub wrote : Wrote (pen out to) (textOf lines) (pen out′ q)
 
--- the answer tells a; of what is refused, what is left in the buffer is the code's choice
+-- the answer tells a; where it is a refusal, the buffer is as long and as before in front of the place to write at, and the code's choice behind
 abbrev pub Converts : List ℕ → ℕ → Answer (Unit {0}) → List ℕ → ℕ → List (List ℕ) → List ℕ → Conversion → Type 0
 Converts t i a out to lines out′ (Passed n q) = Puts t i a out to lines out′ n q
-Converts t i a out to lines out′ (Refused w) = a ≡ refused (number w)
+Converts t i a out to lines out′ (Refused w) = (a ≡ refused (number w)) × FrontKept (pen out to) out′

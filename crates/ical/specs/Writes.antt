@@ -6,6 +6,7 @@ use mathlib.Core.List.{List, [], _∷_, _++_}
 use Rattle.octets.specs.Basics.{octets, _and_, _or_}
 use Rattle.octets.specs.Classes.{upper}
 use Rattle.octets.specs.Optional.{isSome}
+use Rattle.octets.specs.Pen.{FrontKept}
 use Rattle.json.specs.Tree.{Json}
 use Rattle.tape.specs.Decode.{listAt}
 use Rattle.tape.specs.Promise.{Left}
@@ -33,7 +34,8 @@ headText n b t ps = upper n ++ (valueText b t ++ (paramsText ps ++ octets ":"))
 unfoldable pub standing : Ruling → List ℕ → List Json → Bool
 standing k n vs = valuesAre (k .many) (sortSaid (k .sort)) vs and (not (k .taken) or isSome (valuesOf n (k .code) (k .many) (firstOctets vs)))
 
--- the values of the group at i stand, are written behind f and end before e; or they do not stand
+-- the values of the group at i stand, are written behind f and end before e; or they do not stand, and the buffer is as long and as before in front of
+-- the pen, and the code's choice behind
 abbrev pub Stands : Ruling → List ℕ → List ℕ → ℕ → FoldPen → List ℕ → Valued → Type 0
 Stands k n t i f out (Wrote e q) = (standing k n (listAt t i) ≡ true) × Folded f (valuesText (sortSaid (k .sort)) (listAt t i)) (folding out q) × Left t i e
-Stands k n t i f out Invalid = standing k n (listAt t i) ≡ false
+Stands k n t i f out Invalid = (standing k n (listAt t i) ≡ false) × FrontKept (f .pen) out

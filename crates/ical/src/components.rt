@@ -18,7 +18,7 @@ ghost use Rattle.converter.specs.Skeleton.{isComponent, componentFrom};
 ghost use Rattle.converter.specs.ToIcal.{checkedAll, linesOf};
 ghost use Rattle.ical.specs.Converts.{Converts};
 
-// Writes the component at `at`, up to the first property in fault.
+// Writes the component at `at`, which has at most `left` levels, up to the first property in fault.
 pub(crate) fn convert_component(
     t: &[u8],
     at: usize,

@@ -5,7 +5,6 @@ use json::Parsed;
 use json::parse;
 use octets::Converted;
 use octets::MOST_LEVELS;
-use octets::MOST_OPEN;
 use octets::MOST_TEXT;
 use octets::Refusal;
 use octets::finish;
@@ -61,7 +60,7 @@ fn convert_sound(
     if MOST_LEVELS < n {
         return Conversion::Refused(Refusal::TooDeep);
     }
-    convert_component(t, 0, MOST_OPEN, rows, out, 0, text, rule)
+    convert_component(t, 0, MOST_LEVELS, rows, out, 0, text, rule)
 }
 
 // Converts what is on the tape.

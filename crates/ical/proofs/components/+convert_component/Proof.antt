@@ -1,10 +1,11 @@
 -- `ical::components::convert_component` meets its contract; the levels left fall.
 use Prim.Native.Nat.{ℕ, _-_, _<_}
 use mathlib.Core.Path.{_≡_, refl, sym, ap, _∙_}
+use mathlib.Core.List.{List}
 use native.Mathlib.Omega.{arith}
 use lib.ListN.{length}
-use Rattle.octets.specs.Pen.{pen}
-use Rattle.octets.proofs.Pen.{Leads, leads-start, leads-on, leads-end, as-text}
+use Rattle.octets.specs.Pen.{pen, Wrote}
+use Rattle.octets.proofs.Pen.{nothing, then, kept, front-behind, Leads, leads-start, leads-on, leads-end, as-text}
 use Rattle.types.specs.Laid.{tableIn}
 use Rattle.tape.specs.Decode.{listAt}
 use Rattle.tape.proofs.after.Reads as after
@@ -44,7 +45,7 @@ claims t = (after.Asked, after.Learnt, text-at.Asked, text-at.Learnt, write-mark
 
 abbrev Inv-loop : lts.InvT-loop
 Inv-loop t at left rows out₀ to text₀ rule₀ a name begun c first q₀ i₀ word out text rule q i =
-    (length out ≡ length out₀) × (length text ≡ length text₀) × (length rule ≡ length rule₀) × Walking (isComponent (left - 1)) t i₀ i
+    ((xs : List ℕ) × Wrote (pen out₀ q₀) xs (pen out q)) × (length text ≡ length text₀) × (length rule ≡ length rule₀) × Walking (isComponent (left - 1)) t i₀ i
     × (checkedAll (tableIn rows) (subProperties (left - 1) (listAt t i)) ≡ checkedAll (tableIn rows) (subProperties (left - 1) (listAt t i₀)))
     × Leads (pen out₀ q₀) (textOf (subLines (tableIn rows) (left - 1) (listAt t i₀))) (pen out q) (textOf (subLines (tableIn rows) (left - 1) (listAt t i)))
 
@@ -82,7 +83,9 @@ same-length-3 : (t : ℕ) → lts.Need-same-length-3 (claims t) (here t) self.Po
 same-length-3 t c = search needs
 
 returns : (t : ℕ) → lts.Need-returns (claims t) (here t) self.Post Inv-loop μ-loop
-returns t c = rw (c .enum-told .given .1) (component-refused _ (c .before .before .before .before .before .before .before .before .before .before .before .before .before .before .before .before .before .before .before .before .before .before .before .before .pre .1 .0) (c .before .before .before .before .before .before .before .before .before .before .before .before .before .before .before .before .before .before .after .ensures) (c .before .before .before .before .before .before .before .before .before .before .before .before .before .before .before .before .before .text-at .ensures .behind) _ (refuses _ _ _ _ _ _ _ _ (c .before .before .before .before .before .before .before .before .convert-properties .ensures) (c .enum-told .given .1)))
+returns t c =
+    let r = refuses _ _ _ _ _ _ _ _ (c .before .before .before .before .before .before .before .before .convert-properties .ensures) (c .enum-told .given .1) in
+    rw (c .enum-told .given .1) (component-refused _ (c .before .before .before .before .before .before .before .before .before .before .before .before .before .before .before .before .before .before .before .before .before .before .before .before .pre .1 .0) (c .before .before .before .before .before .before .before .before .before .before .before .before .before .before .before .before .before .before .after .ensures) (c .before .before .before .before .before .before .before .before .before .before .before .before .before .before .before .before .before .text-at .ensures .behind) _ (r .0), front-behind (c .before .before .before .before .before .before .before .before .before .before .before .before .before .before .write-mark .ensures) (r .1))
 
 after-requires-2 : (t : ℕ) → lts.Need-after-requires-2 (claims t) (here t) self.Post Inv-loop μ-loop
 after-requires-2 t c κs = search needs
@@ -90,7 +93,7 @@ after-requires-2 t c κs = search needs
 loop-holds : (t : ℕ) → lts.Need-loop-holds (claims t) (here t) self.Post Inv-loop μ-loop
 loop-holds t c =
     let z = passes _ _ _ _ _ _ _ _ (c .before .before .before .before .before .before .before .before .before .before .convert-properties .ensures) (c .before .before .p .given .1) in
-    (refl, refl, refl, walking-start (isComponent (c .before .before .before .before .before .before .before .before .before .before .before .before .before .before .before .before .before .before .before .before .before .before .before .before .before .before .args .left - 1)) (subs-there _ (c .before .before .before .before .before .before .before .before .before .before .before .before .before .before .before .before .before .before .before .before .before .before .before .before .before .before .pre .1 .0) (c .before .before .before .before .before .before .before .before .before .before .before .before .before .before .before .before .before .before .before .before .after .ensures) (c .before .before .before .before .before .before .before .before .before .before .before .before .before .before .before .before .before .before .before .text-at .ensures .behind) (z .behind)) (c .after2 .ensures), refl, leads-start)
+    ((_, nothing), refl, refl, walking-start (isComponent (c .before .before .before .before .before .before .before .before .before .before .before .before .before .before .before .before .before .before .before .before .before .before .before .before .before .before .args .left - 1)) (subs-there _ (c .before .before .before .before .before .before .before .before .before .before .before .before .before .before .before .before .before .before .before .before .before .before .before .before .before .before .pre .1 .0) (c .before .before .before .before .before .before .before .before .before .before .before .before .before .before .before .before .before .before .before .before .after .ensures) (c .before .before .before .before .before .before .before .before .before .before .before .before .before .before .before .before .before .before .before .text-at .ensures .behind) (z .behind)) (c .after2 .ensures), refl, leads-start)
 
 tag-requires : (t : ℕ) → lts.Need-tag-requires (claims t) (here t) self.Post Inv-loop μ-loop
 tag-requires t c κs = search needs
@@ -108,7 +111,7 @@ write-mark-requires-2 : (t : ℕ) → lts.Need-write-mark-requires-2 (claims t) 
 write-mark-requires-2 t c κs = (c .before .before .before .before .before .before .before .before .before .before .before .before .before .before .before .before .before .before .before .before .before .before .before .before .before .before .text-at .ensures .order, c .before .before .before .before .before .before .before .before .before .before .before .before .before .before .before .before .before .before .before .before .before .before .before .before .before .before .text-at .ensures .within)
 
 same-length-4 : (t : ℕ) → lts.Need-same-length-4 (claims t) (here t) self.Post Inv-loop μ-loop
-same-length-4 t c = omega (arith, c .before .before .before .before .before .before .before .before .before .loop .inv .0)
+same-length-4 t c = omega (arith, kept (c .before .before .before .before .before .before .before .before .before .loop .inv .0 .1))
 
 same-length-5 : (t : ℕ) → lts.Need-same-length-5 (claims t) (here t) self.Post Inv-loop μ-loop
 same-length-5 t c = omega (arith, c .before .before .before .before .before .before .before .before .before .loop .inv .1)
@@ -140,7 +143,7 @@ enum-told-2 : (t : ℕ) → lts.Need-enum-told-2 (claims t) (here t) self.Post I
 enum-told-2 t c = search needs
 
 same-length-7 : (t : ℕ) → lts.Need-same-length-7 (claims t) (here t) self.Post Inv-loop μ-loop
-same-length-7 t c = c .before .before .before .before .before .before .before .before .convert-component .kept .1 .1 .1 .1 .0 ∙ c .before .before .before .before .before .before .before .before .before .before .before .before .before .before .loop .inv .0 ∙ c .before .before .before .before .before .before .before .before .before .before .before .before .before .before .before .before .before .before .before .before .before .before .before .before .before .convert-properties .kept .1 .1 .1 .0 ∙ c .before .before .before .before .before .before .before .before .before .before .before .before .before .before .before .before .before .before .before .before .before .before .before .before .before .before .before .before .before .before .before .write-mark .kept .0
+same-length-7 t c = c .before .before .before .before .before .before .before .before .convert-component .kept .1 .1 .1 .1 .0 ∙ kept (c .before .before .before .before .before .before .before .before .before .before .before .before .before .before .loop .inv .0 .1) ∙ c .before .before .before .before .before .before .before .before .before .before .before .before .before .before .before .before .before .before .before .before .before .before .before .before .before .convert-properties .kept .1 .1 .1 .0 ∙ c .before .before .before .before .before .before .before .before .before .before .before .before .before .before .before .before .before .before .before .before .before .before .before .before .before .before .before .before .before .before .before .write-mark .kept .0
 
 same-length-8 : (t : ℕ) → lts.Need-same-length-8 (claims t) (here t) self.Post Inv-loop μ-loop
 same-length-8 t c = omega (arith, c .before .before .before .before .before .before .before .before .before .before .before .before .before .before .loop .inv .1)
@@ -151,7 +154,8 @@ same-length-9 t c = omega (arith, c .before .before .before .before .before .bef
 returns-3 : (t : ℕ) → lts.Need-returns-3 (claims t) (here t) self.Post Inv-loop μ-loop
 returns-3 t c =
     let z = passes _ _ _ _ _ _ _ _ (c .before .before .before .before .before .before .before .before .before .before .before .before .before .before .before .before .before .before .before .before .before .before .before .before .before .convert-properties .ensures) (c .before .before .before .before .before .before .before .before .before .before .before .before .before .before .before .before .before .p .given .1) in
-    rw (c .enum-told2 .given .1) (component-checked _ (c .before .before .before .before .before .before .before .before .before .before .before .before .before .before .before .before .before .before .before .before .before .before .before .before .before .before .before .before .before .before .before .before .before .before .before .before .before .before .before .before .before .pre .1 .0) (c .before .before .before .before .before .before .before .before .before .before .before .before .before .before .before .before .before .before .before .before .before .before .before .before .before .before .before .before .before .before .before .before .before .before .before .after .ensures) (c .before .before .before .before .before .before .before .before .before .before .before .before .before .before .before .before .before .before .before .before .before .before .before .before .before .before .before .before .before .before .before .before .before .before .text-at .ensures .behind) (z .behind) _ (c .before .before .before .before .before .before .before .before .before .before .before .before .before .before .before .after2 .ensures) (z .faultless) ∙ sym (c .before .before .before .before .before .before .before .before .before .before .before .before .before .before .loop .inv .4) ∙ subs-off _ _ _ _ (λ e. c .before .before .before .before .before .before .before .before .before .before .before .before .if1 .left (c .before .before .before .before .before .before .before .before .before .before .before .before .before .tag .ensures ∙ e)) (refuses _ _ _ _ _ _ _ _ (c .before .before .before .before .before .before .before .before .convert-component .ensures) (c .enum-told2 .given .1)))
+    let r = refuses _ _ _ _ _ _ _ _ (c .before .before .before .before .before .before .before .before .convert-component .ensures) (c .enum-told2 .given .1) in
+    rw (c .enum-told2 .given .1) (component-checked _ (c .before .before .before .before .before .before .before .before .before .before .before .before .before .before .before .before .before .before .before .before .before .before .before .before .before .before .before .before .before .before .before .before .before .before .before .before .before .before .before .before .before .pre .1 .0) (c .before .before .before .before .before .before .before .before .before .before .before .before .before .before .before .before .before .before .before .before .before .before .before .before .before .before .before .before .before .before .before .before .before .before .before .after .ensures) (c .before .before .before .before .before .before .before .before .before .before .before .before .before .before .before .before .before .before .before .before .before .before .before .before .before .before .before .before .before .before .before .before .before .before .text-at .ensures .behind) (z .behind) _ (c .before .before .before .before .before .before .before .before .before .before .before .before .before .before .before .after2 .ensures) (z .faultless) ∙ sym (c .before .before .before .before .before .before .before .before .before .before .before .before .before .before .loop .inv .4) ∙ subs-off _ _ _ _ (λ e. c .before .before .before .before .before .before .before .before .before .before .before .before .if1 .left (c .before .before .before .before .before .before .before .before .before .before .before .before .before .tag .ensures ∙ e)) (r .0), front-behind (c .before .before .before .before .before .before .before .before .before .before .before .before .before .before .before .before .before .before .before .before .before .before .before .before .before .before .before .before .before .before .before .write-mark .ensures) (front-behind (z .wrote) (front-behind (c .before .before .before .before .before .before .before .before .before .before .before .before .before .before .loop .inv .0 .1) (r .1))))
 
 loop-less : (t : ℕ) → lts.Need-loop-less (claims t) (here t) self.Post Inv-loop μ-loop
 loop-less t c =
@@ -161,7 +165,7 @@ loop-less t c =
 loop-again : (t : ℕ) → lts.Need-loop-again (claims t) (here t) self.Post Inv-loop μ-loop
 loop-again t c =
     let y = passes _ _ _ _ _ _ _ _ (c .before .before .before .before .before .before .before .before .before .convert-component .ensures) (c .before .s .given .1) in (
-      omega (arith, c .before .before .before .before .before .before .before .before .before .before .before .before .before .before .before .loop .inv .0),
+      (_, then (c .before .before .before .before .before .before .before .before .before .before .before .before .before .before .before .loop .inv .0 .1) (y .wrote)),
       omega (arith, c .before .before .before .before .before .before .before .before .before .before .before .before .before .before .before .loop .inv .1),
       omega (arith, c .before .before .before .before .before .before .before .before .before .before .before .before .before .before .before .loop .inv .2),
       walking-next (c .before .before .before .before .before .before .before .before .before .before .before .before .before .before .before .loop .inv .3) (λ e. c .before .before .before .before .before .before .before .before .before .before .before .before .before .if1 .left (c .before .before .before .before .before .before .before .before .before .before .before .before .before .before .tag .ensures ∙ e)) (y .behind),

@@ -33,7 +33,7 @@ same-length-3 : tie.Need-same-length-3
 same-length-3 c = search needs
 
 returns : tie.Need-returns
-returns c = c .before .before .refuse .ensures ∙ refused-alike _ _ _ (c .before .before .before .before .before .before .before .before .before .before .before .before .before .convert-sound .kept .1 .1 .0) ∙ ap (λ a. answer a (c .before .before .before .before .before .before .before .before .before .before .before .before .before .before .before .before .before .before .before .before .before .before .args .out .now)) (sym (text-refused _ _ (refuses _ _ _ _ _ _ _ _ (c .before .before .before .before .before .before .before .before .before .before .before .before .before .convert-sound .ensures) (c .before .before .before .before .before .c .given .1))))
+returns c = c .before .before .refuse .ensures ∙ refused-alike _ _ _ (c .before .before .before .before .before .before .before .before .before .before .before .before .before .convert-sound .kept .1 .1 .0) ∙ ap (λ a. answer a (c .before .before .before .before .before .before .before .before .before .before .before .before .before .before .before .before .before .before .before .before .before .before .args .out .now)) (sym (text-refused _ _ (refuses _ _ _ _ _ _ _ _ (c .before .before .before .before .before .before .before .before .before .before .before .before .before .convert-sound .ensures) (c .before .before .before .before .before .c .given .1) .0)))
 
 same-length-4 : tie.Need-same-length-4
 same-length-4 c = search needs

@@ -1,11 +1,11 @@
 -- `ical::property::convert_properties` meets its contract.
-use Prim.Native.Nat.{_-_}
+use Prim.Native.Nat.{ℕ, _-_}
 use mathlib.Core.Path.{_≡_, refl, sym, _∙_}
-use mathlib.Core.List.{map}
+use mathlib.Core.List.{List, map}
 use native.Mathlib.Omega.{arith}
 use lib.ListN.{length}
-use Rattle.octets.specs.Pen.{pen}
-use Rattle.octets.proofs.Pen.{Leads, leads-start, leads-on, leads-end, as-text}
+use Rattle.octets.specs.Pen.{pen, Wrote}
+use Rattle.octets.proofs.Pen.{nothing, then, kept, front-behind, Leads, leads-start, leads-on, leads-end, as-text}
 use Rattle.types.specs.Laid.{tableIn}
 use Rattle.tape.specs.Decode.{listAt}
 use Rattle.content.specs.Fold.{textOf}
@@ -20,7 +20,7 @@ use Rattle.ical.proofs.property.convert_properties.Tie as tie
 
 abbrev Inv-loop : tie.InvT-loop
 Inv-loop t at rows out₀ to text₀ rule₀ i₀ q₀ out text rule i q =
-    (length out ≡ length out₀) × (length text ≡ length text₀) × (length rule ≡ length rule₀) × Walking isProperty t i₀ i
+    ((xs : List ℕ) × Wrote (pen out₀ q₀) xs (pen out q)) × (length text ≡ length text₀) × (length rule ≡ length rule₀) × Walking isProperty t i₀ i
     × (checkedAll (tableIn rows) (map propertyFrom (listAt t i)) ≡ checkedAll (tableIn rows) (map propertyFrom (listAt t i₀)))
     × Leads (pen out₀ q₀) (textOf (map (propertyLine (tableIn rows)) (map propertyFrom (listAt t i₀)))) (pen out q) (textOf (map (propertyLine (tableIn rows)) (map propertyFrom (listAt t i))))
 
@@ -31,7 +31,7 @@ after-requires : tie.Need-after-requires Inv-loop μ-loop
 after-requires c κs = search needs
 
 loop-holds : tie.Need-loop-holds Inv-loop μ-loop
-loop-holds c = (refl, refl, refl, walking-start isProperty (c .before .before .before .before .before .before .pre .0) (c .after .ensures), refl, leads-start)
+loop-holds c = ((_, nothing), refl, refl, walking-start isProperty (c .before .before .before .before .before .before .pre .0) (c .after .ensures), refl, leads-start)
 
 tag-requires : tie.Need-tag-requires Inv-loop μ-loop
 tag-requires c κs = search needs
@@ -40,7 +40,7 @@ after-requires-2 : tie.Need-after-requires-2 Inv-loop μ-loop
 after-requires-2 c κs = search needs
 
 same-length : tie.Need-same-length Inv-loop μ-loop
-same-length c = omega (arith, c .before .before .before .loop .inv .0)
+same-length c = omega (arith, kept (c .before .before .before .loop .inv .0 .1))
 
 same-length-2 : tie.Need-same-length-2 Inv-loop μ-loop
 same-length-2 c = omega (arith, c .before .before .before .loop .inv .1)
@@ -70,7 +70,7 @@ loop-less c =
 loop-again : tie.Need-loop-again Inv-loop μ-loop
 loop-again c =
     let y = passes _ _ _ _ _ _ _ _ (c .before .before .before .before .before .before .before .before .before .convert-property .ensures) (c .before .p .given .1) in (
-      omega (arith, c .before .before .before .before .before .before .before .before .before .before .before .before .before .before .before .loop .inv .0),
+      (_, then (c .before .before .before .before .before .before .before .before .before .before .before .before .before .before .before .loop .inv .0 .1) (y .wrote)),
       omega (arith, c .before .before .before .before .before .before .before .before .before .before .before .before .before .before .before .loop .inv .1),
       omega (arith, c .before .before .before .before .before .before .before .before .before .before .before .before .before .before .before .loop .inv .2),
       walking-next (c .before .before .before .before .before .before .before .before .before .before .before .before .before .before .before .loop .inv .3) (λ e. c .before .before .before .before .before .before .before .before .before .before .before .before .before .if1 .left (c .before .before .before .before .before .before .before .before .before .before .before .before .before .before .tag .ensures ∙ e)) (y .behind),
@@ -82,7 +82,7 @@ enum-known-p-2 : tie.Need-enum-known-p-2 Inv-loop μ-loop
 enum-known-p-2 c = search needs
 
 same-length-4 : tie.Need-same-length-4 Inv-loop μ-loop
-same-length-4 c = omega (arith, c .before .before .before .before .before .before .before .before .before .before .before .before .before .before .before .loop .inv .0)
+same-length-4 c = omega (arith, kept (c .before .before .before .before .before .before .before .before .before .before .before .before .before .before .before .loop .inv .0 .1))
 
 same-length-5 : tie.Need-same-length-5 Inv-loop μ-loop
 same-length-5 c = omega (arith, c .before .before .before .before .before .before .before .before .before .before .before .before .before .before .before .loop .inv .1)
@@ -91,7 +91,9 @@ same-length-6 : tie.Need-same-length-6 Inv-loop μ-loop
 same-length-6 c = omega (arith, c .before .before .before .before .before .before .before .before .before .before .before .before .before .before .before .loop .inv .2)
 
 returns-2 : tie.Need-returns-2 Inv-loop μ-loop
-returns-2 c = array-checked _ isProperty _ _ (c .before .before .before .before .before .before .before .before .before .before .before .before .before .before .before .before .before .before .before .before .before .before .pre .0) (c .before .before .before .before .before .before .before .before .before .before .before .before .before .before .before .before .after .ensures) ∙ sym (c .before .before .before .before .before .before .before .before .before .before .before .before .before .before .before .loop .inv .4) ∙ properties-off _ _ _ (λ e. c .before .before .before .before .before .before .before .before .before .before .before .before .before .if1 .left (c .before .before .before .before .before .before .before .before .before .before .before .before .before .before .tag .ensures ∙ e)) (refuses _ _ _ _ _ _ _ _ (c .before .before .before .before .before .before .before .before .before .convert-property .ensures) (c .before .p2 .given .1))
+returns-2 c =
+    let y = refuses _ _ _ _ _ _ _ _ (c .before .before .before .before .before .before .before .before .before .convert-property .ensures) (c .before .p2 .given .1) in
+    (array-checked _ isProperty _ _ (c .before .before .before .before .before .before .before .before .before .before .before .before .before .before .before .before .before .before .before .before .before .before .pre .0) (c .before .before .before .before .before .before .before .before .before .before .before .before .before .before .before .before .after .ensures) ∙ sym (c .before .before .before .before .before .before .before .before .before .before .before .before .before .before .before .loop .inv .4) ∙ properties-off _ _ _ (λ e. c .before .before .before .before .before .before .before .before .before .before .before .before .before .if1 .left (c .before .before .before .before .before .before .before .before .before .before .before .before .before .before .tag .ensures ∙ e)) (y .0), front-behind (c .before .before .before .before .before .before .before .before .before .before .before .before .before .before .before .loop .inv .0 .1) (y .1))
 
 pub convert-properties-spec : {M : Type 1} → statement M
 convert-properties-spec =

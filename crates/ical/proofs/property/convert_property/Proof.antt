@@ -1,5 +1,6 @@
 -- `ical::property::convert_property` meets its contract.
 use borrow.Author.Tests.{not-true, not-false}
+use Rattle.octets.proofs.Pen.{front-same, front-behind}
 use Rattle.tape.specs.Decode.{valueAt}
 use Rattle.content.proofs.Folding.{then, as-folded, line-ended}
 use Rattle.ical.proofs.Judging.{kind-name, stands-told, invalid-told, behind-values, refused-7, refused-8, refused-9, passed}
@@ -15,7 +16,7 @@ may-return-requires : tie.Need-may-return-requires
 may-return-requires c κs = search needs
 
 returns : tie.Need-returns
-returns c = refused-7 _ (c .before .before .before .before .before .before .before .before .pre .0) (c .before .before .parts-of .ensures) (c .before .may-return .ensures) (not-true _ (c .if1 .taken))
+returns c = (refused-7 _ (c .before .before .before .before .before .before .before .before .pre .0) (c .before .before .parts-of .ensures) (c .before .may-return .ensures) (not-true _ (c .if1 .taken)), front-same)
 
 sub-ruling-of : tie.Need-sub-ruling-of
 sub-ruling-of c = search needs
@@ -45,7 +46,7 @@ encoding-fits-requires : tie.Need-encoding-fits-requires
 encoding-fits-requires c κs = search needs
 
 returns-2 : tie.Need-returns-2
-returns-2 c = refused-8 _ (c .before .before .before .before .before .before .before .before .before .before .before .before .before .before .before .before .pre .0) (c .before .before .before .before .before .before .before .before .before .before .parts-of .ensures) (c .before .before .before .before .before .before .before .before .before .may-return .ensures) (not-false _ (c .before .before .before .before .before .before .before .before .if1 .left)) (c .before .before .before .ruling-of .ensures) (c .before .before .is-encoded .ensures) (c .before .encoding-fits .ensures) (not-true _ (c .if2 .taken))
+returns-2 c = (refused-8 _ (c .before .before .before .before .before .before .before .before .before .before .before .before .before .before .before .before .pre .0) (c .before .before .before .before .before .before .before .before .before .before .parts-of .ensures) (c .before .before .before .before .before .before .before .before .before .may-return .ensures) (not-false _ (c .before .before .before .before .before .before .before .before .if1 .left)) (c .before .before .before .ruling-of .ensures) (c .before .before .is-encoded .ensures) (c .before .encoding-fits .ensures) (not-true _ (c .if2 .taken)), front-same)
 
 sub-write-head : tie.Need-sub-write-head
 sub-write-head c = search needs
@@ -99,7 +100,9 @@ same-length-3 : tie.Need-same-length-3
 same-length-3 c = search needs
 
 returns-3 : tie.Need-returns-3
-returns-3 c = refused-9 _ (c .before .before .before .before .before .before .before .before .before .before .before .before .before .before .before .before .before .before .before .before .before .before .before .before .before .before .before .before .before .before .before .before .before .before .before .pre .0) (c .before .before .before .before .before .before .before .before .before .before .before .before .before .before .before .before .before .before .before .before .before .before .before .before .before .before .before .before .before .parts-of .ensures) (c .before .before .before .before .before .before .before .before .before .before .before .before .before .before .before .before .before .before .before .before .before .before .before .before .before .before .before .before .may-return .ensures) (not-false _ (c .before .before .before .before .before .before .before .before .before .before .before .before .before .before .before .before .before .before .before .before .before .before .before .before .before .before .before .if1 .left)) (c .before .before .before .before .before .before .before .before .before .before .before .before .before .before .before .before .before .before .before .before .before .before .ruling-of .ensures) (c .before .before .before .before .before .before .before .before .before .before .before .before .before .before .before .before .before .before .before .before .before .is-encoded .ensures) (c .before .before .before .before .before .before .before .before .before .before .before .before .before .before .before .before .before .before .before .before .encoding-fits .ensures) (not-false _ (c .before .before .before .before .before .before .before .before .before .before .before .before .before .before .before .before .before .before .before .if2 .left)) (invalid-told _ _ _ _ _ _ _ (c .before .before .before .before .before .before .before .before .write-stood .ensures) (c .enum-told .given .1))
+returns-3 c =
+    let w = invalid-told _ _ _ _ _ _ _ (c .before .before .before .before .before .before .before .before .write-stood .ensures) (c .enum-told .given .1) in
+    (refused-9 _ (c .before .before .before .before .before .before .before .before .before .before .before .before .before .before .before .before .before .before .before .before .before .before .before .before .before .before .before .before .before .before .before .before .before .before .before .pre .0) (c .before .before .before .before .before .before .before .before .before .before .before .before .before .before .before .before .before .before .before .before .before .before .before .before .before .before .before .before .before .parts-of .ensures) (c .before .before .before .before .before .before .before .before .before .before .before .before .before .before .before .before .before .before .before .before .before .before .before .before .before .before .before .before .may-return .ensures) (not-false _ (c .before .before .before .before .before .before .before .before .before .before .before .before .before .before .before .before .before .before .before .before .before .before .before .before .before .before .before .if1 .left)) (c .before .before .before .before .before .before .before .before .before .before .before .before .before .before .before .before .before .before .before .before .before .before .ruling-of .ensures) (c .before .before .before .before .before .before .before .before .before .before .before .before .before .before .before .before .before .before .before .before .before .is-encoded .ensures) (c .before .before .before .before .before .before .before .before .before .before .before .before .before .before .before .before .before .before .before .before .encoding-fits .ensures) (not-false _ (c .before .before .before .before .before .before .before .before .before .before .before .before .before .before .before .before .before .before .before .if2 .left)) (w .0), front-behind (c .before .before .before .before .before .before .before .before .before .before .before .before .before .before .before .write-head .ensures .wrote) (w .1))
 
 same-length-4 : tie.Need-same-length-4
 same-length-4 c = search needs

@@ -1,5 +1,6 @@
 -- `ical::property::write_stood` meets its contract.
 use borrow.Author.Tests.{not-true, not-false}
+use Rattle.octets.proofs.Pen.{front-same}
 use Rattle.ical.proofs.Judging.{not-taken, stood}
 use borrow.Author.Needs.{needs}
 use Rattle.ical.proofs.property.write_stood.Statement.{statement}
@@ -9,7 +10,7 @@ is-taken-requires : tie.Need-is-taken-requires
 is-taken-requires c κs = search needs
 
 returns : tie.Need-returns
-returns c = not-taken _ _ _ (c .before .is-taken .ensures) (not-true _ (c .if1 .taken))
+returns c = (not-taken _ _ _ (c .before .is-taken .ensures) (not-true _ (c .if1 .taken)), front-same)
 
 write-tested-requires : tie.Need-write-tested-requires
 write-tested-requires c κs = search needs
