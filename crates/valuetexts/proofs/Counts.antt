@@ -1,7 +1,7 @@
 -- Texts that are read and counted: one or many, and the two or three of REQUEST-STATUS.
 use Prim.Native.Nat.{ℕ, _+_, _≤_, _<_}
 use Prim.Native.Char.{code}
-use mathlib.Core.Path.{_≡_, refl, sym, ap, _∙_}
+use mathlib.Core.Path.{_≡_, refl, ap, _∙_}
 use mathlib.Core.Bool.{Bool, true, false}
 use mathlib.Core.List.{List, [], _∷_, _++_, map, append-assoc}
 use mathlib.Core.Option.{some}
@@ -14,10 +14,11 @@ use Rattle.octets.specs.Optional.{map?, when, guard}
 use Rattle.octets.specs.Pen.{Pen, pen, Wrote}
 use Rattle.octets.proofs.Pen.{then, as-text, front-behind, front-wrote}
 use Rattle.json.specs.Tree.{Json, str, arr, itemsOf}
-use Rattle.json.specs.Print.{quoted, printString, print, firstItem, moreItems}
+use Rattle.json.specs.Print.{quoted, printString, print, firstItem}
 use Rattle.values.specs.Read.{twoOrThree, readStatus}
 use Rattle.values.specs.Shown.{valuesJson}
 use Rattle.values.specs.Texts.{texts, fields, textsFrom}
+pub use Rattle.values.proofs.Arrays.{items-json}
 use Rattle.valuetexts.specs.Trying.{Tried, WroteTexts}
 use Rattle.valuetexts.specs.declared.Attempt.the-variants.{Wrote as Done, Invalid}
 use Rattle.valuetexts.specs.declared.Texts.the-variants.{Wrote as Counted, Invalid as NoTexts}
@@ -43,12 +44,6 @@ module _ {p q : Pen} (many : Bool) (s out : List ℕ) (e n : ℕ) (w : WroteText
 pub no-texts : {p q : Pen} (many : Bool) (s out : List ℕ) → WroteTexts (textsFrom (code ",") (code ";") false s) q out NoTexts → Wrote p (octets ",\"") q → Tried (guard (λ vs. many or single vs) (map? (map str) (texts s))) valuesJson p out Invalid
 unfolding texts map? guard
 no-texts many s out w u = (rw (w .0), front-behind u (w .1))
-
--- the values of an array
-pub items-json : (vs : List Json) → moreItems (itemsOf vs) ≡ valuesJson vs ++ octets "]"
-unfolding moreItems itemsOf valuesJson
-items-json [] = refl
-items-json (v ∷ vs) = rw (items-json vs) (ap (λ (l : List ℕ). code "," ∷ l) (sym (append-assoc (print v) (valuesJson vs) (octets "]"))))
 
 -- REQUEST-STATUS
 few : (t : List ℕ) (ts : List (List ℕ)) → length ts + 1 < 2 → twoOrThree (t ∷ ts) ≡ false
