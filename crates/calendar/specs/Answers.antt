@@ -27,12 +27,6 @@ abbrev pub momentSaid : MomentRead → Option Moment
 momentSaid (Is m) = some m
 momentSaid NoMoment = none
 
--- the moment that is reached, if there is one
-abbrev pub movedSaid : Moved → Option Moment
-movedSaid (At m) = some m
-movedSaid PastLast = none
-movedSaid NotMoved = none
-
 -- h hours later, or past 9999; what is no moment is not moved
 unfoldable pub movedOn : Moment → ℕ → Moved
 movedOn m h = pick (isMoment m) (given PastLast At (moved m h)) NotMoved

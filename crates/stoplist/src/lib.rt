@@ -11,6 +11,8 @@ use crate::plans::conclude;
 use crate::plans::make_plan;
 use crate::runs::Run;
 use crate::runs::next;
+use calendar::dates::Date;
+use calendar::moments::Kind;
 use calendar::moments::Moment;
 use calendar::moments::Moved;
 use octets::Refusal;
@@ -27,6 +29,17 @@ pub enum StopMoved {
 }
 
 impl Stop {
+    // At the first moment that can be named.
+    pub const FIRST: Stop = Stop {
+        moment: Moment {
+            date: Date::FIRST,
+            hour: 0,
+            minute: 0,
+            second: 0,
+            kind: Kind::Day,
+        },
+    };
+
     // The stop so many hours later. Its other fields are kept.
     pub fn moved(self, hours: u64) -> StopMoved
         ensures { λ r. ⌜ r ≡ stopOn self hours ⌝ }

@@ -7,9 +7,7 @@ use crate::Listed;
 use crate::Stop;
 use crate::runs::Run;
 use crate::runs::run_at;
-use calendar::dates::Date;
 use calendar::moments::Kind;
-use calendar::moments::Moment;
 use calendar::moments::MomentRead;
 use calendar::moments::read_moment;
 use calendar::rules::ByParts;
@@ -139,15 +137,7 @@ fn is_served(rule: Rule, k: Kind) -> bool
 fn refused(why: Refusal, room: usize) -> Plan
     ensures { λ r. ⌜ r ≡ refusedFor why room ⌝ }
 {
-    let first = Date::FIRST;
-    let moment = Moment {
-        date: first,
-        hour: 0,
-        minute: 0,
-        second: 0,
-        kind: Kind::Day,
-    };
-    let stop = Stop { moment: moment };
+    let stop = Stop::FIRST;
     let run = Run {
         more: false,
         at: 0,

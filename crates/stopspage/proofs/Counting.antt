@@ -14,18 +14,20 @@ use Rattle.octets.proofs.Cases.{both, and-false-right}
 use Rattle.octets.proofs.Optional.{when-is, some-is}
 use Rattle.calendar.specs.Gregorian.{dayCount}
 use Rattle.calendar.specs.Moments.{isMoment, hourNumber, atHour, moved}
-use Rattle.calendar.specs.Answers.{movedSaid, movedOn}
+use Rattle.calendar.specs.Answers.{movedOn}
 use Rattle.calendar.specs.declared.moments.Moment.{Moment}
-use Rattle.calendar.specs.declared.moments.Moved.the-variants.{At, Past}
+use Rattle.calendar.specs.declared.moments.Moved.the-variants.{At as MomentAt, Past as MomentPast}
 use Rattle.calendar.specs.declared.rules.End.{End}
 use Rattle.calendar.specs.declared.rules.End.the-variants.{Count, Until, Open}
 use Rattle.calendar.proofs.Inverse.{number-back}
 use Rattle.calendar.proofs.Real.{moved-real}
+use Rattle.stoplist.specs.declared.Stop.{Stop}
+use Rattle.stoplist.specs.declared.StopMoved.{StopMoved}
 use Rattle.stoplist.specs.declared.runs.Run.{Run}
-use Rattle.stoplist.specs.Stops.{allows, oneLess, momentsFrom, stop}
+use Rattle.stoplist.specs.Stops.{allows, oneLess, momentsFrom, stop, stopAt, stopOn}
 use Rattle.stoplist.specs.Runs.{stopsOf, Begins}
 use Rattle.stoplist.proofs.Running.{ended-stops}
-use Rattle.stopspage.specs.Pages.{allowedBy, reached}
+use Rattle.stopspage.specs.Pages.{allowedBy, isThere, reached}
 
 -- the end allows a stop, and so many behind it
 one-allowed : (e : End) (room k : ℕ) (m : Moment) → suc k ≡ allowedBy e (suc room) → (allows e m ≡ true) × (k ≡ allowedBy (oneLess e) room)
@@ -92,41 +94,41 @@ counted-from (suc room) (suc k) h e m r l a =
         → suc k ≡ length (momentsFrom room h (oneLess e) (some (atHour m (hourNumber m + h)))) → suc (suc k) ≡ length (momentsFrom (suc room) h e (some m))
     onto o p i = unfold momentsFrom in rw (o .0, p) (ap suc i)
 
--- a moment that is reached is said to be
-said-back : (o : Option Moment) → movedSaid (given Past At o) ≡ o
-unfolding given
-said-back none = refl
-said-back (some m) = refl
+-- a stop is there where its moment is
+there-moved : (s : Stop) (o : Option Moment) → isThere (stopAt s (given MomentPast MomentAt o)) ≡ isSome o
+unfolding stopAt given isSome
+there-moved s none = refl
+there-moved s (some m) = refl
 
 -- what the test tells
-module _ (m : Moment) (h n : ℕ) where
-  pub too-many : 100000000 < n → false ≡ reached m h n
+module _ (s : Stop) (h n : ℕ) where
+  pub too-many : 100000000 < n → false ≡ reached s h n
   unfolding reached
   too-many l = rw (lt-leb n 100000000 l) (sym (and-false-right (leb 1 n)))
 
-  pub too-far : 100000000 < h → false ≡ reached m h n
+  pub too-far : 100000000 < h → false ≡ reached s h n
   unfolding reached
   too-far l = rw (lt-leb h 100000000 l, and-false-right (leb n 100000000)) (sym (and-false-right (leb 1 n)))
 
-  pub is-past : none ≡ movedSaid (movedOn m ((n - 1) * h)) → false ≡ reached m h n
-  unfolding reached isSome
-  is-past e = rw (← e, and-false-right (leb h 100000000), and-false-right (leb n 100000000)) (sym (and-false-right (leb 1 n)))
+  pub is-past : (x : StopMoved) → x ≡ stopOn s ((n - 1) * h) → isThere x ≡ false → false ≡ reached s h n
+  unfolding reached
+  is-past x e f = rw (← e, f, and-false-right (leb h 100000000), and-false-right (leb n 100000000)) (sym (and-false-right (leb 1 n)))
 
-  pub is-there : (x : Moment) → (n ≡ 0 → ⊥) → n ≤ 100000000 → h ≤ 100000000 → some x ≡ movedSaid (movedOn m ((n - 1) * h)) → true ≡ reached m h n
-  unfolding reached isSome
-  is-there x z a b e = rw (le-leb 1 n (positive n z), le-leb n 100000000 a, le-leb h 100000000 b, ← e)
+  pub is-there : (x : StopMoved) → (n ≡ 0 → ⊥) → n ≤ 100000000 → h ≤ 100000000 → x ≡ stopOn s ((n - 1) * h) → isThere x ≡ true → true ≡ reached s h n
+  unfolding reached
+  is-there x z a b e f = rw (le-leb 1 n (positive n z), le-leb n 100000000 a, le-leb h 100000000 b, ← e, f)
     where
       positive : (n : ℕ) → (n ≡ 0 → ⊥) → 1 ≤ n
       positive zero z = absurd (z refl)
       positive (suc n) z = omega arith
 
-  reach-tells : isMoment m ≡ true → reached m h n ≡ true → (1 ≤ n) × (hourNumber m + (n - 1) * h < dayCount * 24)
-  unfolding reached movedOn moved
+  reach-tells : isMoment (s .moment) ≡ true → reached s h n ≡ true → (1 ≤ n) × (hourNumber (s .moment) + (n - 1) * h < dayCount * 24)
+  unfolding reached stopOn movedOn moved
   reach-tells r e =
       let a = both (leb 1 n) _ e in
-      let s = both (leb h 100000000) _ (both (leb n 100000000) _ (a .1) .1) .1 in (
+      let t = both (leb h 100000000) _ (both (leb n 100000000) _ (a .1) .1) .1 in (
         leb-true 1 n (a .0),
-        some-is _ (rw (r, said-back) at s) (λ x w. ltb-true _ _ (when-is (ltb (hourNumber m + (n - 1) * h) (dayCount * 24)) _ x w .0)),
+        some-is _ (rw (r, there-moved) at t) (λ x w. ltb-true _ _ (when-is (ltb (hourNumber (s .moment) + (n - 1) * h) (dayCount * 24)) _ x w .0)),
       )
 
 pub product-fits : (a b : ℕ) → a ≤ 100000000 → b ≤ 100000000 → a * b ≤ 10000000000000000
@@ -142,16 +144,16 @@ none-ahead r b = rw (ended-stops r b)
 pub walked-all : (r : Run) (n : ℕ) → Begins r (r .room) → n ≡ r .at + length (stopsOf r) → n ≡ length (stopsOf r)
 walked-all r n g e = let f = g .front in omega arith
 
-pub counted : (r : Run) (n : ℕ) → Begins r (r .room) → r .more ≡ true → n ≡ allowedBy (r .end) (r .room) → reached (r .stop .moment) (r .hours) n ≡ true → n ≡ length (stopsOf r)
+pub counted : (r : Run) (n : ℕ) → Begins r (r .room) → r .more ≡ true → n ≡ allowedBy (r .end) (r .room) → reached (r .stop) (r .hours) n ≡ true → n ≡ length (stopsOf r)
 unfolding stopsOf
 counted r n g b a t = go n a t
   where
     suc-sub : {k : ℕ} → suc k - 1 ≡ k
     suc-sub = omega arith
 
-    go : (n : ℕ) → n ≡ allowedBy (r .end) (r .room) → reached (r .stop .moment) (r .hours) n ≡ true → n ≡ length (stopsOf r)
-    go zero a t = absurd (let w = reach-tells (r .stop .moment) (r .hours) 0 (g .sound .real) t .0 in omega arith)
+    go : (n : ℕ) → n ≡ allowedBy (r .end) (r .room) → reached (r .stop) (r .hours) n ≡ true → n ≡ length (stopsOf r)
+    go zero a t = absurd (let w = reach-tells (r .stop) (r .hours) 0 (g .sound .real) t .0 in omega arith)
     go (suc k) a t =
         let f : r .room - r .at ≡ r .room = (let z = g .front in omega arith) in
-        let l : hourNumber (r .stop .moment) + k * r .hours < dayCount * 24 = rw suc-sub at (reach-tells (r .stop .moment) (r .hours) (suc k) (g .sound .real) t .1) in
+        let l : hourNumber (r .stop .moment) + k * r .hours < dayCount * 24 = rw suc-sub at (reach-tells (r .stop) (r .hours) (suc k) (g .sound .real) t .1) in
         rw (b, f, length-map) (counted-from (r .room) k (r .hours) (r .end) (r .stop .moment) (g .sound .real) l a)

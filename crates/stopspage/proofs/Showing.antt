@@ -1,16 +1,18 @@
 -- Stops as they are printed, one after the other as a run has them, and a moment by the front of its text.
-use Prim.Native.Nat.{ℕ, suc, _+_, _-_, _≤_}
+use Prim.Native.Nat.{ℕ, suc, _+_, _-_, _≤_, _<_}
 use mathlib.Core.Path.{_≡_, refl, sym, ap, _∙_}
 use mathlib.Core.Bool.{true, false}
 use mathlib.Core.List.{List, [], _++_}
 use native.Mathlib.Omega.{arith}
 use native.Mathlib.Nat.{sub-zero}
 use native.Mathlib.Numerals.{add-one}
-use lib.ListN.{length, take}
+use lib.ListN.{length, getD, take, drop, length-take, drop-of-length-le}
+use lib.Seq.{length-take-le, drop-cons, getD-take}
 use Rattle.octets.specs.Decimal.{figures}
 use Rattle.calendar.specs.declared.moments.Kind.{Kind}
 use Rattle.calendar.specs.declared.moments.Kind.the-variants.{Day, Local, Utc}
 use Rattle.calendar.specs.declared.moments.Moment.{Moment}
+use Rattle.stoplist.specs.declared.Stop.{Stop}
 use Rattle.stoplist.specs.declared.runs.Run.{Run}
 use Rattle.stoplist.specs.Runs.{nextRun, advanced, stopsOf, Sound}
 use Rattle.stoplist.proofs.Running.{next-at, next-sound, next-stops, advances, ended-stops}
@@ -65,3 +67,13 @@ end-shown r i b = rw (ended-stops r b)
 
 pub end-at : (r : Run) → r .more ≡ false → r .at ≡ r .at + length (stopsOf r)
 end-at r b = rw (ended-stops r b) (omega arith)
+
+-- for a turn over a list: the next of its first n stops, and their end
+pub stops-on : (d : Stop) (l : List Stop) (n i : ℕ) → i < n → n ≤ length l
+    → stopsShown (i + 1) (drop i (take n l)) ≡ stopShown (i + 1) (getD l i d) ++ stopsShown (i + 1 + 1) (drop (i + 1) (take n l))
+unfolding stopsShown
+stops-on d l n i h k = rw (drop-cons (take n l) i d (rw (length-take-le n l k) h), getD-take n l i d h, add-one, add-one)
+
+pub stops-end : (l : List Stop) (n i j : ℕ) → n ≤ i → stopsShown j (drop i (take n l)) ≡ []
+unfolding stopsShown
+stops-end l n i j h = rw (drop-of-length-le (take n l) {i = i} (let e = length-take n l in omega arith))

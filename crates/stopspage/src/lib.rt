@@ -1,17 +1,16 @@
 // What `stops` prints: its three lines of input, and the stops that they ask for.
 ghost use mathlib.Core.Path.{_≡_};
 ghost use mathlib.Core.List.{_++_};
-ghost use Prim.Native.Nat.{_+_, _%_};
-ghost use lib.ListN.{length};
+ghost use Prim.Native.Nat.{_+_, _%_, _≤_};
+ghost use lib.ListN.{length, take};
 ghost use Rattle.octets.specs.Pen.{pen, Wrote};
 ghost use Rattle.calendar.specs.declared.moments.Kind.the-variants.{Utc};
 ghost use Rattle.stoplist.specs.Stops.{listOf};
 ghost use Rattle.stoplist.specs.Runs.{stopsOf, Sound, Begins};
 ghost use Rattle.stopspage.specs.Printing.{dateShown, timeShown, stopShown, stopsShown, badInput, headShown, answerShown, mostOf, shownFor, chop, printed};
-ghost use Rattle.stopspage.specs.Pages.{shownLength, allowedBy, reached, mostSaid, thirdShown};
+ghost use Rattle.stopspage.specs.Pages.{shownLength, allowedBy, reached, mostSaid, Lists, thirdShown};
 use calendar::moments::Kind;
 use calendar::moments::Moment;
-use calendar::moments::Moved;
 use calendar::parts::find;
 use calendar::rules::End;
 use octets::MOST_TEXT;
@@ -23,6 +22,8 @@ use octets::put_decimal;
 use octets::value_of;
 use stoplist::Listed;
 use stoplist::Stop;
+use stoplist::StopMoved;
+use stoplist::list_stops;
 use stoplist::plans::make_plan;
 use stoplist::runs::Run;
 use stoplist::runs::advance;
@@ -31,6 +32,12 @@ use stoplist::runs::advance;
 pub enum Most {
     Is(usize),
     NoNumber,
+}
+
+// What was listed, and the records that were lent for it.
+pub struct Page {
+    pub listed: Listed,
+    pub list: [Stop; 64],
 }
 
 // The last decimal digit of a number.
@@ -112,9 +119,9 @@ fn allowed(end: End, room: usize) -> usize
     }
 }
 
-// The last of n moments so many hours apart is reached before the last day is past.
-fn is_reached(m: Moment, hours: u64, n: usize) -> bool
-    ensures { λ r. ⌜ r ≡ reached m hours n ⌝ }
+// The last of n stops so many hours apart is reached before the last day is past.
+fn is_reached(stop: Stop, hours: u64, n: usize) -> bool
+    ensures { λ r. ⌜ r ≡ reached stop hours n ⌝ }
 {
     if n == 0 {
         return false;
@@ -126,10 +133,10 @@ fn is_reached(m: Moment, hours: u64, n: usize) -> bool
         return false;
     }
     let last = (n - 1) as u64;
-    match m.moved(last * hours) {
-        Moved::At(_) => true,
-        Moved::Past => false,
-        Moved::NoMoment => false,
+    match stop.moved(last * hours) {
+        StopMoved::At(_) => true,
+        StopMoved::Past => false,
+        StopMoved::NoMoment => false,
     }
 }
 
@@ -154,10 +161,9 @@ fn count_of(run: Run) -> usize
         return 0;
     }
     let stop = run.stop;
-    let m = stop.moment;
     let end = run.end;
     let n = allowed(end, run.room);
-    if is_reached(m, run.hours, n) {
+    if is_reached(stop, run.hours, n) {
         return n;
     }
     walked(run)
@@ -209,6 +215,51 @@ pub fn print_list(out: &mut [u8], start: &[u8], rule: &[u8], most: usize) -> usi
     }
 }
 
+// Lends the first records of a list for the stops of a start and a rule.
+fn list_page(mut list: [Stop; 64], start: &[u8], rule: &[u8], most: usize) -> Page
+    requires { ⌜ most ≤ 64 ⌝ }
+    ensures { λ r. ⌜ Lists list (now (start .entry)) (now (rule .entry)) most r ⌝ }
+{
+    let listed = list_stops(start, rule, &mut list[..most]);
+    Page {
+        listed: listed,
+        list: list,
+    }
+}
+
+// Writes the first stops of a list.
+fn put_list(out: &mut [u8], at: usize, list: [Stop; 64], n: usize) -> usize
+    requires { ⌜ n ≤ 64 ⌝ }
+    ensures { λ r. ⌜ Wrote (pen (now (out .entry)) at) (stopsShown 1 (take n list)) (pen (now (out .exit)) r) ⌝ }
+{
+    let mut to = at;
+    let mut i = 0;
+    while i < n {
+        let stop = list[i];
+        to = put_stop(out, to, i + 1, stop);
+        i += 1;
+    }
+    to
+}
+
+// Writes the stops of a start and a rule, not more than so many of 64.
+fn put_page(out: &mut [u8], start: &[u8], rule: &[u8], most: usize) -> usize
+    requires { ⌜ most ≤ 64 ⌝ }
+    ensures { λ r. ⌜ Wrote (pen (now (out .entry)) 0) (answerShown (listOf (now (start .entry)) (now (rule .entry)) most)) (pen (now (out .exit)) r) ⌝ }
+{
+    let blank = Stop::FIRST;
+    let page = list_page([blank; 64], start, rule, most);
+    let listed = page.listed;
+    let list = page.list;
+    match listed {
+        Listed::Stops(n) => {
+            let at = put_head(out, b"stops ", n);
+            put_list(out, at, list, n)
+        }
+        Listed::Refused(why) => put_head(out, b"refused ", why.number() as usize),
+    }
+}
+
 // The most stops: a number from 0 to 64 without leading zeros.
 fn most_of(s: &[u8]) -> Most
     ensures { λ r. ⌜ mostSaid r ≡ mostOf (now (s .entry)) ⌝ }
@@ -248,7 +299,7 @@ fn print_for(out: &mut [u8], start: &[u8], rule: &[u8], most: &[u8]) -> usize
     let Most::Is(n) = most_of(most) else {
         return put_bad(out);
     };
-    print_list(out, start, rule, n)
+    put_page(out, start, rule, n)
 }
 
 // Prints the answer for two lines and what stands behind them.

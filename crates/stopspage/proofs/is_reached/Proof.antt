@@ -1,8 +1,7 @@
 -- `stopspage::is_reached` meets its contract: test by test.
 use Prim.Native.Nat.{_-_}
-use mathlib.Core.Path.{sym, ap, _∙_}
+use mathlib.Core.Path.{refl, sym, _∙_}
 use native.Mathlib.Omega.{arith}
-use Rattle.calendar.specs.Answers.{movedSaid}
 use Rattle.stopspage.specs.Pages.{reached}
 use Rattle.stopspage.proofs.Counting.{too-many, too-far, is-past, is-there, product-fits}
 use borrow.Author.Needs.{needs}
@@ -38,13 +37,13 @@ enum-told-3 : tie.Need-enum-told-3
 enum-told-3 c = search needs
 
 returns-4 : tie.Need-returns-4
-returns-4 c = is-there _ _ _ _ (c .before .before .before .before .before .if1 .left) (c .before .before .before .before .if2 .left) (c .before .before .before .if3 .left) (ap movedSaid (sym (c .enum-told .given .1) ∙ c .before .before .moved .ensures))
+returns-4 c = is-there _ _ _ _ (c .before .before .before .before .before .if1 .left) (c .before .before .before .before .if2 .left) (c .before .before .before .if3 .left) (sym (c .enum-told .given .1) ∙ c .before .before .moved .ensures) refl
 
 returns-5 : tie.Need-returns-5
-returns-5 c = is-past _ _ _ (ap movedSaid (sym (c .enum-told2 .given .1) ∙ c .before .before .moved .ensures))
+returns-5 c = is-past _ _ _ _ (sym (c .enum-told2 .given .1) ∙ c .before .before .moved .ensures) refl
 
 returns-6 : tie.Need-returns-6
-returns-6 c = is-past _ _ _ (ap movedSaid (sym (c .enum-told3 .given .1) ∙ c .before .before .moved .ensures))
+returns-6 c = is-past _ _ _ _ (sym (c .enum-told3 .given .1) ∙ c .before .before .moved .ensures) refl
 
 pub is-reached-spec : {M : Type 1} → statement M
 is-reached-spec =
