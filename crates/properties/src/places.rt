@@ -30,7 +30,7 @@ fn into_object(t: &[u8], at: usize) -> usize
     }
 }
 
-// The parts of the property at `at`; what is missing is empty.
+// The parts of the property at `at`; what is missing is empty. Of its name and its type the octets are told, and the place behind them is free.
 pub fn parts_of(t: &[u8], at: usize) -> Parts
     ensures { λ r. ⌜ PartsAt (now (t .entry)) at r ⌝ }
 {
