@@ -8,7 +8,7 @@ use Rattle.octets.specs.Basics.{all}
 use Rattle.octets.specs.Optional.{holds, given}
 use Rattle.octets.proofs.Cases.{never, both}
 use Rattle.json.specs.Tree.{Json, array?, listOf, elements, element}
-use Rattle.values.proofs.PlainValues.{holds-is}
+use Rattle.values.proofs.CleanValues.{holds-is}
 use Rattle.converter.specs.Tree.{levels, levelsIn, forestOf}
 use Rattle.converter.specs.Skeleton.{isListOf, isComponent, componentFrom}
 use Rattle.ical.proofs.Composed.{composed}
