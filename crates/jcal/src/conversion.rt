@@ -23,6 +23,7 @@ use octets::Converted;
 use octets::MOST_TEXT;
 use octets::Refusal;
 use octets::refuse;
+use types::ROOM_FOR_ROWS;
 use types::read_rows;
 
 // Converts lines that pair: tests 7, 8 and 9. Lines that are not in order are tested before they are written.
@@ -80,7 +81,7 @@ fn convert_short(text: &[u8], rows: &[u8], out: &mut [u8]) -> Converted
     requires { ⌜ length (now text) ≤ 4096 ⌝ }
     ensures { λ r. ⌜ outcome r (now (out .exit)) ≡ answer (toJcal (now (rows .entry)) (now (text .entry))) (now (out .entry)) ⌝ }
 {
-    let mut table = [0u8; 2240];
+    let mut table = [0u8; ROOM_FOR_ROWS];
     let mut buf = [0u8; 4097];
     convert(text, rows, &mut table, &mut buf, out)
 }
@@ -90,7 +91,7 @@ fn convert_long(text: &[u8], rows: &[u8], out: &mut [u8]) -> Converted
     requires { ⌜ length (now text) ≤ mostText ⌝ }
     ensures { λ r. ⌜ outcome r (now (out .exit)) ≡ answer (toJcal (now (rows .entry)) (now (text .entry))) (now (out .entry)) ⌝ }
 {
-    let mut table = [0u8; 2240];
+    let mut table = [0u8; ROOM_FOR_ROWS];
     let mut buf = [0u8; 65537];
     convert(text, rows, &mut table, &mut buf, out)
 }
