@@ -10,7 +10,7 @@ ghost use Rattle.stoplist.specs.Runs.{stopsOf, Begins, Laid};
 use crate::plans::conclude;
 use crate::plans::make_plan;
 use crate::runs::Run;
-use crate::runs::next;
+use crate::runs::advance;
 use calendar::dates::Date;
 use calendar::moments::Kind;
 use calendar::moments::Moment;
@@ -79,7 +79,7 @@ fn fill(list: &mut [Stop], first: Run) -> usize
     let mut run = first;
     while run.more {
         store(&mut *list, run.at, run.stop);
-        let after = next(run);
+        let after = advance(run);
         run = after;
     }
     run.at

@@ -86,7 +86,7 @@ pub fn run_at(at: usize, room: usize, stop: Stop, hours: u64, end: End) -> Run
 }
 
 // The run at the next moment.
-pub(crate) fn next(run: Run) -> Run
+fn next(run: Run) -> Run
     requires { ⌜ run .at < run .room ⌝ }
     ensures { λ r. ⌜ r ≡ nextRun run ⌝ }
 {

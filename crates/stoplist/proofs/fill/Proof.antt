@@ -1,7 +1,7 @@
 -- `stoplist::fill` meets its contract: a walk of its MIR, by hand. In each turn the slice is lent again to `store`, for a lifetime that is made for
--- the call, and comes back; `next` gives the run at the next stop. What the turns come to is `Going`.
--- All that the proof knows of `store` and `next` is that they meet their contracts.
-use mathlib.Core.Path.{_≡_, refl, sym, ap, subst}
+-- the call, and comes back; `advance` gives the run at the next stop. What the turns come to is `Going`.
+-- All that the proof knows of `store` and `advance` is that they meet their contracts.
+use mathlib.Core.Path.{_≡_, refl, sym, ap, _∙_, subst}
 use Prim.Native.Nat.{ℕ, _-_, _<_, _^_}
 use mathlib.Core.Bool.{Bool, true, false}
 use mathlib.Core.List.{[], _∷_, List}
@@ -47,9 +47,9 @@ use denote.Triple.Walked.{says, needs, Stays, stay-slice, stay-none, walkOf, goe
 use denote.Exit.{yes as kept}
 use Rattle.stoplist.specs.declared.Stop.{Stop}
 use Rattle.stoplist.specs.declared.runs.Run.{Run}
-use Rattle.stoplist.specs.Runs.{nextRun, stopsOf, Begins, Laid}
+use Rattle.stoplist.specs.Runs.{nextRun, advanced, stopsOf, Begins, Laid}
 use Rattle.stoplist.proofs.Again.{LentAgain, lends-again, comes-back}
-use Rattle.stoplist.proofs.Running.{next-at}
+use Rattle.stoplist.proofs.Running.{next-at, advances}
 use Rattle.stoplist.proofs.Filling.{Going, starts, at-place, goes-on, stops}
 use Rattle.stoplist.proofs.Stop as T
 use Rattle.stoplist.proofs.Stop.Laws as T′
@@ -59,10 +59,10 @@ use Rattle.stoplist.proofs.store as store′
 use Rattle.stoplist.proofs.store.Symbol as store-def
 use Rattle.stoplist.proofs.store.Symbol.{name as #stoplist·store}
 use Rattle.stoplist.proofs.store.Met as store-thm
-use Rattle.stoplist.proofs.runs.next as next′
-use Rattle.stoplist.proofs.runs.next.Symbol as next-def
-use Rattle.stoplist.proofs.runs.next.Symbol.{name as #stoplist·next}
-use Rattle.stoplist.proofs.runs.next.Met as next-thm
+use Rattle.stoplist.proofs.runs.advance as advance′
+use Rattle.stoplist.proofs.runs.advance.Symbol as advance-def
+use Rattle.stoplist.proofs.runs.advance.Symbol.{name as #stoplist·advance}
+use Rattle.stoplist.proofs.runs.advance.Met as advance-thm
 use Rattle.stoplist.proofs.fill.Key.{name as #stoplist·fill}
 use Rattle.stoplist.proofs.fill as fill
 use Rattle.stoplist.proofs.fill.Statement as stated
@@ -92,11 +92,11 @@ module _ {M : Type 1} (𝓤 : URA M) (H : Heap 𝓤) (A : Atoms 𝓤) (mem : Mem
   abbrev StoreC : Contract 𝓤
   StoreC = tripleOf 𝓤 H A store′.signature (store′.spec 𝓤 H A mem run)
 
-  abbrev NextC : Contract 𝓤
-  NextC = tripleOf 𝓤 H A next′.signature (next′.spec 𝓤 H A mem run)
+  abbrev AdvanceC : Contract 𝓤
+  AdvanceC = tripleOf 𝓤 H A advance′.signature (advance′.spec 𝓤 H A mem run)
 
-  next-of : (s r : Run) → ent 𝓤 (ensured 𝓤 H A next′.ended (next′.clauses 𝓤 H A mem run) tt (s, tt) tt r) (fact 𝓤 (r ≡ nextRun s))
-  next-of s r = exE 𝓤 _ (λ ws. snd∗ 𝓤 (sem 𝓤 H A (lasts next′.ended tt (s, tt) ws)) (fact 𝓤 (r ≡ nextRun s)))
+  advance-of : (s r : Run) → ent 𝓤 (ensured 𝓤 H A advance′.ended (advance′.clauses 𝓤 H A mem run) tt (s, tt) tt r) (fact 𝓤 (r ≡ advanced s))
+  advance-of s r = exE 𝓤 _ (λ ws. snd∗ 𝓤 (sem 𝓤 H A (lasts advance′.ended tt (s, tt) ws)) (fact 𝓤 (r ≡ advanced s)))
 
 module _ {M : Type 1} (𝓤 : URA M) (H : Heap 𝓤) (A : Atoms 𝓤) (W : Given 𝓤 H A) (mem : Memory → SProp 𝓤) (run : Routine → Fun 𝓤) (κ : Lft) (q : Share) (b o : ℕ) (γ : GName) (ys : List Stop) (f : Run)
     (room : Room R (length ys)) (f-is : Is S f (machS f ∷ [])) where
@@ -178,14 +178,14 @@ module _ {M : Type 1} (𝓤 : URA M) (H : Heap 𝓤) (A : Atoms 𝓤) (W : Given
         move ! (1 ∷ 0 ∷ []) $ fjoin ! $ done !
 
   module _ (s : Run) where
-    abbrev to-next : NextC 𝓤 H A mem run .Ghost
-    to-next = ((tt, tt, tt, (s, tt), (machS s ∷ [], tt)), tt)
+    abbrev to-advance : AdvanceC 𝓤 H A mem run .Ghost
+    to-advance = ((tt, tt, tt, (s, tt), (machS s ∷ [], tt)), tt)
 
-    goes-next : s .at < s .room → ent 𝓤 (sem 𝓤 H A (S .own s (machS s ∷ []))) (NextC 𝓤 H A mem run .pre to-next)
-    goes-next within =
-        qed W (‵ (S .own s (machS s ∷ [])) ∷ []) ∵ says ! within $ nothing ! $ frame ! $ nothing ! $ move ! (1 ∷ 0 ∷ []) $ fjoin ! $ done !
+    goes-advance : ent 𝓤 (sem 𝓤 H A (S .own s (machS s ∷ []))) (AdvanceC 𝓤 H A mem run .pre to-advance)
+    goes-advance =
+        qed W (‵ (S .own s (machS s ∷ [])) ∷ []) ∵ nothing ! $ move ! (1 ∷ 0 ∷ []) $ join ! $ nothing ! $ join ! $ frame ! $ done !
 
-  module _ (𝓣 : Tables 𝓤 H) (known-store : Triple 𝓤 (𝓣 .C #stoplist·store) (StoreC 𝓤 H A mem run)) (known-next : Triple 𝓤 (𝓣 .C #stoplist·next) (NextC 𝓤 H A mem run)) (l₀ l₁ l₂ l₃ l₄ l₅ l₆ l₇ l₈ : ℕ) where
+  module _ (𝓣 : Tables 𝓤 H) (known-store : Triple 𝓤 (𝓣 .C #stoplist·store) (StoreC 𝓤 H A mem run)) (known-advance : Triple 𝓤 (𝓣 .C #stoplist·advance) (AdvanceC 𝓤 H A mem run)) (l₀ l₁ l₂ l₃ l₄ l₅ l₆ l₇ l₈ : ℕ) where
     abbrev C : Calls 𝓤 H
     C = 𝓣 .C
 
@@ -237,12 +237,12 @@ module _ {M : Type 1} (𝓤 : URA M) (H : Heap 𝓤) (A : Atoms 𝓤) (W : Given
         move ! (1 ∷ []) $ split ! $ lft-end ! tt $ move ! (0 ∷ 5 ∷ 3 ∷ []) $
         use3 W (later (‵ (had (us .0)) ⊛ ‵ (flft κ q))) (back s zs s-is long ν δ (us .0) l) $ await ! tt $ split ! $ move ! (2 ∷ 3 ∷ 4 ∷ []) $ drop ! $ drop ! $ drop ! $
         rewrite ! 0 (λ (zs′ : List Stop). ‵ (had zs′)) e refl $
-        -- `next`
-        owned ! S (Is S) (LL.makes U.the-type U′.the-plain 𝓤 H A) s _ s-is $ use1 W (raw (NextC 𝓤 H A mem run .pre (to-next s))) (goes-next s (g .sound .fits is-more)) $
-        calls-at ! fm (NextC 𝓤 H A mem run) known-next (to-next s) (and-then ! (load ! (from ! (stop !)) (look ! 13 refl)) (no-more !)) (λ w′.
-        use1 W (later (some (λ (r′ : Run). (‵ ftrue ⊛ ‵ (S .own r′ (w′ ∷ []))) ⊛ raw (ensured 𝓤 H A next′.ended (next′.clauses 𝓤 H A mem run) tt (s, tt) tt r′)))) (id⊢ 𝓤 _) $ await ! tt $ pick ! (λ r′.
-        split ! $ move ! (1 ∷ []) $ use1 W (raw (fact 𝓤 (r′ ≡ nextRun s))) (next-of 𝓤 H A mem run s r′) $ heard ! (r′ ≡ nextRun s) (λ e′. split ! $ drop ! $
-        rewrite ! 0 (λ (h : Run). ‵ (S .own h (w′ ∷ []))) e′ refl $ peeks ! S (Is S) (shows 𝓤 H A S) (nextRun s) (w′ ∷ []) (λ is′.
+        -- `advance`
+        owned ! S (Is S) (LL.makes U.the-type U′.the-plain 𝓤 H A) s _ s-is $ use1 W (raw (AdvanceC 𝓤 H A mem run .pre (to-advance s))) (goes-advance s) $
+        calls-at ! fm (AdvanceC 𝓤 H A mem run) known-advance (to-advance s) (and-then ! (load ! (from ! (stop !)) (look ! 13 refl)) (no-more !)) (λ w′.
+        use1 W (later (some (λ (r′ : Run). (‵ ftrue ⊛ ‵ (S .own r′ (w′ ∷ []))) ⊛ raw (ensured 𝓤 H A advance′.ended (advance′.clauses 𝓤 H A mem run) tt (s, tt) tt r′)))) (id⊢ 𝓤 _) $ await ! tt $ pick ! (λ r′.
+        split ! $ move ! (1 ∷ []) $ use1 W (raw (fact 𝓤 (r′ ≡ advanced s))) (advance-of 𝓤 H A mem run s r′) $ heard ! (r′ ≡ advanced s) (λ e′. split ! $ drop ! $
+        rewrite ! 0 (λ (h : Run). ‵ (S .own h (w′ ∷ []))) (e′ ∙ advances s (g .sound) is-more) refl $ peeks ! S (Is S) (shows 𝓤 H A S) (nextRun s) (w′ ∷ []) (λ is′.
         let told = LL.tells U.the-type U′.the-laws (nextRun s) (w′ ∷ []) is′ in
         let next-is : Is S (nextRun s) (machS (nextRun s) ∷ []) = subst (λ (vs : List Val). Is S (nextRun s) vs) told is′ in
         land ! (from ! (stop !)) (init ! 11 refl (typed (nextRun s) w′ is′)) $
@@ -272,33 +272,33 @@ module _ {M : Type 1} (𝓤 : URA M) (H : Heap 𝓤) (A : Atoms 𝓤) (W : Given
         go true e = more u e
         go false e = ends u e
 
-  walk : (𝓣 : Tables 𝓤 H) → Triple 𝓤 (𝓣 .C #stoplist·store) (StoreC 𝓤 H A mem run) → Triple 𝓤 (𝓣 .C #stoplist·next) (NextC 𝓤 H A mem run) → Begins f (length ys)
+  walk : (𝓣 : Tables 𝓤 H) → Triple 𝓤 (𝓣 .C #stoplist·store) (StoreC 𝓤 H A mem run) → Triple 𝓤 (𝓣 .C #stoplist·advance) (AdvanceC 𝓤 H A mem run) → Begins f (length ys)
       → ent 𝓤 (onEntry 𝓤 H A fill.signature (κ, tt) (q, tt) a vals) (WpFn 𝓤 H (𝓣 .C) (𝓣 .Λ) code.function (sv ∷ machS f ∷ []) Post)
-  walk 𝓣 known-store known-next begins =
+  walk 𝓣 known-store known-advance begins =
       qed W ((‵ (flft κ q) ⊛ ‵ ftrue) ∷ ‵ (owns (MutSlice (named 0) κ R ∷ S ∷ []) a vals) ∷ []) ∵ enter ! (𝓣 .C) (𝓣 .Λ) code.function (sv ∷ machS f ∷ []) _ $
       alloc1 ! (λ l₀. alloc1 ! (λ l₁. alloc1 ! (λ l₂. alloc1 ! (λ l₃. alloc1 ! (λ l₄. alloc1 ! (λ l₅. alloc1 ! (λ l₆. alloc1 ! (λ l₇. alloc1 ! (λ l₈. alloc0 ! $ params1 ! $
       pass1 ! (init ! 14 refl (tt, (tt, (record { fits = room .0 }, tt)))) $ pass1 ! (init ! 12 refl (typed f _ f-is)) $ pass0 ! $
       assigns ! (of-opd ! (load ! (from ! (stop !)) (look ! 12 refl))) (from ! (stop !)) (init ! 10 refl (typed f _ f-is)) $
       move ! (19 ∷ []) $ fsplit ! $ move ! (20 ∷ []) $ split ! $
       keep ! (2 ∷ 0 ∷ 4 ∷ 5 ∷ 6 ∷ 7 ∷ 8 ∷ 9 ∷ 10 ∷ 11 ∷ 12 ∷ 13 ∷ 14 ∷ 15 ∷ 16 ∷ 17 ∷ 18 ∷ 19 ∷ 20 ∷ 21 ∷ 3 ∷ []) $
-      first ! $ blocks ! $ loops ! 𝓣 Nearer Nearer-wf (At 𝓣 known-store known-next l₀ l₁ l₂ l₃ l₄ l₅ l₆ l₇ l₈) (turns 𝓣 known-store known-next l₀ l₁ l₂ l₃ l₄ l₅ l₆ l₇ l₈)
+      first ! $ blocks ! $ loops ! 𝓣 Nearer Nearer-wf (At 𝓣 known-store known-advance l₀ l₁ l₂ l₃ l₄ l₅ l₆ l₇ l₈) (turns 𝓣 known-store known-advance l₀ l₁ l₂ l₃ l₄ l₅ l₆ l₇ l₈)
       (f, ys, f-is, starts f ys begins))))))))))
 
 module _ {M : Type 1} (𝓤 : URA M) (H : Heap 𝓤) (A : Atoms 𝓤) (W : Given 𝓤 H A) (mem : Memory → SProp 𝓤) (run : Routine → Fun 𝓤) where
-  fill-walks : (𝓣 : Tables 𝓤 H) → Triple 𝓤 (𝓣 .C #stoplist·store) (StoreC 𝓤 H A mem run) → Triple 𝓤 (𝓣 .C #stoplist·next) (NextC 𝓤 H A mem run)
+  fill-walks : (𝓣 : Tables 𝓤 H) → Triple 𝓤 (𝓣 .C #stoplist·store) (StoreC 𝓤 H A mem run) → Triple 𝓤 (𝓣 .C #stoplist·advance) (AdvanceC 𝓤 H A mem run)
       → Walks 𝓤 H A fill.ended stayed (WpFn 𝓤 H (𝓣 .C) (𝓣 .Λ) code.function) (fill.clauses 𝓤 H A mem run)
-  fill-walks 𝓣 known-store known-next = walked 𝓤 H A fill.ended stayed (fill.clauses 𝓤 H A mem run) (WpFn 𝓤 H (𝓣 .C) (𝓣 .Λ) code.function)
+  fill-walks 𝓣 known-store known-advance = walked 𝓤 H A fill.ended stayed (fill.clauses 𝓤 H A mem run) (WpFn 𝓤 H (𝓣 .C) (𝓣 .Λ) code.function)
       (λ κs. (slice-vals, (LL.vals U.the-type U′.the-laws, tt))) (λ κs. (mut-slice-tells (named 0) (κs .0) R, (LL.tells U.the-type U′.the-laws, tt)))
       (λ κs qs bounds a g are. needs 𝓤 (Begins (a .1 .0) (length (a .0 .now))) _
-      (walk 𝓤 H A W mem run (κs .0) (qs .0) (a .0 .ptr .0) (a .0 .ptr .1) (a .0 .name) (a .0 .now) (a .1 .0) (are .0 .0 .1) (are .1 .0) 𝓣 known-store known-next))
+      (walk 𝓤 H A W mem run (κs .0) (qs .0) (a .0 .ptr .0) (a .0 .ptr .1) (a .0 .name) (a .0 .now) (a .1 .0) (are .0 .0 .1) (are .1 .0) 𝓣 known-store known-advance))
 
 fill-meets : {M : Type 1} (𝓤 : URA M) (H : Heap 𝓤) (A : Atoms 𝓤) → Given 𝓤 H A → (mem : Memory → SProp 𝓤) (run : Routine → Fun 𝓤) (𝓣 : Tables 𝓤 H)
-    → Triple 𝓤 (𝓣 .C #stoplist·store) (StoreC 𝓤 H A mem run) → Triple 𝓤 (𝓣 .C #stoplist·next) (NextC 𝓤 H A mem run)
+    → Triple 𝓤 (𝓣 .C #stoplist·store) (StoreC 𝓤 H A mem run) → Triple 𝓤 (𝓣 .C #stoplist·advance) (AdvanceC 𝓤 H A mem run)
     → Meets 𝓤 H A fill.signature (WpFn 𝓤 H (𝓣 .C) (𝓣 .Λ) code.function) (fill.spec 𝓤 H A mem run)
-fill-meets 𝓤 H A W mem run 𝓣 known-store known-next =
+fill-meets 𝓤 H A W mem run 𝓣 known-store known-advance =
     walk-meets 𝓤 H A fill.ended stayed W
     (goes-slice 𝓤 H A W 1 0 tt (plain (λ _. R)), (goes-none 𝓤 H A W 1 (λ _. S) kept (λ κs x f. refl), tt))
-    (fill.clauses 𝓤 H A mem run) (WpFn 𝓤 H (𝓣 .C) (𝓣 .Λ) code.function) (WpFn-mono 𝓤 H (W .laws) 𝓣 code.function) (fill-walks 𝓤 H A W mem run 𝓣 known-store known-next)
+    (fill.clauses 𝓤 H A mem run) (WpFn 𝓤 H (𝓣 .C) (𝓣 .Λ) code.function) (WpFn-mono 𝓤 H (W .laws) 𝓣 code.function) (fill-walks 𝓤 H A W mem run 𝓣 known-store known-advance)
 
 pub fill-spec : {M : Type 1} → stated.statement M
 unfolding code.routine tablesOf
@@ -307,4 +307,4 @@ fill-spec 𝓤 H 𝓜 𝓖 𝓡 =
     (tables 𝓤 H 𝓜 𝓡 code.env .C) (tables 𝓤 H 𝓜 𝓡 code.env .Λ) #stoplist·fill code.function (code.unfolded 𝓤 H 𝓜 𝓡)
     (fill-meets 𝓤 H (𝓖 .A) (givenOf 𝓤 H 𝓜 𝓖) (𝓜 .mem) (𝓡 .run) (tablesOf 𝓤 H 𝓜 (tables 𝓤 H 𝓜 𝓡 code.env))
     (cited 𝓤 H (StoreC 𝓤 H (𝓖 .A) (𝓜 .mem) (𝓡 .run)) 𝓜 𝓡 code.env #stoplist·store store-def.routine code.calls-stoplist·store (store-thm.met 𝓤 H 𝓜 𝓖 𝓡))
-    (cited 𝓤 H (NextC 𝓤 H (𝓖 .A) (𝓜 .mem) (𝓡 .run)) 𝓜 𝓡 code.env #stoplist·next next-def.routine code.calls-stoplist·runs·next (next-thm.met 𝓤 H 𝓜 𝓖 𝓡)))
+    (cited 𝓤 H (AdvanceC 𝓤 H (𝓖 .A) (𝓜 .mem) (𝓡 .run)) 𝓜 𝓡 code.env #stoplist·advance advance-def.routine code.calls-stoplist·runs·advance (advance-thm.met 𝓤 H 𝓜 𝓖 𝓡)))
