@@ -79,8 +79,7 @@ fn fill(list: &mut [Stop], first: Run) -> usize
     let mut run = first;
     while run.more {
         store(&mut *list, run.at, run.stop);
-        let after = advance(run);
-        run = after;
+        run = advance(run);
     }
     run.at
 }

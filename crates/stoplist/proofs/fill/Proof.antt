@@ -23,7 +23,7 @@ use ghost.Atoms.{Atoms, sem}
 use contract.Monad.{Fun, fact}
 use contract.Running.{givenOf, tables, tablesOf}
 use types.Kit.{Given, Item, ‵, raw, some, later, _⊛_, ⋆, runs, anyQ, atRet, Sq, _$_, _∵_, !, qed, by, move, keep, drop, use1, use2, use3, split, join, pick, rewrite, fsplit, fjoin, feqL, suffices, frame, await, done}
-use types.Run.{look, init, store, forget, stop, hop, fld, from, load, addr, of-opd, and-then, no-more, assigns, assigns-last, first, blocks, stays, leaves-loop, land, returns, enter, alloc1, alloc0, params1, pass1, pass0, free1, free0, exec, Below, again, loops}
+use types.Run.{look, init, store, forget, stop, hop, fld, from, load, addr, of-opd, and-then, no-more, assigns, first, blocks, stays, leaves-loop, land, land-last, returns, enter, alloc1, alloc0, params1, pass1, pass0, free1, free0, exec, Below, again, loops}
 use types.Part.{agg, whole, sub, look-in}
 use types.Tokens.{lft-new, lft-end}
 use sound.WpLaws.{FmC, fmOf, WpFn-mono}
@@ -40,7 +40,7 @@ use denote.Struct.Laws as LL
 use denote.Triple.Entry.{onEntry}
 use denote.Triple.Spec.{Meets, tripleOf}
 use denote.Triple.Statement.{Contract, Triple}
-use denote.Triple.Call.{calls-at}
+use denote.Triple.Call.{calls-at, calls-at-last}
 use denote.Triple.Clauses.{ensured, lasts}
 use denote.Triple.Table.{entered, cited}
 use denote.Triple.Walked.{says, needs, Stays, stay-slice, stay-none, walkOf, goes-slice, goes-none, Walks, ends-at, walked, walk-meets}
@@ -185,7 +185,7 @@ module _ {M : Type 1} (𝓤 : URA M) (H : Heap 𝓤) (A : Atoms 𝓤) (W : Given
     goes-advance =
         qed W (‵ (S .own s (machS s ∷ [])) ∷ []) ∵ nothing ! $ move ! (1 ∷ 0 ∷ []) $ join ! $ nothing ! $ join ! $ frame ! $ done !
 
-  module _ (𝓣 : Tables 𝓤 H) (known-store : Triple 𝓤 (𝓣 .C #stoplist·store) (StoreC 𝓤 H A mem run)) (known-advance : Triple 𝓤 (𝓣 .C #stoplist·advance) (AdvanceC 𝓤 H A mem run)) (l₀ l₁ l₂ l₃ l₄ l₅ l₆ l₇ l₈ : ℕ) where
+  module _ (𝓣 : Tables 𝓤 H) (known-store : Triple 𝓤 (𝓣 .C #stoplist·store) (StoreC 𝓤 H A mem run)) (known-advance : Triple 𝓤 (𝓣 .C #stoplist·advance) (AdvanceC 𝓤 H A mem run)) (l₀ l₁ l₂ l₃ l₄ l₅ l₆ l₇ : ℕ) where
     abbrev C : Calls 𝓤 H
     C = 𝓣 .C
 
@@ -199,13 +199,13 @@ module _ {M : Type 1} (𝓤 : URA M) (H : Heap 𝓤) (A : Atoms 𝓤) (W : Given
     slice = sliceTy (tyRef (named 0) mut (pointee (R .written)))
 
     abbrev En : Env 𝓤 H
-    En = (tyInt w64, l₀) ∷ (slice, l₁) ∷ (U′.mir, l₂) ∷ (U′.mir, l₃) ∷ (U′.mir, l₄) ∷ (tyBool, l₅) ∷ (tyUnit, l₆) ∷ (ref, l₇) ∷ (sliceTy ref, l₈) ∷ []
+    En = (tyInt w64, l₀) ∷ (slice, l₁) ∷ (U′.mir, l₂) ∷ (U′.mir, l₃) ∷ (tyBool, l₄) ∷ (tyUnit, l₅) ∷ (ref, l₆) ∷ (sliceTy ref, l₇) ∷ []
 
-    -- [list; the token; _8; …; _7; …; _6; …; _5; …; _4; …; _3; …; _2; …; _1; …; _0; …; what the other parameter owns]
+    -- [list; the token; _7; …; _6; …; _5; …; _4; …; _3; …; _2; …; _1; …; _0; …; what the other parameter owns]
     abbrev At : X → List (Item 𝓤)
     At u =
-        ‵ (had (u .1)) ∷ ‵ (flft κ q) ∷ ‵ (froom (sliceTy ref) l₈ 0) ∷ ‵ (fdies (sliceTy ref) l₈) ∷ ‵ (froom ref l₇ 0) ∷ ‵ (fdies ref l₇) ∷ ‵ (froom tyUnit l₆ 0) ∷ ‵ (fdies tyUnit l₆)
-        ∷ ‵ (froom tyBool l₅ 0) ∷ ‵ (fdies tyBool l₅) ∷ ‵ (froom U′.mir l₄ 0) ∷ ‵ (fdies U′.mir l₄) ∷ ‵ (fat fullShare U′.mir l₃ 0 (machS (u .0))) ∷ ‵ (fdies U′.mir l₃)
+        ‵ (had (u .1)) ∷ ‵ (flft κ q) ∷ ‵ (froom (sliceTy ref) l₇ 0) ∷ ‵ (fdies (sliceTy ref) l₇) ∷ ‵ (froom ref l₆ 0) ∷ ‵ (fdies ref l₆) ∷ ‵ (froom tyUnit l₅ 0) ∷ ‵ (fdies tyUnit l₅)
+        ∷ ‵ (froom tyBool l₄ 0) ∷ ‵ (fdies tyBool l₄) ∷ ‵ (fat fullShare U′.mir l₃ 0 (machS (u .0))) ∷ ‵ (fdies U′.mir l₃)
         ∷ ‵ (fat fullShare U′.mir l₂ 0 (machS f)) ∷ ‵ (fdies U′.mir l₂) ∷ ‵ (fat fullShare slice l₁ 0 sv) ∷ ‵ (fdies slice l₁) ∷ ‵ (froom (tyInt w64) l₀ 0) ∷ ‵ (fdies (tyInt w64) l₀) ∷ ‵ others ∷ []
 
     abbrev Turned : X → Out → SProp 𝓤
@@ -219,16 +219,16 @@ module _ {M : Type 1} (𝓤 : URA M) (H : Heap 𝓤) (A : Atoms 𝓤) (W : Given
         let s-is = u .2 in
         let g = u .3 in
         let long = g .long in
-        assigns ! (of-opd ! (load ! (from ! (fld ! refl (stop !))) (look-in ! 12 (sub ! 0 refl (whole !))))) (from ! (stop !)) (init ! 8 refl (tt, tt)) $
-        rewrite ! 8 (λ (t : Bool). ‵ (fat fullShare tyBool l₅ 0 (vbool t))) is-more refl $
+        assigns ! (of-opd ! (load ! (from ! (fld ! refl (stop !))) (look-in ! 10 (sub ! 0 refl (whole !))))) (from ! (stop !)) (init ! 8 refl (tt, tt)) $
+        rewrite ! 8 (λ (t : Bool). ‵ (fat fullShare tyBool l₄ 0 (vbool t))) is-more refl $
         stays ! (load ! (from ! (stop !)) (look ! 8 refl)) $
-        assigns ! (addr ! (from ! (fld ! refl (hop ! (look-in ! 16 (sub ! 0 refl (whole !))) (stop !))))) (from ! (stop !)) (init ! 4 refl (tt, tt)) $
-        assigns ! (agg ! (and-then ! (load ! (from ! (stop !)) (look ! 4 refl)) (and-then ! (load ! (from ! (fld ! refl (stop !))) (look-in ! 16 (sub ! 1 refl (whole !)))) (no-more !)))) (from ! (stop !)) (init ! 2 refl (tt, (tt, (record { fits = room .0 }, tt)))) $
+        assigns ! (addr ! (from ! (fld ! refl (hop ! (look-in ! 14 (sub ! 0 refl (whole !))) (stop !))))) (from ! (stop !)) (init ! 4 refl (tt, tt)) $
+        assigns ! (agg ! (and-then ! (load ! (from ! (stop !)) (look ! 4 refl)) (and-then ! (load ! (from ! (fld ! refl (stop !))) (look-in ! 14 (sub ! 1 refl (whole !)))) (no-more !)))) (from ! (stop !)) (init ! 2 refl (tt, (tt, (record { fits = room .0 }, tt)))) $
         -- `store`: the slice is lent again for a lifetime ν of the call
         lft-new ! tt (λ ν. move ! (1 ∷ 2 ∷ []) $
         use2 W (later (some (λ (δ : GName). ‵ (MutSlice (named 0) (ν ∷ []) R .own (x δ zs) (sv ∷ [])) ⊛ ‵ (LentAgain R κ (ν ∷ []) q γ b o δ zs)))) (lend s zs s-is long ν) $ await ! tt $ pick ! (λ δ. split ! $
         move ! (2 ∷ 0 ∷ []) $ use2 W (raw (StoreC 𝓤 H A mem run .pre (to-store s zs s-is long ν δ))) (goes-store s zs s-is long ν δ (at-place f ys s zs g is-more)) $
-        calls-at ! fm (StoreC 𝓤 H A mem run) known-store (to-store s zs s-is long ν δ) (and-then ! (load ! (from ! (stop !)) (look ! 2 refl)) (and-then ! (load ! (from ! (fld ! refl (stop !))) (look-in ! 12 (sub ! 1 refl (whole !)))) (and-then ! (load ! (from ! (fld ! refl (stop !))) (look-in ! 12 (sub ! 3 refl (whole !)))) (no-more !)))) (λ w.
+        calls-at ! fm (StoreC 𝓤 H A mem run) known-store (to-store s zs s-is long ν δ) (and-then ! (load ! (from ! (stop !)) (look ! 2 refl)) (and-then ! (load ! (from ! (fld ! refl (stop !))) (look-in ! 10 (sub ! 1 refl (whole !)))) (and-then ! (load ! (from ! (fld ! refl (stop !))) (look-in ! 10 (sub ! 3 refl (whole !)))) (no-more !)))) (λ w.
         use1 W (later (some (λ (r : Unit {0}). ((‵ (flft (ν ∷ []) fullShare) ⊛ ‵ ftrue) ⊛ ‵ (unit .own r (w ∷ []))) ⊛ raw (ensured 𝓤 H A store′.ended (store′.clauses 𝓤 H A mem run) (ν ∷ [], tt) (x δ zs, (s .at, (s .stop, tt))) tt r)))) (id⊢ 𝓤 _) $ await ! tt $ pick ! (λ r.
         split ! $ move ! (1 ∷ []) $ use1 W (some (λ (us : List Stop × (Unit {0} × (Unit {0} × Unit {0}))). ‵ (lasts store′.ended (ν ∷ [], tt) (x δ zs, (s .at, (s .stop, tt))) us) ⊛ raw (fact 𝓤 (us .0 ≡ set zs (s .at) (s .stop))))) (id⊢ 𝓤 _) $ pick ! (λ us.
         split ! $ move ! (1 ∷ []) $ heard ! (us .0 ≡ set zs (s .at) (s .stop)) (λ e. fsplit ! $ fsplit ! $ move ! (1 ∷ []) $ feqL ! (λ l.
@@ -239,16 +239,15 @@ module _ {M : Type 1} (𝓤 : URA M) (H : Heap 𝓤) (A : Atoms 𝓤) (W : Given
         rewrite ! 0 (λ (zs′ : List Stop). ‵ (had zs′)) e refl $
         -- `advance`
         owned ! S (Is S) (LL.makes U.the-type U′.the-plain 𝓤 H A) s _ s-is $ use1 W (raw (AdvanceC 𝓤 H A mem run .pre (to-advance s))) (goes-advance s) $
-        calls-at ! fm (AdvanceC 𝓤 H A mem run) known-advance (to-advance s) (and-then ! (load ! (from ! (stop !)) (look ! 13 refl)) (no-more !)) (λ w′.
+        calls-at-last ! fm (AdvanceC 𝓤 H A mem run) known-advance (to-advance s) (and-then ! (load ! (from ! (stop !)) (look ! 11 refl)) (no-more !)) (λ w′.
         use1 W (later (some (λ (r′ : Run). (‵ ftrue ⊛ ‵ (S .own r′ (w′ ∷ []))) ⊛ raw (ensured 𝓤 H A advance′.ended (advance′.clauses 𝓤 H A mem run) tt (s, tt) tt r′)))) (id⊢ 𝓤 _) $ await ! tt $ pick ! (λ r′.
         split ! $ move ! (1 ∷ []) $ use1 W (raw (fact 𝓤 (r′ ≡ advanced s))) (advance-of 𝓤 H A mem run s r′) $ heard ! (r′ ≡ advanced s) (λ e′. split ! $ drop ! $
         rewrite ! 0 (λ (h : Run). ‵ (S .own h (w′ ∷ []))) (e′ ∙ advances s (g .sound) is-more) refl $ peeks ! S (Is S) (shows 𝓤 H A S) (nextRun s) (w′ ∷ []) (λ is′.
         let told = LL.tells U.the-type U′.the-laws (nextRun s) (w′ ∷ []) is′ in
         let next-is : Is S (nextRun s) (machS (nextRun s) ∷ []) = subst (λ (vs : List Val). Is S (nextRun s) vs) told is′ in
-        land ! (from ! (stop !)) (init ! 11 refl (typed (nextRun s) w′ is′)) $
-        rewrite ! 11 (λ (v : Val). ‵ (fat fullShare U′.mir l₄ 0 v)) (ap only told) refl $ drop ! $
-        assigns-last ! (of-opd ! (load ! (from ! (stop !)) (look ! 10 refl))) (from ! (stop !)) (store ! 12 refl (typed (nextRun s) _ next-is)) $
-        forget ! 2 refl $ forget ! 4 refl $ forget ! 6 refl $ forget ! 8 refl $ forget ! 10 refl $
+        land-last ! (from ! (stop !)) (store ! 11 refl (typed (nextRun s) w′ is′)) $
+        rewrite ! 11 (λ (v : Val). ‵ (fat fullShare U′.mir l₃ 0 v)) (ap only told) refl $ drop ! $
+        forget ! 2 refl $ forget ! 4 refl $ forget ! 6 refl $ forget ! 8 refl $
         again ! Nearer At u (nextRun s, set zs (s .at) (s .stop), next-is, goes-on f ys s zs g is-more) (nearer s zs g is-more)))))))))))))
 
     ends : (u : X) → u .0 .more ≡ false → Sq W (At u) (runs C Λ En code.Mir.turn-1 (anyQ (Turned u)))
@@ -256,13 +255,13 @@ module _ {M : Type 1} (𝓤 : URA M) (H : Heap 𝓤) (A : Atoms 𝓤) (W : Given
     ends u no-more′ =
         let s = u .0 in
         let n-fits = at-fits s (u .2) in
-        assigns ! (of-opd ! (load ! (from ! (fld ! refl (stop !))) (look-in ! 12 (sub ! 0 refl (whole !))))) (from ! (stop !)) (init ! 8 refl (tt, tt)) $
-        rewrite ! 8 (λ (t : Bool). ‵ (fat fullShare tyBool l₅ 0 (vbool t))) no-more′ refl $
+        assigns ! (of-opd ! (load ! (from ! (fld ! refl (stop !))) (look-in ! 10 (sub ! 0 refl (whole !))))) (from ! (stop !)) (init ! 8 refl (tt, tt)) $
+        rewrite ! 8 (λ (t : Bool). ‵ (fat fullShare tyBool l₄ 0 (vbool t))) no-more′ refl $
         leaves-loop ! (load ! (from ! (stop !)) (look ! 8 refl)) $ exec ! C Λ En code.Mir.t-3 (atRet En Post) $
-        assigns ! (of-opd ! (load ! (from ! (fld ! refl (stop !))) (look-in ! 12 (sub ! 1 refl (whole !))))) (from ! (stop !)) (init ! 18 refl (tt, record { fits = n-fits })) $
-        returns ! (look ! 18 refl) $ forget ! 8 refl $ forget ! 12 refl $ forget ! 14 refl $ forget ! 16 refl $ forget ! 18 refl $
-        move ! (18 ∷ 19 ∷ []) $ free1 ! $ move ! (16 ∷ 17 ∷ []) $ free1 ! $ move ! (14 ∷ 15 ∷ []) $ free1 ! $ move ! (12 ∷ 13 ∷ []) $ free1 ! $
-        move ! (10 ∷ 11 ∷ []) $ free1 ! $ move ! (8 ∷ 9 ∷ []) $ free1 ! $ move ! (6 ∷ 7 ∷ []) $ free1 ! $ move ! (4 ∷ 5 ∷ []) $ free1 ! $ move ! (2 ∷ 3 ∷ []) $ free1 ! $ free0 ! $
+        assigns ! (of-opd ! (load ! (from ! (fld ! refl (stop !))) (look-in ! 10 (sub ! 1 refl (whole !))))) (from ! (stop !)) (init ! 16 refl (tt, record { fits = n-fits })) $
+        returns ! (look ! 16 refl) $ forget ! 8 refl $ forget ! 10 refl $ forget ! 12 refl $ forget ! 14 refl $ forget ! 16 refl $
+        move ! (16 ∷ 17 ∷ []) $ free1 ! $ move ! (14 ∷ 15 ∷ []) $ free1 ! $ move ! (12 ∷ 13 ∷ []) $ free1 ! $ move ! (10 ∷ 11 ∷ []) $ free1 ! $
+        move ! (8 ∷ 9 ∷ []) $ free1 ! $ move ! (6 ∷ 7 ∷ []) $ free1 ! $ move ! (4 ∷ 5 ∷ []) $ free1 ! $ move ! (2 ∷ 3 ∷ []) $ free1 ! $ free0 ! $
         by ! (exits (u .1) (s .at) n-fits (u .3 .long) (stops f ys s (u .1) (u .3) no-more′))
 
     turns : (u : X) → Sq W (At u) (runs C Λ En code.Mir.turn-1 (anyQ (Turned u)))
@@ -276,13 +275,13 @@ module _ {M : Type 1} (𝓤 : URA M) (H : Heap 𝓤) (A : Atoms 𝓤) (W : Given
       → ent 𝓤 (onEntry 𝓤 H A fill.signature (κ, tt) (q, tt) a vals) (WpFn 𝓤 H (𝓣 .C) (𝓣 .Λ) code.function (sv ∷ machS f ∷ []) Post)
   walk 𝓣 known-store known-advance begins =
       qed W ((‵ (flft κ q) ⊛ ‵ ftrue) ∷ ‵ (owns (MutSlice (named 0) κ R ∷ S ∷ []) a vals) ∷ []) ∵ enter ! (𝓣 .C) (𝓣 .Λ) code.function (sv ∷ machS f ∷ []) _ $
-      alloc1 ! (λ l₀. alloc1 ! (λ l₁. alloc1 ! (λ l₂. alloc1 ! (λ l₃. alloc1 ! (λ l₄. alloc1 ! (λ l₅. alloc1 ! (λ l₆. alloc1 ! (λ l₇. alloc1 ! (λ l₈. alloc0 ! $ params1 ! $
-      pass1 ! (init ! 14 refl (tt, (tt, (record { fits = room .0 }, tt)))) $ pass1 ! (init ! 12 refl (typed f _ f-is)) $ pass0 ! $
-      assigns ! (of-opd ! (load ! (from ! (stop !)) (look ! 12 refl))) (from ! (stop !)) (init ! 10 refl (typed f _ f-is)) $
-      move ! (19 ∷ []) $ fsplit ! $ move ! (20 ∷ []) $ split ! $
-      keep ! (2 ∷ 0 ∷ 4 ∷ 5 ∷ 6 ∷ 7 ∷ 8 ∷ 9 ∷ 10 ∷ 11 ∷ 12 ∷ 13 ∷ 14 ∷ 15 ∷ 16 ∷ 17 ∷ 18 ∷ 19 ∷ 20 ∷ 21 ∷ 3 ∷ []) $
-      first ! $ blocks ! $ loops ! 𝓣 Nearer Nearer-wf (At 𝓣 known-store known-advance l₀ l₁ l₂ l₃ l₄ l₅ l₆ l₇ l₈) (turns 𝓣 known-store known-advance l₀ l₁ l₂ l₃ l₄ l₅ l₆ l₇ l₈)
-      (f, ys, f-is, starts f ys begins))))))))))
+      alloc1 ! (λ l₀. alloc1 ! (λ l₁. alloc1 ! (λ l₂. alloc1 ! (λ l₃. alloc1 ! (λ l₄. alloc1 ! (λ l₅. alloc1 ! (λ l₆. alloc1 ! (λ l₇. alloc0 ! $ params1 ! $
+      pass1 ! (init ! 12 refl (tt, (tt, (record { fits = room .0 }, tt)))) $ pass1 ! (init ! 10 refl (typed f _ f-is)) $ pass0 ! $
+      assigns ! (of-opd ! (load ! (from ! (stop !)) (look ! 10 refl))) (from ! (stop !)) (init ! 8 refl (typed f _ f-is)) $
+      move ! (17 ∷ []) $ fsplit ! $ move ! (18 ∷ []) $ split ! $
+      keep ! (2 ∷ 0 ∷ 4 ∷ 5 ∷ 6 ∷ 7 ∷ 8 ∷ 9 ∷ 10 ∷ 11 ∷ 12 ∷ 13 ∷ 14 ∷ 15 ∷ 16 ∷ 17 ∷ 18 ∷ 19 ∷ 3 ∷ []) $
+      first ! $ blocks ! $ loops ! 𝓣 Nearer Nearer-wf (At 𝓣 known-store known-advance l₀ l₁ l₂ l₃ l₄ l₅ l₆ l₇) (turns 𝓣 known-store known-advance l₀ l₁ l₂ l₃ l₄ l₅ l₆ l₇)
+      (f, ys, f-is, starts f ys begins)))))))))
 
 module _ {M : Type 1} (𝓤 : URA M) (H : Heap 𝓤) (A : Atoms 𝓤) (W : Given 𝓤 H A) (mem : Memory → SProp 𝓤) (run : Routine → Fun 𝓤) where
   fill-walks : (𝓣 : Tables 𝓤 H) → Triple 𝓤 (𝓣 .C #stoplist·store) (StoreC 𝓤 H A mem run) → Triple 𝓤 (𝓣 .C #stoplist·advance) (AdvanceC 𝓤 H A mem run)
