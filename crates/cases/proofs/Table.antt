@@ -23,7 +23,7 @@ use Rattle.converter.specs.ToIcal.{toIcal}
 use Rattle.converter.specs.Claim.{excepted, those, older, newer, Agree}
 use Rattle.converter.proofs.Routes.{writes-once}
 use Rattle.converter.proofs.Demand3.{tables-agree}
-use Rattle.cases.specs.Cases.{calendar, jcal, none, added, trough, unlisted, listed, stated, AllHold}
+use Rattle.cases.specs.Cases.{calendar, jcal, none, added, sent, unlisted, listed, stated, AllHold}
 use Rattle.cases.specs.Ages.{grown, read, Ages}
 
 -- the older's reading of X-TROUGH
@@ -33,9 +33,9 @@ unread = component (octets "vcalendar") (property (octets "x-trough") [] (octets
 record Computed : Type 0 where
   old : tableOf none ≡ accepted defaults
   new : tableOf added ≡ accepted grown
-  reads : reading added (calendar trough) ≡ accepted read
-  older-reads : reading none (calendar trough) ≡ accepted unread
-  excepts : those (excepted defaults grown) (map lineOf (linesOf (calendar trough))) ≡ lineOf trough ∷ []
+  reads : reading added (calendar sent) ≡ accepted read
+  older-reads : reading none (calendar sent) ≡ accepted unread
+  excepts : those (excepted defaults grown) (map lineOf (linesOf (calendar sent))) ≡ lineOf sent ∷ []
   newer-text : print (jcalOf read) ≡ jcal listed
   older-text : print (jcalOf unread) ≡ jcal unlisted
   short : leb (length (jcal listed)) mostText ≡ true
@@ -56,8 +56,8 @@ all-hold = computed .0
 keeps : Keeps defaults grown
 keeps e m = Memᴰ·append-left _ m
 
-agree : Agree none added defaults grown (calendar trough) read
-agree = tables-agree none added defaults grown (computed .1 .old) (computed .1 .new) keeps (calendar trough) read (computed .1 .reads)
+agree : Agree none added defaults grown (calendar sent) read
+agree = tables-agree none added defaults grown (computed .1 .old) (computed .1 .new) keeps (calendar sent) read (computed .1 .reads)
 
 newer-has : agree .jcal newer ≡ jcal listed
 newer-has = agree .printed newer ∙ computed .1 .newer-text

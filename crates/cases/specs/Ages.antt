@@ -13,7 +13,7 @@ use Rattle.content.specs.Lines.{linesOf}
 use Rattle.converter.specs.Tree.{property, Component, component, leaf}
 use Rattle.converter.specs.ToJcal.{reading}
 use Rattle.converter.specs.Claim.{excepted, those, older, newer, Agree}
-use Rattle.cases.specs.Cases.{calendar, jcal, none, added, trough, unlisted, listed, stated}
+use Rattle.cases.specs.Cases.{calendar, jcal, none, added, sent, unlisted, listed, stated}
 
 -- the newer's table: the default types, which are the older's, and X-TROUGH as a date-time, many values
 abbrev pub grown : Table
@@ -28,10 +28,10 @@ pub record Ages : Type 0 where
   pub old : tableOf none ≡ accepted defaults
   pub new : tableOf added ≡ accepted grown
   pub keeps : Keeps defaults grown
-  pub reads : reading added (calendar trough) ≡ accepted read
+  pub reads : reading added (calendar sent) ≡ accepted read
   -- what it says: one line is excepted, the two texts are those of the cases, and what the newer wrote comes back from the older with its type
-  pub agree : Agree none added defaults grown (calendar trough) read
-  pub excepts : those (excepted defaults grown) (map lineOf (linesOf (calendar trough))) ≡ lineOf trough ∷ []
+  pub agree : Agree none added defaults grown (calendar sent) read
+  pub excepts : those (excepted defaults grown) (map lineOf (linesOf (calendar sent))) ≡ lineOf sent ∷ []
   pub newer-has : agree .jcal newer ≡ jcal listed
   pub older-has : agree .jcal older ≡ jcal unlisted
   pub comes-back : agree .again newer older ≡ calendar stated

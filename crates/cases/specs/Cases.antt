@@ -38,9 +38,9 @@ none = []
 abbrev pub added : List ℕ
 added = octets "0501582D54524F554748\n"
 
--- its line, and its property in jCal without the row and with it
-abbrev pub trough : List ℕ
-trough = octets "X-TROUGH:20240229T060000Z"
+-- its line as it is sent, and its property in jCal without the row and with it
+abbrev pub sent : List ℕ
+sent = octets "X-TROUGH:20240229T060000Z"
 
 abbrev pub unlisted : List ℕ
 unlisted = octets "[\"x-trough\",{},\"unknown\",\"20240229T060000Z\"]"
@@ -67,8 +67,8 @@ cases =
     ∷ prints (octets "20240228T180000\nFREQ=HOURLY;INTERVAL=12;COUNT=4\n10\n")
     (octets "stops 4\n1 2024-02-28T18:00:00\n2 2024-02-29T06:00:00\n3 2024-02-29T18:00:00\n4 2024-03-01T06:00:00\n")
     ∷ prints (octets "20240229\nFREQ=DAILY;INTERVAL=366\n2\n") (octets "stops 2\n1 2024-02-29\n2 2025-03-01\n")
-    ∷ holds none trough unlisted
-    ∷ holds added trough listed
+    ∷ holds none sent unlisted
+    ∷ holds added sent listed
     ∷ returns none listed stated
     ∷ pairs none (octets "BEGIN:VCALENDAR\r\nEND:VCALENDAR\r\n") (octets "[\"vcalendar\",[],[]]")
     ∷ []
