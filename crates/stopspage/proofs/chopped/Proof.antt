@@ -9,24 +9,6 @@ use Rattle.stopspage.proofs.Cutting.{chop-none, chop-return, chop-other
 use Rattle.stopspage.proofs.chopped.Statement.{statement}
 use Rattle.stopspage.proofs.chopped.Tie as tie
 
-returns : tie.Need-returns
-returns c = chop-none _ (c .if1 .taken)
-
-sub-last : tie.Need-sub-last
-sub-last c = search needs
-
-shared-slice-read-if2 : tie.Need-shared-slice-read-if2
-shared-slice-read-if2 c = search needs
-
-sub-result : tie.Need-sub-result
-sub-result c = search needs
-
-part-result-start : tie.Need-part-result-start
-part-result-start c = search needs
-
-part-result-end : tie.Need-part-result-end
-part-result-end c = search needs
-
 returns-2 : tie.Need-returns-2
 returns-2 c =
     let args = c .before .before .before .before .args in
@@ -41,11 +23,11 @@ pub chopped-spec : {M : Type 1} → statement M
 chopped-spec =
     tie.close
     (tie.spec
-    returns
-    sub-last
-    shared-slice-read-if2
-    sub-result
-    part-result-start
-    part-result-end
+    (λ c. chop-none _ (c .if1 .taken))
+    (λ c. search needs)
+    (λ c. search needs)
+    (λ c. search needs)
+    (λ c. search needs)
+    (λ c. search needs)
     returns-2
     returns-3)

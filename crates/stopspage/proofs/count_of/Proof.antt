@@ -9,20 +9,15 @@ use Rattle.stopspage.proofs.count_of.Tie as tie
 returns : tie.Need-returns
 returns c = none-ahead _ (not-true _ (c .if1 .taken))
 
-allowed-requires : tie.Need-allowed-requires
-allowed-requires c κs = search needs
-
-is-reached-requires : tie.Need-is-reached-requires
-is-reached-requires c κs = search needs
-
 returns-2 : tie.Need-returns-2
 returns-2 c = counted _ _ (c .before .before .before .before .before .before .pre) (not-false _ (c .before .before .before .before .if1 .left)) (c .before .before .allowed .ensures) (sym (c .before .is-reached .ensures) ∙ c .if2 .taken)
-
-walked-requires : tie.Need-walked-requires
-walked-requires c κs = search needs
 
 returns-3 : tie.Need-returns-3
 returns-3 c = walked-all _ _ (c .before .before .before .before .before .before .before .pre) (c .walked .ensures)
 
 pub count-of-spec : {M : Type 1} → statement M
-count-of-spec = tie.close (tie.spec returns allowed-requires is-reached-requires returns-2 walked-requires returns-3)
+count-of-spec =
+    tie.close
+    (tie.spec
+    returns (λ c κs. search needs) (λ c κs. search needs) returns-2 (λ c κs. search needs)
+    returns-3)

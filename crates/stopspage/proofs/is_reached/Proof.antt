@@ -8,33 +8,8 @@ use borrow.Author.Needs.{needs}
 use Rattle.stopspage.proofs.is_reached.Statement.{statement}
 use Rattle.stopspage.proofs.is_reached.Tie as tie
 
-returns : tie.Need-returns
-unfolding reached
-returns c = rw (c .if1 .taken)
-
-returns-2 : tie.Need-returns-2
-returns-2 c = too-many _ _ _ (c .if2 .taken)
-
-returns-3 : tie.Need-returns-3
-returns-3 c = too-far _ _ _ (c .if3 .taken)
-
-sub-last : tie.Need-sub-last
-sub-last c = search needs
-
 mul-moved : tie.Need-mul-moved
 mul-moved c = let p = product-fits (c .before .before .before .args .n - 1) (c .before .before .before .args .hours) (omega arith) (omega arith) in omega (arith, p)
-
-moved-requires : tie.Need-moved-requires
-moved-requires c κs = search needs
-
-enum-told : tie.Need-enum-told
-enum-told c = search needs
-
-enum-told-2 : tie.Need-enum-told-2
-enum-told-2 c = search needs
-
-enum-told-3 : tie.Need-enum-told-3
-enum-told-3 c = search needs
 
 returns-4 : tie.Need-returns-4
 returns-4 c = is-there _ _ _ _ (c .before .before .before .before .before .if1 .left) (c .before .before .before .before .if2 .left) (c .before .before .before .if3 .left) (sym (c .enum-told .given .1) ∙ c .before .before .moved .ensures) refl
@@ -49,15 +24,15 @@ pub is-reached-spec : {M : Type 1} → statement M
 is-reached-spec =
     tie.close
     (tie.spec
-    returns
-    returns-2
-    returns-3
-    sub-last
+    (λ c. unfold reached in rw (c .if1 .taken))
+    (λ c. too-many _ _ _ (c .if2 .taken))
+    (λ c. too-far _ _ _ (c .if3 .taken))
+    (λ c. search needs)
     mul-moved
-    moved-requires
-    enum-told
-    enum-told-2
-    enum-told-3
+    (λ c κs. search needs)
+    (λ c. search needs)
+    (λ c. search needs)
+    (λ c. search needs)
     returns-4
     returns-5
     returns-6)

@@ -7,22 +7,13 @@ use Rattle.stopspage.proofs.Numbers.{no-digits, zeros, too-many, is-mos
 use Rattle.stopspage.proofs.most_of.Statement.{statement}
 use Rattle.stopspage.proofs.most_of.Tie as tie
 
-all-digits-requires : tie.Need-all-digits-requires
-all-digits-requires c κs = search needs
-
 returns : tie.Need-returns
 returns c = no-digits _ (sym (c .before .all-digits .ensures) ∙ not-true _ (c .if1 .taken))
-
-leading-zeros-requires : tie.Need-leading-zeros-requires
-leading-zeros-requires c κs = search needs
 
 returns-2 : tie.Need-returns-2
 returns-2 c =
     let all-digits = c .before .before .before .all-digits in
     zeros _ (sym (all-digits .ensures) ∙ not-false _ (c .before .before .if1 .left)) _ (c .before .leading-zeros .ensures .0) (c .before .leading-zeros .ensures .1) (c .if2 .taken)
-
-value-of-requires : tie.Need-value-of-requires
-value-of-requires c κs = search needs
 
 returns-3 : tie.Need-returns-3
 returns-3 c =
@@ -42,10 +33,10 @@ pub most-of-spec : {M : Type 1} → statement M
 most-of-spec =
     tie.close
     (tie.spec
-    all-digits-requires
+    (λ c κs. search needs)
     returns
-    leading-zeros-requires
+    (λ c κs. search needs)
     returns-2
-    value-of-requires
+    (λ c κs. search needs)
     returns-3
     returns-4)

@@ -17,9 +17,6 @@ Inv-loop out₀ at n list to₀ i₀ out to i = (i ≤ n) × (length out ≡ len
 abbrev μ-loop : tie.MeasureT-loop
 μ-loop out₀ at n list to₀ i₀ out to i = n - i
 
-loop-holds : tie.Need-loop-holds Inv-loop μ-loop
-loop-holds c = (omega arith, refl, leads-start)
-
 loop-again : tie.Need-loop-again Inv-loop μ-loop
 loop-again c =
     let loop = c .before .before .before .before .before .before .loop in
@@ -38,7 +35,7 @@ put-list-spec =
     (tie.spec
     Inv-loop
     μ-loop
-    loop-holds
+    (λ c. (omega arith, refl, leads-start))
     (λ c. search needs)
     (λ c. search needs)
     (λ c. search needs)

@@ -18,17 +18,8 @@ Inv-loop out₀ at to₀ run₀ out to run = Sound run × (length out ≡ length
 abbrev μ-loop : tie.MeasureT-loop
 μ-loop out₀ at to₀ run₀ out to run = length (stopsOf run)
 
-loop-holds : tie.Need-loop-holds Inv-loop μ-loop
-loop-holds c = (c .before .pre, refl, leads-start)
-
 add-put-stop : tie.Need-add-put-stop Inv-loop μ-loop
 add-put-stop c = let f = c .before .before .before .loop .inv .0 .fits (c .before .before .loop-test .taken) in omega arith
-
-put-stop-requires : tie.Need-put-stop-requires Inv-loop μ-loop
-put-stop-requires c κs = search needs
-
-advance-requires : tie.Need-advance-requires Inv-loop μ-loop
-advance-requires c κs = search needs
 
 loop-less : tie.Need-loop-less Inv-loop μ-loop
 loop-less c = let l = on-length _ _ (c .before .before .before .before .before .before .before .loop .inv .0) (c .before .before .before .before .before .before .loop-test .taken) (c .advance .ensures) in omega (arith, l)
@@ -40,9 +31,6 @@ loop-again c = (
   leads-on (c .before .before .before .before .before .before .before .loop .inv .2) (c .before .before .before .put-stop .ensures) (on-shown _ _ (c .before .before .before .before .before .before .before .loop .inv .0) (c .before .before .before .before .before .before .loop-test .taken) (c .advance .ensures)),
 )
 
-same-length : tie.Need-same-length Inv-loop μ-loop
-same-length c = search needs
-
 returns : tie.Need-returns Inv-loop μ-loop
 returns c = leads-end (c .before .loop .inv .2) (end-shown _ _ (c .loop-test .left))
 
@@ -52,11 +40,11 @@ put-stops-spec =
     (tie.spec
     Inv-loop
     μ-loop
-    loop-holds
+    (λ c. (c .before .pre, refl, leads-start))
     add-put-stop
-    put-stop-requires
-    advance-requires
+    (λ c κs. search needs)
+    (λ c κs. search needs)
     loop-less
     loop-again
-    same-length
+    (λ c. search needs)
     returns)

@@ -15,12 +15,6 @@ Inv-loop run₀ run = Sound run × (run .at + length (stopsOf run) ≡ run₀ .a
 abbrev μ-loop : tie.MeasureT-loop
 μ-loop run₀ run = length (stopsOf run)
 
-loop-holds : tie.Need-loop-holds Inv-loop μ-loop
-loop-holds c = (c .pre, refl)
-
-advance-requires : tie.Need-advance-requires Inv-loop μ-loop
-advance-requires c κs = search needs
-
 loop-less : tie.Need-loop-less Inv-loop μ-loop
 loop-less c = let l = on-length _ _ (c .before .before .loop .inv .0) (c .before .loop-test .taken) (c .advance .ensures) in omega arith
 
@@ -32,4 +26,4 @@ returns c = end-at _ (c .loop-test .left) ∙ c .before .loop .inv .1
 
 pub walked-spec : {M : Type 1} → statement M
 walked-spec =
-    tie.close (tie.spec Inv-loop μ-loop loop-holds advance-requires loop-less loop-again returns)
+    tie.close (tie.spec Inv-loop μ-loop (λ c. (c .pre, refl)) (λ c κs. search needs) loop-less loop-again returns)

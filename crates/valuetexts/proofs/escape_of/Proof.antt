@@ -4,22 +4,6 @@ use Rattle.json.specs.Print.{escaped}
 use Rattle.valuetexts.proofs.escape_of.Statement.{statement}
 use Rattle.valuetexts.proofs.escape_of.Tie as tie
 
-returns : tie.Need-returns
-unfolding escaped
-returns c = rw (c .match .keys1)
-
-returns-2 : tie.Need-returns-2
-unfolding escaped
-returns-2 c = rw (c .match .keys2)
-
-returns-3 : tie.Need-returns-3
-unfolding escaped
-returns-3 c = rw (c .match .keys3)
-
-returns-4 : tie.Need-returns-4
-unfolding escaped
-returns-4 c = rw (c .match .keys4)
-
 returns-5 : tie.Need-returns-5
 unfolding escaped
 returns-5 c = rw (ne-eqb _ 34 (c .match .rest .0 .0 .0 .1), ne-eqb _ 92 (c .match .rest .0 .0 .1), ne-eqb _ 10 (c .match .rest .0 .1), ne-eqb _ 9 (c .match .rest .1))
@@ -28,8 +12,8 @@ pub escape-of-spec : {M : Type 1} → statement M
 escape-of-spec =
     tie.close
     (tie.spec
-    returns
-    returns-2
-    returns-3
-    returns-4
+    (λ c. unfold escaped in rw (c .match .keys1))
+    (λ c. unfold escaped in rw (c .match .keys2))
+    (λ c. unfold escaped in rw (c .match .keys3))
+    (λ c. unfold escaped in rw (c .match .keys4))
     returns-5)

@@ -16,9 +16,6 @@ Inv-loop s at i₀ i = Passed runOctet s at i
 abbrev μ-loop : tie.MeasureT-loop
 μ-loop s at i₀ i = length s - i
 
-loop-holds : tie.Need-loop-holds Inv-loop μ-loop
-loop-holds c = passed-none (c .before .pre)
-
 returns : tie.Need-returns Inv-loop μ-loop
 returns c = run-over (c .before .before .before .before .loop .inv) (sym (c .before .is-run-octet .ensures) ∙ not-true _ (c .if1 .taken))
 
@@ -34,7 +31,7 @@ past-octets-spec =
     (tie.spec
     Inv-loop
     μ-loop
-    loop-holds
+    (λ c. passed-none (c .before .pre))
     (λ c. search needs)
     (λ c κs. search needs)
     returns

@@ -18,9 +18,6 @@ Inv-loop s at n i₀ i = Passed runOctet s at i
 abbrev μ-loop : tie.MeasureT-loop
 μ-loop s at n i₀ i = length s - i
 
-loop-holds : tie.Need-loop-holds Inv-loop μ-loop
-loop-holds c = passed-none (c .before .pre)
-
 returns : tie.Need-returns Inv-loop μ-loop
 returns c = run-on (c .before .before .before .loop .inv) (c .past-octets .ensures)
 
@@ -39,7 +36,7 @@ past-run-spec =
     (tie.spec
     Inv-loop
     μ-loop
-    loop-holds
+    (λ c. passed-none (c .before .pre))
     (λ c. search needs)
     (λ c κs. search needs)
     returns

@@ -24,9 +24,6 @@ passed c = plainly-run _ (c .before .before .before .before .before .before .loo
 inside : (c : tie.Else1 Inv-loop μ-loop) → c .before .before .before .before .before .before .past-run .result < length (c .before .before .before .before .before .before .before .before .before .before .before .before .before .before .args .s .now)
 inside c = omega (arith, c .before .before .before .before .before .before .past-run .ensures .below, c .if1 .left)
 
-loop-holds : tie.Need-loop-holds Inv-loop μ-loop
-loop-holds c = (omega arith, refl, plainly-start _)
-
 returns : tie.Need-returns Inv-loop μ-loop
 returns c = plainly-end _ (passed (c .before .before .before .before .before)) (c .before .before .before .before .before .before .before .before .before .before .before .before .before .before .put .ensures) (omega (arith, c .before .before .before .before .if1 .taken)) (c .before .before .put2 .ensures)
 
@@ -43,7 +40,7 @@ put-tested-plain-spec =
     Inv-loop
     μ-loop
     (λ c κs. search needs)
-    loop-holds
+    (λ c. (omega arith, refl, plainly-start _))
     (λ c κs. search needs)
     (λ c. search needs)
     (λ c. search needs)

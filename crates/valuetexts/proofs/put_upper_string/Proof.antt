@@ -18,9 +18,6 @@ Inv-loop out₀ at s p₀ i₀ out p i = (i ≤ length s) × (length out ≡ len
 abbrev μ-loop : tie.MeasureT-loop
 μ-loop out₀ at s p₀ i₀ out p i = length s - i
 
-loop-holds : tie.Need-loop-holds Inv-loop μ-loop
-loop-holds c = (omega arith, refl, leads-start)
-
 loop-again : tie.Need-loop-again Inv-loop μ-loop
 loop-again c = (omega arith, omega arith, leads-on (c .before .before .before .before .before .before .before .loop .inv .2) (c .before .before .put-escaped .ensures) (rw (c .before .before .before .upper-octet .ensures) (upper-on _ _ (c .before .before .before .before .before .before .loop-test .taken))))
 
@@ -35,7 +32,7 @@ put-upper-string-spec =
     Inv-loop
     μ-loop
     (λ c κs. search needs)
-    loop-holds
+    (λ c. (omega arith, refl, leads-start))
     (λ c. search needs)
     (λ c κs. search needs)
     (λ c κs. search needs)

@@ -25,9 +25,6 @@ returns-4 c =
     simp
     (last-year, le-leb _ _ (c .before .before .before .if1 .left), le-leb _ _ (c .before .before .if2 .left), le-leb _ _ (c .before .if3 .left), lt-leb _ _ (c .if4 .taken))
 
-month-days-requires : tie.Need-month-days-requires
-month-days-requires c κs = search needs
-
 returns-5 : tie.Need-returns-5
 unfolding isDay between
 returns-5 c =
@@ -43,4 +40,4 @@ returns-5 c =
 pub is-day-spec : {M : Type 1} → statement M
 is-day-spec =
     tie.close
-    (tie.spec returns returns-2 returns-3 returns-4 month-days-requires returns-5)
+    (tie.spec returns returns-2 returns-3 returns-4 (λ c κs. search needs) returns-5)

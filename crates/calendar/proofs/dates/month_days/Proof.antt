@@ -5,24 +5,15 @@ use Rattle.calendar.proofs.Days.{leap-small, february, other-month}
 use Rattle.calendar.proofs.dates.month_days.Statement.{statement}
 use Rattle.calendar.proofs.dates.month_days.Tie as tie
 
-leap-day-requires : tie.Need-leap-day-requires
-leap-day-requires c κs = search needs
-
 add-result : tie.Need-add-result
 add-result c = omega (arith, leap-small (c .before .before .args .y), c .leap-day .ensures)
 
 returns : tie.Need-returns
 returns c = rw (c .leap-day .ensures, c .before .if1 .taken) (february (c .before .before .args .y))
 
-add-result-2 : tie.Need-add-result-2
-add-result-2 c = search needs
-
-add-result-3 : tie.Need-add-result-3
-add-result-3 c = search needs
-
 returns-2 : tie.Need-returns-2
 returns-2 c = other-month (c .before .args .y) (c .before .args .m) (c .before .pre .0) (c .before .pre .1) (c .if1 .left)
 
 pub month-days-spec : {M : Type 1} → statement M
 month-days-spec =
-    tie.close (tie.spec leap-day-requires add-result returns add-result-2 add-result-3 returns-2)
+    tie.close (tie.spec (λ c κs. search needs) add-result returns (λ c. search needs) (λ c. search needs) returns-2)

@@ -14,23 +14,8 @@ Inv-loop s p₀ i₀ p i = Passing s p i
 abbrev μ-loop : tie.MeasureT-loop
 μ-loop s p₀ i₀ p i = length s - i
 
-loop-holds : tie.Need-loop-holds Inv-loop μ-loop
-loop-holds c = sets-out _
-
-shared-slice-read-upper-octet : tie.Need-shared-slice-read-upper-octet Inv-loop μ-loop
-shared-slice-read-upper-octet c = search needs
-
-upper-octet-requires : tie.Need-upper-octet-requires Inv-loop μ-loop
-upper-octet-requires c κs = search needs
-
 next-requires : tie.Need-next-requires Inv-loop μ-loop
 next-requires c κs = (c .before .before .before .loop .inv .low, c .before .before .before .loop .inv .high)
-
-add-i : tie.Need-add-i Inv-loop μ-loop
-add-i c = search needs
-
-loop-less : tie.Need-loop-less Inv-loop μ-loop
-loop-less c = search needs
 
 loop-again : tie.Need-loop-again Inv-loop μ-loop
 loop-again c = passes _ _ _ _ _ (c .before .before .before .loop-test .taken) (c .before .before .before .before .loop .inv) (c .before .upper-octet .ensures) (c .next .ensures)
@@ -48,12 +33,12 @@ is-duration-spec =
     (tie.spec
     Inv-loop
     μ-loop
-    loop-holds
-    shared-slice-read-upper-octet
-    upper-octet-requires
+    (λ c. sets-out _)
+    (λ c. search needs)
+    (λ c κs. search needs)
     next-requires
-    add-i
-    loop-less
+    (λ c. search needs)
+    (λ c. search needs)
     loop-again
     may-end-requires
     returns)

@@ -5,15 +5,9 @@ use Rattle.calendar.specs.Durations.{periodEndIs}
 use Rattle.calendar.proofs.durations.is_extended_period_end.Statement.{statement}
 use Rattle.calendar.proofs.durations.is_extended_period_end.Tie as tie
 
-is-extended-requires : tie.Need-is-extended-requires
-is-extended-requires c κs = search needs
-
 returns : tie.Need-returns
 unfolding periodEndIs
 returns c = rw (sym (c .before .is-extended .ensures) ∙ c .if1 .taken)
-
-is-forward-requires : tie.Need-is-forward-requires
-is-forward-requires c κs = search needs
 
 returns-2 : tie.Need-returns-2
 unfolding periodEndIs
@@ -21,4 +15,4 @@ returns-2 c = rw (sym (c .before .before .is-extended .ensures) ∙ c .before .i
 
 pub is-extended-period-end-spec : {M : Type 1} → statement M
 is-extended-period-end-spec =
-    tie.close (tie.spec is-extended-requires returns is-forward-requires returns-2)
+    tie.close (tie.spec (λ c κs. search needs) returns (λ c κs. search needs) returns-2)

@@ -9,17 +9,8 @@ use Rattle.calendar.proofs.items.are_weekday.Tie as tie
 returns : tie.Need-returns
 returns c = rw (c .before .match .keys1) (c .is-either .ensures ∙ sym (behind-s _))
 
-returns-2 : tie.Need-returns-2
-returns-2 c = rw (c .match .keys2) (sym (behind-m _))
-
 returns-3 : tie.Need-returns-3
 returns-3 c = rw (c .before .match .keys3) (c .is-either2 .ensures ∙ sym (behind-t _))
-
-returns-4 : tie.Need-returns-4
-returns-4 c = rw (c .match .keys4) (sym (behind-w _))
-
-returns-5 : tie.Need-returns-5
-returns-5 c = rw (c .match .keys5) (sym (behind-f _))
 
 returns-6 : tie.Need-returns-6
 returns-6 c = sym (behind-other _ _ (ne-eqb _ 83 (c .match .rest .0 .0 .0 .0 .1)) (ne-eqb _ 77 (c .match .rest .0 .0 .0 .1)) (ne-eqb _ 84 (c .match .rest .0 .0 .1)) (ne-eqb _ 87 (c .match .rest .0 .1)) (ne-eqb _ 70 (c .match .rest .1)))
@@ -31,8 +22,8 @@ are-weekday-spec =
     (λ c κs. search needs)
     (λ c κs. search needs)
     returns
-    returns-2
+    (λ c. rw (c .match .keys2) (sym (behind-m _)))
     returns-3
-    returns-4
-    returns-5
+    (λ c. rw (c .match .keys4) (sym (behind-w _)))
+    (λ c. rw (c .match .keys5) (sym (behind-f _)))
     returns-6)

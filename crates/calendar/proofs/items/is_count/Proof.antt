@@ -5,9 +5,6 @@ use Rattle.calendar.proofs.Standing.{count-stands}
 use Rattle.calendar.proofs.items.is_count.Statement.{statement}
 use Rattle.calendar.proofs.items.is_count.Tie as tie
 
-is-within-requires : tie.Need-is-within-requires
-is-within-requires c κs = search needs
-
 returns : tie.Need-returns
 returns c = c .is-within .ensures ∙ sym (count-stands (c .before .before .args .s .now))
 
@@ -15,5 +12,5 @@ pub is-count-spec : {M : Type 1} → statement M
 is-count-spec =
     tie.close
     (tie.spec
-    is-within-requires
+    (λ c κs. search needs)
     returns)

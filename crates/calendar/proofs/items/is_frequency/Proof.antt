@@ -6,9 +6,6 @@ use Rattle.calendar.proofs.Standing.{frequency-stands}
 use Rattle.calendar.proofs.items.is_frequency.Statement.{statement}
 use Rattle.calendar.proofs.items.is_frequency.Tie as tie
 
-frequency-place-requires : tie.Need-frequency-place-requires
-frequency-place-requires c κs = search needs
-
 returns : tie.Need-returns
 returns c = rw (c .frequency-place .ensures) (sym (frequency-stands (upper (c .before .before .args .s .now))))
 
@@ -16,5 +13,5 @@ pub is-frequency-spec : {M : Type 1} → statement M
 is-frequency-spec =
     tie.close
     (tie.spec
-    frequency-place-requires
+    (λ c κs. search needs)
     returns)

@@ -6,33 +6,15 @@ use Rattle.calendar.proofs.Standing.{sign-wrong, figures-many, figures-
 use Rattle.calendar.proofs.items.is_number.Statement.{statement}
 use Rattle.calendar.proofs.items.is_number.Tie as tie
 
-sign-stands-requires : tie.Need-sign-stands-requires
-sign-stands-requires c κs = search needs
-
 returns : tie.Need-returns
 returns c =
     let b = c .before .before .before .args .b in
     sym (sign-wrong (b .signed) (b .most) (b .lo) (b .hi) (c .before .before .before .args .s .now) (sym (c .before .sign-stands .ensures) ∙ not-true (c .before .sign-stands .result) (c .if1 .taken)))
 
-sign-length-requires : tie.Need-sign-length-requires
-sign-length-requires c κs = search needs
-
-sub-figures : tie.Need-sub-figures
-sub-figures c = search needs
-
-part-figures-start : tie.Need-part-figures-start
-part-figures-start c = search needs
-
-part-figures-end : tie.Need-part-figures-end
-part-figures-end c = search needs
-
 returns-2 : tie.Need-returns-2
 returns-2 c =
     let b = c .before .before .before .before .before .before .before .args .b in
     sym (figures-many (b .signed) (b .most) (b .lo) (b .hi) (c .before .before .before .before .before .before .before .args .s .now) (c .before .before .before .sign-length .result) (c .before .before .before .sign-length .ensures .1) (c .if2 .taken))
-
-is-within-requires : tie.Need-is-within-requires
-is-within-requires c κs = search needs
 
 returns-3 : tie.Need-returns-3
 returns-3 c =
@@ -43,12 +25,12 @@ pub is-number-spec : {M : Type 1} → statement M
 is-number-spec =
     tie.close
     (tie.spec
-    sign-stands-requires
+    (λ c κs. search needs)
     returns
-    sign-length-requires
-    sub-figures
-    part-figures-start
-    part-figures-end
+    (λ c κs. search needs)
+    (λ c. search needs)
+    (λ c. search needs)
+    (λ c. search needs)
     returns-2
-    is-within-requires
+    (λ c κs. search needs)
     returns-3)

@@ -7,15 +7,6 @@ use Rattle.calendar.proofs.Standing.{until-stands}
 use Rattle.calendar.proofs.items.is_until.Statement.{statement}
 use Rattle.calendar.proofs.items.is_until.Tie as tie
 
-read-moment-requires : tie.Need-read-moment-requires
-read-moment-requires c κs = search needs
-
-enum-told : tie.Need-enum-told
-enum-told c = search needs
-
-enum-told-2 : tie.Need-enum-told-2
-enum-told-2 c = search needs
-
 returns : tie.Need-returns
 unfolding isSome
 returns c = ap isSome (ap momentSaid (sym (c .enum-told .given .1)) ∙ c .before .before .read-moment .ensures) ∙ sym (until-stands (c .before .before .before .before .args .s .now))
@@ -28,8 +19,8 @@ pub is-until-spec : {M : Type 1} → statement M
 is-until-spec =
     tie.close
     (tie.spec
-    read-moment-requires
-    enum-told
-    enum-told-2
+    (λ c κs. search needs)
+    (λ c. search needs)
+    (λ c. search needs)
     returns
     returns-2)

@@ -7,14 +7,8 @@ use Rattle.calendar.proofs.Standing.{capped-bounds, too-low, high-enoug
 use Rattle.calendar.proofs.items.is_within.Statement.{statement}
 use Rattle.calendar.proofs.items.is_within.Tie as tie
 
-all-digits-requires : tie.Need-all-digits-requires
-all-digits-requires c κs = search needs
-
 returns : tie.Need-returns
 returns c = rw (sym (c .before .all-digits .ensures) ∙ not-true (c .before .all-digits .result) (c .if1 .taken))
-
-value-of-requires : tie.Need-value-of-requires
-value-of-requires c κs = search needs
 
 returns-2 : tie.Need-returns-2
 returns-2 c = rw (sym (c .before .before .before .all-digits .ensures) ∙ not-false (c .before .before .before .all-digits .result) (c .before .before .if1 .left), ← (capped-bounds (c .before .before .before .before .before .args .lo) (c .before .before .before .before .before .args .hi) (valueOf (c .before .before .before .before .before .args .s .now))), ← (c .before .value-of .ensures)) (sym (too-low (c .before .before .before .before .before .args .lo) (c .before .before .before .before .before .args .hi) (c .before .value-of .result) (c .if2 .taken)))
@@ -26,8 +20,8 @@ pub is-within-spec : {M : Type 1} → statement M
 is-within-spec =
     tie.close
     (tie.spec
-    all-digits-requires
+    (λ c κs. search needs)
     returns
-    value-of-requires
+    (λ c κs. search needs)
     returns-2
     returns-3)

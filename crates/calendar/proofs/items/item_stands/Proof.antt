@@ -5,42 +5,6 @@ use Rattle.calendar.specs.Walk.{sortSaid}
 use Rattle.calendar.proofs.items.item_stands.Statement.{statement}
 use Rattle.calendar.proofs.items.item_stands.Tie as tie
 
-enum-told : tie.Need-enum-told
-enum-told c = search needs
-
-is-frequency-requires : tie.Need-is-frequency-requires
-is-frequency-requires c κs = search needs
-
-enum-told-2 : tie.Need-enum-told-2
-enum-told-2 c = search needs
-
-is-until-requires : tie.Need-is-until-requires
-is-until-requires c κs = search needs
-
-enum-told-3 : tie.Need-enum-told-3
-enum-told-3 c = search needs
-
-is-count-requires : tie.Need-is-count-requires
-is-count-requires c κs = search needs
-
-enum-told-4 : tie.Need-enum-told-4
-enum-told-4 c = search needs
-
-is-weekday-requires : tie.Need-is-weekday-requires
-is-weekday-requires c κs = search needs
-
-enum-told-5 : tie.Need-enum-told-5
-enum-told-5 c = search needs
-
-is-ordinal-requires : tie.Need-is-ordinal-requires
-is-ordinal-requires c κs = search needs
-
-enum-known-sort : tie.Need-enum-known-sort
-enum-known-sort c = search needs
-
-is-number-requires : tie.Need-is-number-requires
-is-number-requires c κs = search needs
-
 returns : tie.Need-returns
 unfolding sortSaid itemOf
 returns c = rw (c .before .enum-told .given .1) (c .is-frequency .ensures)
@@ -69,18 +33,18 @@ pub item-stands-spec : {M : Type 1} → statement M
 item-stands-spec =
     tie.close
     (tie.spec
-    enum-told
-    is-frequency-requires
-    enum-told-2
-    is-until-requires
-    enum-told-3
-    is-count-requires
-    enum-told-4
-    is-weekday-requires
-    enum-told-5
-    is-ordinal-requires
-    enum-known-sort
-    is-number-requires
+    (λ c. search needs)
+    (λ c κs. search needs)
+    (λ c. search needs)
+    (λ c κs. search needs)
+    (λ c. search needs)
+    (λ c κs. search needs)
+    (λ c. search needs)
+    (λ c κs. search needs)
+    (λ c. search needs)
+    (λ c κs. search needs)
+    (λ c. search needs)
+    (λ c κs. search needs)
     returns
     returns-2
     returns-3

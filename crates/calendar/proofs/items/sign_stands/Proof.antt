@@ -4,15 +4,6 @@ use Rattle.octets.specs.Decimal.{hasSign}
 use Rattle.calendar.proofs.items.sign_stands.Statement.{statement}
 use Rattle.calendar.proofs.items.sign_stands.Tie as tie
 
-peek-requires : tie.Need-peek-requires
-peek-requires c κs = search needs
-
-is-sign-requires : tie.Need-is-sign-requires
-is-sign-requires c κs = search needs
-
-returns : tie.Need-returns
-returns c = rw (c .if1 .taken)
-
 returns-2 : tie.Need-returns-2
 unfolding hasSign
 returns-2 c = rw (c .before .before .if1 .left, c .is-sign .ensures, c .before .peek .ensures)
@@ -21,7 +12,7 @@ pub sign-stands-spec : {M : Type 1} → statement M
 sign-stands-spec =
     tie.close
     (tie.spec
-    peek-requires
-    is-sign-requires
-    returns
+    (λ c κs. search needs)
+    (λ c κs. search needs)
+    (λ c. rw (c .if1 .taken))
     returns-2)

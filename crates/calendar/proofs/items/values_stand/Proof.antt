@@ -18,37 +18,10 @@ Inv-loop sort v many at₀ at = (at ≤ length v) × (valuesStand (sortSaid sort
 abbrev μ-loop : tie.MeasureT-loop
 μ-loop sort v many at₀ at = length v - at
 
-has-several-requires : tie.Need-has-several-requires Inv-loop μ-loop
-has-several-requires c κs = search needs
-
-loop-holds : tie.Need-loop-holds Inv-loop μ-loop
-loop-holds c = (omega arith, refl)
-
-sub-rest : tie.Need-sub-rest Inv-loop μ-loop
-sub-rest c = search needs
-
-part-rest-start : tie.Need-part-rest-start Inv-loop μ-loop
-part-rest-start c = search needs
-
-part-rest-end : tie.Need-part-rest-end Inv-loop μ-loop
-part-rest-end c = search needs
-
-find-requires : tie.Need-find-requires Inv-loop μ-loop
-find-requires c κs = search needs
-
-sub-item-stands : tie.Need-sub-item-stands Inv-loop μ-loop
-sub-item-stands c = search needs
-
-part-item-stands-start : tie.Need-part-item-stands-start Inv-loop μ-loop
-part-item-stands-start c = search needs
-
 part-item-stands-end : tie.Need-part-item-stands-end Inv-loop μ-loop
 part-item-stands-end c =
     let e = scanned-le 44 (c .before .before .before .before .before .args .v .now) (c .before .before .loop .at) (c .find .result) (c .find .ensures) in
     rw (length-take, length-drop) (omega arith)
-
-item-stands-requires : tie.Need-item-stands-requires Inv-loop μ-loop
-item-stands-requires c κs = search needs
 
 returns : tie.Need-returns Inv-loop μ-loop
 returns c =
@@ -92,16 +65,16 @@ values-stand-spec =
     (tie.spec
     Inv-loop
     μ-loop
-    has-several-requires
-    loop-holds
-    sub-rest
-    part-rest-start
-    part-rest-end
-    find-requires
-    sub-item-stands
-    part-item-stands-start
+    (λ c κs. search needs)
+    (λ c. (omega arith, refl))
+    (λ c. search needs)
+    (λ c. search needs)
+    (λ c. search needs)
+    (λ c κs. search needs)
+    (λ c. search needs)
+    (λ c. search needs)
     part-item-stands-end
-    item-stands-requires
+    (λ c κs. search needs)
     returns
     returns-2
     returns-3

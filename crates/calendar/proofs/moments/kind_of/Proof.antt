@@ -4,10 +4,6 @@ use Rattle.calendar.specs.Moments.{kindOf}
 use Rattle.calendar.proofs.moments.kind_of.Statement.{statement}
 use Rattle.calendar.proofs.moments.kind_of.Tie as tie
 
-returns : tie.Need-returns
-unfolding kindOf
-returns c = rw (le-leb _ _ (c .if1 .taken))
-
 returns-2 : tie.Need-returns-2
 unfolding kindOf
 returns-2 c = rw (lt-leb _ _ (c .before .if1 .left), le-leb _ _ (c .if2 .taken))
@@ -17,4 +13,4 @@ unfolding kindOf
 returns-3 c = rw (lt-leb _ _ (c .before .if1 .left), lt-leb _ _ (c .if2 .left))
 
 pub kind-of-spec : {M : Type 1} → statement M
-kind-of-spec = tie.close (tie.spec returns returns-2 returns-3)
+kind-of-spec = tie.close (tie.spec (λ c. unfold kindOf in rw (le-leb _ _ (c .if1 .taken))) returns-2 returns-3)

@@ -9,24 +9,12 @@ use Rattle.calendar.proofs.Fixed.{says-some, says-none}
 use Rattle.calendar.proofs.moments.read_moment.Statement.{statement}
 use Rattle.calendar.proofs.moments.read_moment.Tie as tie
 
-extended-moment-requires : tie.Need-extended-moment-requires
-extended-moment-requires c κs = search needs
-
 returns : tie.Need-returns
 unfolding readMoment map?
 returns c = rw (sym (c .before .before .extended-moment .ensures .text) ∙ says-none _ (c .if1 .taken))
 
-sub-moment-from : tie.Need-sub-moment-from
-sub-moment-from c = search needs
-
-part-moment-from-start : tie.Need-part-moment-from-start
-part-moment-from-start c = search needs
-
 part-moment-from-end : tie.Need-part-moment-from-end
 part-moment-from-end c = c .before .before .before .extended-moment .ensures .room
-
-moment-from-requires : tie.Need-moment-from-requires
-moment-from-requires c κs = search needs
 
 returns-2 : tie.Need-returns-2
 unfolding readMoment map?
@@ -36,10 +24,10 @@ pub read-moment-spec : {M : Type 1} → statement M
 read-moment-spec =
     tie.close
     (tie.spec
-    extended-moment-requires
+    (λ c κs. search needs)
     returns
-    sub-moment-from
-    part-moment-from-start
+    (λ c. search needs)
+    (λ c. search needs)
     part-moment-from-end
-    moment-from-requires
+    (λ c κs. search needs)
     returns-2)

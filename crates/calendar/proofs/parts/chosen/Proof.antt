@@ -4,9 +4,6 @@ use borrow.Author.Needs.{needs}
 use Rattle.calendar.proofs.parts.chosen.Statement.{statement}
 use Rattle.calendar.proofs.parts.chosen.Tie as tie
 
-same-name-requires : tie.Need-same-name-requires
-same-name-requires c κs = search needs
-
 returns : tie.Need-returns
 returns c = rw (sym (c .before .same-name .ensures) ∙ c .if1 .taken)
 
@@ -14,4 +11,4 @@ returns-2 : tie.Need-returns-2
 returns-2 c = rw (sym (c .before .same-name .ensures) ∙ c .if1 .left)
 
 pub chosen-spec : {M : Type 1} → statement M
-chosen-spec = tie.close (tie.spec same-name-requires returns returns-2)
+chosen-spec = tie.close (tie.spec (λ c κs. search needs) returns returns-2)

@@ -4,12 +4,8 @@ use Rattle.calendar.specs.Walk.{sortSaid}
 use Rattle.calendar.proofs.parts.numbers.Statement.{statement}
 use Rattle.calendar.proofs.parts.numbers.Tie as tie
 
-returns : tie.Need-returns
-unfolding sortSaid
-returns c = refl
-
 pub numbers-spec : {M : Type 1} → statement M
 numbers-spec =
     tie.close
     (tie.spec
-    returns)
+    (λ c. unfold sortSaid in refl))

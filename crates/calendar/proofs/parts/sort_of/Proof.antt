@@ -7,42 +7,6 @@ use Rattle.calendar.proofs.Keys.{other-sort}
 use Rattle.calendar.proofs.parts.sort_of.Statement.{statement}
 use Rattle.calendar.proofs.parts.sort_of.Tie as tie
 
-numbers-requires : tie.Need-numbers-requires
-numbers-requires c κs = search needs
-
-numbers-requires-2 : tie.Need-numbers-requires-2
-numbers-requires-2 c κs = search needs
-
-numbers-requires-3 : tie.Need-numbers-requires-3
-numbers-requires-3 c κs = search needs
-
-numbers-requires-4 : tie.Need-numbers-requires-4
-numbers-requires-4 c κs = search needs
-
-numbers-requires-5 : tie.Need-numbers-requires-5
-numbers-requires-5 c κs = search needs
-
-numbers-requires-6 : tie.Need-numbers-requires-6
-numbers-requires-6 c κs = search needs
-
-numbers-requires-7 : tie.Need-numbers-requires-7
-numbers-requires-7 c κs = search needs
-
-numbers-requires-8 : tie.Need-numbers-requires-8
-numbers-requires-8 c κs = search needs
-
-returns : tie.Need-returns
-unfolding sortSaid keyAt keys
-returns c = rw (c .match .keys1)
-
-returns-2 : tie.Need-returns-2
-unfolding sortSaid keyAt keys
-returns-2 c = rw (c .match .keys2)
-
-returns-3 : tie.Need-returns-3
-unfolding sortSaid keyAt keys
-returns-3 c = rw (c .match .keys3)
-
 returns-4 : tie.Need-returns-4
 unfolding sortSaid keyAt keys
 returns-4 c = c .numbers .ensures ∙ rw (c .before .match .keys4)
@@ -54,10 +18,6 @@ returns-5 c = c .numbers2 .ensures ∙ rw (c .before .match .keys5)
 returns-6 : tie.Need-returns-6
 unfolding sortSaid keyAt keys
 returns-6 c = c .numbers3 .ensures ∙ rw (c .before .match .keys6)
-
-returns-7 : tie.Need-returns-7
-unfolding sortSaid keyAt keys
-returns-7 c = rw (c .match .keys7)
 
 returns-8 : tie.Need-returns-8
 unfolding sortSaid keyAt keys
@@ -79,10 +39,6 @@ returns-12 : tie.Need-returns-12
 unfolding sortSaid keyAt keys
 returns-12 c = c .numbers8 .ensures ∙ rw (c .before .match .keys12)
 
-returns-13 : tie.Need-returns-13
-unfolding sortSaid keyAt keys
-returns-13 c = rw (c .match .keys13)
-
 returns-14 : tie.Need-returns-14
 unfolding sortSaid
 returns-14 c = sym (other-sort (c .before .args .key) (c .match .rest))
@@ -91,25 +47,25 @@ pub sort-of-spec : {M : Type 1} → statement M
 sort-of-spec =
     tie.close
     (tie.spec
-    numbers-requires
-    numbers-requires-2
-    numbers-requires-3
-    numbers-requires-4
-    numbers-requires-5
-    numbers-requires-6
-    numbers-requires-7
-    numbers-requires-8
-    returns
-    returns-2
-    returns-3
+    (λ c κs. search needs)
+    (λ c κs. search needs)
+    (λ c κs. search needs)
+    (λ c κs. search needs)
+    (λ c κs. search needs)
+    (λ c κs. search needs)
+    (λ c κs. search needs)
+    (λ c κs. search needs)
+    (λ c. unfold sortSaid keyAt keys in rw (c .match .keys1))
+    (λ c. unfold sortSaid keyAt keys in rw (c .match .keys2))
+    (λ c. unfold sortSaid keyAt keys in rw (c .match .keys3))
     returns-4
     returns-5
     returns-6
-    returns-7
+    (λ c. unfold sortSaid keyAt keys in rw (c .match .keys7))
     returns-8
     returns-9
     returns-10
     returns-11
     returns-12
-    returns-13
+    (λ c. unfold sortSaid keyAt keys in rw (c .match .keys13))
     returns-14)

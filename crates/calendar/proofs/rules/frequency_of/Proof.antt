@@ -12,9 +12,6 @@ use Rattle.calendar.proofs.Choices.{frequencyChoices, frequency-at}
 use Rattle.calendar.proofs.rules.frequency_of.Statement.{statement}
 use Rattle.calendar.proofs.rules.frequency_of.Tie as tie
 
-frequency-place-requires : tie.Need-frequency-place-requires
-frequency-place-requires c κs = search needs
-
 returns : tie.Need-returns
 returns c = ap (λ (i : ℕ). getD frequencyChoices i Yearly) (sym (c .match .keys1)) ∙ frequency-at (upper (c .before .before .before .args .s .now)) (c .before .frequency-place .result) (c .before .frequency-place .ensures)
 
@@ -40,7 +37,7 @@ pub frequency-of-spec : {M : Type 1} → statement M
 frequency-of-spec =
     tie.close
     (tie.spec
-    frequency-place-requires
+    (λ c κs. search needs)
     returns
     returns-2
     returns-3

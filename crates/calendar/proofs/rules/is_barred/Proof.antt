@@ -4,17 +4,8 @@ use Rattle.calendar.proofs.Turns.{barred-seen, barred-until, barred-cou
 use Rattle.calendar.proofs.rules.is_barred.Statement.{statement}
 use Rattle.calendar.proofs.rules.is_barred.Tie as tie
 
-array-read-if1 : tie.Need-array-read-if1
-array-read-if1 c = search needs
-
 returns : tie.Need-returns
 returns c = barred-seen (c .before .args .t1) (c .before .args .key) (c .if1 .taken)
-
-array-read-result : tie.Need-array-read-result
-array-read-result c = search needs
-
-array-read-result-2 : tie.Need-array-read-result-2
-array-read-result-2 c = search needs
 
 returns-2 : tie.Need-returns-2
 returns-2 c = barred-until (c .before .before .args .t1) (c .before .before .args .key) (c .before .if1 .left) (c .match .keys1)
@@ -29,10 +20,10 @@ pub is-barred-spec : {M : Type 1} → statement M
 is-barred-spec =
     tie.close
     (tie.spec
-    array-read-if1
+    (λ c. search needs)
     returns
-    array-read-result
-    array-read-result-2
+    (λ c. search needs)
+    (λ c. search needs)
     returns-2
     returns-3
     returns-4)

@@ -7,20 +7,8 @@ use Rattle.calendar.proofs.Turns.{follow-unknown, follow-barred, follow
 use Rattle.calendar.proofs.rules.may_follow.Statement.{statement}
 use Rattle.calendar.proofs.rules.may_follow.Tie as tie
 
-returns : tie.Need-returns
-returns c = follow-unknown _ _ _ (c .if1 .taken)
-
-is-barred-requires : tie.Need-is-barred-requires
-is-barred-requires c κs = c .if1 .left
-
 returns-2 : tie.Need-returns-2
 returns-2 c = follow-barred _ _ _ (c .before .before .if1 .left) (sym (c .before .is-barred .ensures) ∙ c .if2 .taken)
-
-sort-of-requires : tie.Need-sort-of-requires
-sort-of-requires c κs = search needs
-
-values-stand-requires : tie.Need-values-stand-requires
-values-stand-requires c κs = search needs
 
 returns-3 : tie.Need-returns-3
 returns-3 c = c .values-stand .ensures ∙ ap (λ (k : Sort). valuesStand k (c .before .before .before .before .before .before .args .v .now)) (c .before .sort-of .ensures) ∙ follow-free _ _ _ (c .before .before .before .before .if1 .left) (sym (c .before .before .before .is-barred .ensures) ∙ c .before .before .if2 .left)
@@ -29,9 +17,9 @@ pub may-follow-spec : {M : Type 1} → statement M
 may-follow-spec =
     tie.close
     (tie.spec
-    returns
-    is-barred-requires
+    (λ c. follow-unknown _ _ _ (c .if1 .taken))
+    (λ c κs. c .if1 .left)
     returns-2
-    sort-of-requires
-    values-stand-requires
+    (λ c κs. search needs)
+    (λ c κs. search needs)
     returns-3)

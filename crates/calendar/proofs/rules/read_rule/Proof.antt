@@ -25,18 +25,6 @@ abbrev μ-loop : tie.MeasureT-loop
 loop-holds : tie.Need-loop-holds Inv-loop μ-loop
 loop-holds c = (omega arith, gathered-none (readParts (upper (c .before .args .s .now))))
 
-sub-rest : tie.Need-sub-rest Inv-loop μ-loop
-sub-rest c = search needs
-
-part-rest-start : tie.Need-part-rest-start Inv-loop μ-loop
-part-rest-start c = search needs
-
-part-rest-end : tie.Need-part-rest-end Inv-loop μ-loop
-part-rest-end c = search needs
-
-first-part-requires : tie.Need-first-part-requires Inv-loop μ-loop
-first-part-requires c κs = search needs
-
 sub-may-follow : tie.Need-sub-may-follow Inv-loop μ-loop
 sub-may-follow c = part-begins (c .before .before .before .before .args .s .now) (c .before .before .loop .at) (c .first-part .result) (c .first-part .ensures)
 
@@ -47,9 +35,6 @@ part-may-follow-end : tie.Need-part-may-follow-end Inv-loop μ-loop
 part-may-follow-end c =
     let e = part-ends (c .before .before .before .before .args .s .now) (c .before .before .loop .at) (c .first-part .result) (c .first-part .ensures) in
     rw (length-take, length-drop) (omega arith)
-
-may-follow-requires : tie.Need-may-follow-requires Inv-loop μ-loop
-may-follow-requires c κs = search needs
 
 returns : tie.Need-returns Inv-loop μ-loop
 unfolding ruleSaid
@@ -68,12 +53,6 @@ part-with-value-end : tie.Need-part-with-value-end Inv-loop μ-loop
 part-with-value-end c =
     let e = part-ends (c .before .before .before .before .before .before .before .args .s .now) (c .before .before .before .before .before .loop .at) (c .before .before .before .first-part .result) (c .before .before .before .first-part .ensures) in
     rw (length-take, length-drop) (omega arith)
-
-with-value-requires : tie.Need-with-value-requires Inv-loop μ-loop
-with-value-requires c κs = search needs
-
-rule-of-requires : tie.Need-rule-of-requires Inv-loop μ-loop
-rule-of-requires c κs = search needs
 
 returns-2 : tie.Need-returns-2 Inv-loop μ-loop
 returns-2 c =
@@ -107,21 +86,21 @@ read-rule-spec =
     Inv-loop
     μ-loop
     loop-holds
-    sub-rest
-    part-rest-start
-    part-rest-end
-    first-part-requires
+    (λ c. search needs)
+    (λ c. search needs)
+    (λ c. search needs)
+    (λ c κs. search needs)
     sub-may-follow
     part-may-follow-start
     part-may-follow-end
-    may-follow-requires
+    (λ c κs. search needs)
     returns
     array-write-seen
     sub-with-value
     part-with-value-start
     part-with-value-end
-    with-value-requires
-    rule-of-requires
+    (λ c κs. search needs)
+    (λ c κs. search needs)
     returns-2
     add-at
     add-at-2

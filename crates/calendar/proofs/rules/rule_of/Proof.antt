@@ -9,15 +9,9 @@ use Rattle.calendar.specs.Rules.{ruleSaid}
 use Rattle.calendar.proofs.rules.rule_of.Statement.{statement}
 use Rattle.calendar.proofs.rules.rule_of.Tie as tie
 
-array-read-if1 : tie.Need-array-read-if1
-array-read-if1 c = search needs
-
 returns : tie.Need-returns
 unfolding ruleSaid ruleRead when
 returns c = rw (not-true (getD (c .before .args .t2) 0 false) (c .if1 .taken))
-
-by-seen-requires : tie.Need-by-seen-requires
-by-seen-requires c κs = search needs
 
 returns-2 : tie.Need-returns-2
 unfolding ruleSaid ruleRead when
@@ -27,7 +21,7 @@ pub rule-of-spec : {M : Type 1} → statement M
 rule-of-spec =
     tie.close
     (tie.spec
-    array-read-if1
+    (λ c. search needs)
     returns
-    by-seen-requires
+    (λ c κs. search needs)
     returns-2)

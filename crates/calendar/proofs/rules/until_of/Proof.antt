@@ -8,15 +8,6 @@ use Rattle.calendar.specs.declared.rules.End.the-variants.{Until, Open}
 use Rattle.calendar.proofs.rules.until_of.Statement.{statement}
 use Rattle.calendar.proofs.rules.until_of.Tie as tie
 
-read-moment-requires : tie.Need-read-moment-requires
-read-moment-requires c κs = search needs
-
-enum-known-m : tie.Need-enum-known-m
-enum-known-m c = search needs
-
-enum-told : tie.Need-enum-told
-enum-told c = search needs
-
 returns : tie.Need-returns
 unfolding lastOf given
 returns c = ap (given Open Until) (ap momentSaid (sym (c .before .m .given .1)) ∙ c .before .before .before .read-moment .ensures)
@@ -29,8 +20,8 @@ pub until-of-spec : {M : Type 1} → statement M
 until-of-spec =
     tie.close
     (tie.spec
-    read-moment-requires
-    enum-known-m
-    enum-told
+    (λ c κs. search needs)
+    (λ c. search needs)
+    (λ c. search needs)
     returns
     returns-2)

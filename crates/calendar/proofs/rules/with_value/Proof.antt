@@ -5,21 +5,6 @@ use Rattle.calendar.specs.Reading.{withValue}
 use Rattle.calendar.proofs.rules.with_value.Statement.{statement}
 use Rattle.calendar.proofs.rules.with_value.Tie as tie
 
-frequency-of-requires : tie.Need-frequency-of-requires
-frequency-of-requires c κs = search needs
-
-until-of-requires : tie.Need-until-of-requires
-until-of-requires c κs = search needs
-
-count-of-requires : tie.Need-count-of-requires
-count-of-requires c κs = search needs
-
-count-of-requires-2 : tie.Need-count-of-requires-2
-count-of-requires-2 c κs = search needs
-
-weekday-of-requires : tie.Need-weekday-of-requires
-weekday-of-requires c κs = search needs
-
 returns : tie.Need-returns
 unfolding withValue
 returns c = rw (c .before .match .keys1, c .frequency-of .ensures)
@@ -51,11 +36,11 @@ pub with-value-spec : {M : Type 1} → statement M
 with-value-spec =
     tie.close
     (tie.spec
-    frequency-of-requires
-    until-of-requires
-    count-of-requires
-    count-of-requires-2
-    weekday-of-requires
+    (λ c κs. search needs)
+    (λ c κs. search needs)
+    (λ c κs. search needs)
+    (λ c κs. search needs)
+    (λ c κs. search needs)
     returns
     returns-2
     returns-3

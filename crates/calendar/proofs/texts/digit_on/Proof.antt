@@ -15,17 +15,8 @@ low-digit a c h = omega arith
 returns : tie.Need-returns
 returns c = (no-digit (c .before .args .t .now) (c .before .args .at) (c .before .args .a) (c .if1 .taken), omega arith)
 
-shared-slice-read-c : tie.Need-shared-slice-read-c
-shared-slice-read-c c = search needs
-
-mul-result : tie.Need-mul-result
-mul-result c = search needs
-
 returns-2 : tie.Need-returns-2
 returns-2 c = (low-digit (c .before .before .before .args .a) (getD (c .before .before .before .args .t .now) (c .before .before .before .args .at) 0) (c .if2 .taken) ∙ one-digit (c .before .before .before .args .t .now) (c .before .before .before .args .at) (c .before .before .before .args .a) (c .before .before .if1 .left), omega arith)
-
-mul-result-2 : tie.Need-mul-result-2
-mul-result-2 c = search needs
 
 cast-result : tie.Need-cast-result
 cast-result c = omega (arith, c .before .shared-slice-known .given (c .before .before .before .args .at))
@@ -41,10 +32,10 @@ digit-on-spec =
     tie.close
     (tie.spec
     returns
-    shared-slice-read-c
-    mul-result
+    (λ c. search needs)
+    (λ c. search needs)
     returns-2
-    mul-result-2
+    (λ c. search needs)
     cast-result
     add-result
     returns-3)

@@ -4,11 +4,8 @@ use Rattle.calendar.proofs.Fixed.{form-taken}
 use Rattle.calendar.proofs.texts.extended.Statement.{statement}
 use Rattle.calendar.proofs.texts.extended.Tie as tie
 
-take-requires : tie.Need-take-requires
-take-requires c κs = search needs
-
 returns : tie.Need-returns
 returns c = rw (← (form-taken (c .before .before .args .form))) (c .take .ensures)
 
 pub extended-spec : {M : Type 1} → statement M
-extended-spec = tie.close (tie.spec take-requires returns)
+extended-spec = tie.close (tie.spec (λ c κs. search needs) returns)

@@ -7,19 +7,13 @@ use Rattle.calendar.proofs.Fixed.{says-some, says-none}
 use Rattle.calendar.proofs.texts.extended_moment.Statement.{statement}
 use Rattle.calendar.proofs.texts.extended_moment.Tie as tie
 
-extended-requires : tie.Need-extended-requires
-extended-requires c κs = search needs
-
 returns : tie.Need-returns
 unfolding momentOf or?
 returns c = record { text = says-some _ (c .if1 .taken) ∙ rw (sym (c .before .before .extended .ensures .text) ∙ says-some _ (c .if1 .taken)); room = c .before .before .extended .ensures .room }
-
-extended-requires-2 : tie.Need-extended-requires-2
-extended-requires-2 c κs = search needs
 
 returns-2 : tie.Need-returns-2
 unfolding momentOf or?
 returns-2 c = rw (sym (c .before .before .before .extended .ensures .text) ∙ says-none _ (c .before .if1 .left)) (c .extended2 .ensures)
 
 pub extended-moment-spec : {M : Type 1} → statement M
-extended-moment-spec = tie.close (tie.spec extended-requires returns extended-requires-2 returns-2)
+extended-moment-spec = tie.close (tie.spec (λ c κs. search needs) returns (λ c κs. search needs) returns-2)

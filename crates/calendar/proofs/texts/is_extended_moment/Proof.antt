@@ -5,15 +5,9 @@ use Rattle.calendar.specs.Dates.{momentIs}
 use Rattle.calendar.proofs.texts.is_extended_moment.Statement.{statement}
 use Rattle.calendar.proofs.texts.is_extended_moment.Tie as tie
 
-is-extended-requires : tie.Need-is-extended-requires
-is-extended-requires c κs = search needs
-
 returns : tie.Need-returns
 unfolding momentIs
 returns c = rw (sym (c .before .is-extended .ensures) ∙ c .if1 .taken)
-
-is-extended-requires-2 : tie.Need-is-extended-requires-2
-is-extended-requires-2 c κs = search needs
 
 returns-2 : tie.Need-returns-2
 unfolding momentIs
@@ -21,4 +15,4 @@ returns-2 c = rw (sym (c .before .before .is-extended .ensures) ∙ c .before .i
 
 pub is-extended-moment-spec : {M : Type 1} → statement M
 is-extended-moment-spec =
-    tie.close (tie.spec is-extended-requires returns is-extended-requires-2 returns-2)
+    tie.close (tie.spec (λ c κs. search needs) returns (λ c κs. search needs) returns-2)

@@ -7,36 +7,9 @@ use Rattle.calendar.specs.Dates.{momentIn}
 use Rattle.calendar.proofs.texts.numbers_in.Statement.{statement}
 use Rattle.calendar.proofs.texts.numbers_in.Tie as tie
 
-enum-told : tie.Need-enum-told
-enum-told c = search needs
-
-day-in-requires : tie.Need-day-in-requires
-day-in-requires c κs = search needs
-
-enum-told-2 : tie.Need-enum-told-2
-enum-told-2 c = search needs
-
-clock-in-requires : tie.Need-clock-in-requires
-clock-in-requires c κs = search needs
-
-enum-told-3 : tie.Need-enum-told-3
-enum-told-3 c = search needs
-
-day-in-requires-2 : tie.Need-day-in-requires-2
-day-in-requires-2 c κs = search needs
-
 returns : tie.Need-returns
 unfolding numbersIn momentIn
 returns c = rw (c .before .before .enum-told3 .given .1, sym (c .before .day-in2 .ensures) ∙ not-true _ (c .if1 .taken))
-
-clock-in-requires-2 : tie.Need-clock-in-requires-2
-clock-in-requires-2 c κs = search needs
-
-enum-told-4 : tie.Need-enum-told-4
-enum-told-4 c = search needs
-
-offset-in-requires : tie.Need-offset-in-requires
-offset-in-requires c κs = search needs
 
 returns-2 : tie.Need-returns-2
 unfolding numbersIn
@@ -58,16 +31,16 @@ pub numbers-in-spec : {M : Type 1} → statement M
 numbers-in-spec =
     tie.close
     (tie.spec
-    enum-told
-    day-in-requires
-    enum-told-2
-    clock-in-requires
-    enum-told-3
-    day-in-requires-2
+    (λ c. search needs)
+    (λ c κs. search needs)
+    (λ c. search needs)
+    (λ c κs. search needs)
+    (λ c. search needs)
+    (λ c κs. search needs)
     returns
-    clock-in-requires-2
-    enum-told-4
-    offset-in-requires
+    (λ c κs. search needs)
+    (λ c. search needs)
+    (λ c κs. search needs)
     returns-2
     returns-3
     returns-4

@@ -7,36 +7,21 @@ use Rattle.calendar.specs.Dates.{offsetIn}
 use Rattle.calendar.proofs.texts.offset_in.Statement.{statement}
 use Rattle.calendar.proofs.texts.offset_in.Tie as tie
 
-clock-in-requires : tie.Need-clock-in-requires
-clock-in-requires c κs = search needs
-
 returns : tie.Need-returns
 unfolding offsetIn
 returns c = rw (sym (c .before .clock-in .ensures) ∙ not-true _ (c .if1 .taken))
-
-peek-requires : tie.Need-peek-requires
-peek-requires c κs = search needs
 
 returns-2 : tie.Need-returns-2
 unfolding offsetIn minus
 returns-2 c = rw (sym (c .before .before .before .clock-in .ensures) ∙ not-false _ (c .before .before .if1 .left), ← (c .before .peek .ensures), ne-eqb _ _ (c .if2 .taken))
 
-pair-requires : tie.Need-pair-requires
-pair-requires c κs = search needs
-
 returns-3 : tie.Need-returns-3
 unfolding offsetIn minus
 returns-3 c = rw (sym (c .before .before .before .before .before .clock-in .ensures) ∙ not-false _ (c .before .before .before .before .if1 .left), ← (c .before .before .before .peek .ensures), eq-eqb _ _ (c .before .before .if2 .left), ← (c .before .pair .ensures .0), ne-eqb _ _ (c .if3 .taken))
 
-pair-requires-2 : tie.Need-pair-requires-2
-pair-requires-2 c κs = search needs
-
 returns-4 : tie.Need-returns-4
 unfolding offsetIn minus
 returns-4 c = rw (sym (c .before .before .before .before .before .before .before .clock-in .ensures) ∙ not-false _ (c .before .before .before .before .before .before .if1 .left), ← (c .before .before .before .before .before .peek .ensures), eq-eqb _ _ (c .before .before .before .before .if2 .left), ← (c .before .before .before .pair .ensures .0), eq-eqb _ _ (c .before .before .if3 .left), ← (c .before .pair2 .ensures .0), ne-eqb _ _ (c .if4 .taken))
-
-pair-requires-3 : tie.Need-pair-requires-3
-pair-requires-3 c κs = search needs
 
 returns-5 : tie.Need-returns-5
 unfolding offsetIn minus
@@ -46,13 +31,13 @@ pub offset-in-spec : {M : Type 1} → statement M
 offset-in-spec =
     tie.close
     (tie.spec
-    clock-in-requires
+    (λ c κs. search needs)
     returns
-    peek-requires
+    (λ c κs. search needs)
     returns-2
-    pair-requires
+    (λ c κs. search needs)
     returns-3
-    pair-requires-2
+    (λ c κs. search needs)
     returns-4
-    pair-requires-3
+    (λ c κs. search needs)
     returns-5)

@@ -13,19 +13,10 @@ returns : tie.Need-returns
 unfolding numberAt valueOf valueFrom
 returns c = (rw (ended (c .before .before .args .t .now) (c .before .before .args .at) (c .if1 .taken)), omega arith)
 
-add-digit-on : tie.Need-add-digit-on
-add-digit-on c = search needs
-
-digit-on-requires : tie.Need-digit-on-requires
-digit-on-requires c κs = search needs
-
-digit-on-requires-2 : tie.Need-digit-on-requires-2
-digit-on-requires-2 c κs = search needs
-
 returns-2 : tie.Need-returns-2
 unfolding numberAt valueOf
 returns-2 c = (c .digit-on2 .ensures .0 ∙ (rw (c .before .digit-on .ensures .0) (digit-more (c .before .before .before .before .args .t .now) (c .before .before .before .before .args .at) 1 0)), omega (arith, c .before .digit-on .ensures .1, c .digit-on2 .ensures .1))
 
 pub pair-spec : {M : Type 1} → statement M
 pair-spec =
-    tie.close (tie.spec returns add-digit-on digit-on-requires digit-on-requires-2 returns-2)
+    tie.close (tie.spec returns (λ c. search needs) (λ c κs. search needs) (λ c κs. search needs) returns-2)

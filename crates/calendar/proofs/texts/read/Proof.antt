@@ -16,24 +16,6 @@ Inv-loop form whole s out₀ i₀ k₀ out i k = Reading whole form s out i k
 abbrev μ-loop : tie.MeasureT-loop
 μ-loop form whole s out₀ i₀ k₀ out i k = length form - k
 
-loop-holds : tie.Need-loop-holds Inv-loop μ-loop
-loop-holds c = begins _ _ _ _ refl
-
-shared-slice-read-f : tie.Need-shared-slice-read-f Inv-loop μ-loop
-shared-slice-read-f c = search needs
-
-is-added-requires : tie.Need-is-added-requires Inv-loop μ-loop
-is-added-requires c κs = search needs
-
-array-write-out : tie.Need-array-write-out Inv-loop μ-loop
-array-write-out c = search needs
-
-add-k : tie.Need-add-k Inv-loop μ-loop
-add-k c = search needs
-
-loop-less : tie.Need-loop-less Inv-loop μ-loop
-loop-less c = search needs
-
 loop-again : tie.Need-loop-again Inv-loop μ-loop
 loop-again c = adds _ _ _ _ _ _ (c .before .before .before .before .loop .inv) (c .before .before .before .loop-test .taken) (omega arith) (sym (c .before .is-added .ensures) ∙ c .if1 .taken)
 
@@ -41,33 +23,12 @@ returns : tie.Need-returns Inv-loop μ-loop
 unfolding textSaid
 returns c = record { text = short _ _ _ _ _ _ (c .before .before .before .before .before .loop .inv) (c .before .before .before .before .loop-test .taken) (c .if2 .taken) (sym (c .before .before .is-added .ensures) ∙ c .before .if1 .left); room = omega arith }
 
-shared-slice-read-upper-octet : tie.Need-shared-slice-read-upper-octet Inv-loop μ-loop
-shared-slice-read-upper-octet c = search needs
-
-upper-octet-requires : tie.Need-upper-octet-requires Inv-loop μ-loop
-upper-octet-requires c κs = search needs
-
-takes-requires : tie.Need-takes-requires Inv-loop μ-loop
-takes-requires c κs = search needs
-
 returns-2 : tie.Need-returns-2 Inv-loop μ-loop
 unfolding textSaid
 returns-2 c = record {
   text = wrong _ _ _ _ _ _ (c .before .before .before .before .before .before .before .before .before .loop .inv) _ (c .before .before .before .before .before .before .before .before .loop-test .taken) (c .before .before .before .before .if2 .left) (sym (c .before .before .before .before .before .before .is-added .ensures) ∙ c .before .before .before .before .before .if1 .left) (c .before .before .upper-octet .ensures) (sym (c .before .takes .ensures) ∙ not-true _ (c .if3 .taken));
   room = omega arith;
 }
-
-array-write-out-2 : tie.Need-array-write-out-2 Inv-loop μ-loop
-array-write-out-2 c = search needs
-
-add-i : tie.Need-add-i Inv-loop μ-loop
-add-i c = search needs
-
-add-k-2 : tie.Need-add-k-2 Inv-loop μ-loop
-add-k-2 c = search needs
-
-loop-less-2 : tie.Need-loop-less-2 Inv-loop μ-loop
-loop-less-2 c = search needs
 
 loop-again-2 : tie.Need-loop-again-2 Inv-loop μ-loop
 loop-again-2 c = reads _ _ _ _ _ _ (c .before .before .before .before .before .before .before .before .before .loop .inv) _ (c .before .before .before .before .before .before .before .before .loop-test .taken) (omega arith) (c .before .before .before .before .if2 .left) (sym (c .before .before .before .before .before .before .is-added .ensures) ∙ c .before .before .before .before .before .if1 .left) (c .before .before .upper-octet .ensures) (sym (c .before .takes .ensures) ∙ not-false _ (c .if3 .left))
@@ -89,22 +50,22 @@ read-spec =
     (tie.spec
     Inv-loop
     μ-loop
-    loop-holds
-    shared-slice-read-f
-    is-added-requires
-    array-write-out
-    add-k
-    loop-less
+    (λ c. begins _ _ _ _ refl)
+    (λ c. search needs)
+    (λ c κs. search needs)
+    (λ c. search needs)
+    (λ c. search needs)
+    (λ c. search needs)
     loop-again
     returns
-    shared-slice-read-upper-octet
-    upper-octet-requires
-    takes-requires
+    (λ c. search needs)
+    (λ c κs. search needs)
+    (λ c κs. search needs)
     returns-2
-    array-write-out-2
-    add-i
-    add-k-2
-    loop-less-2
+    (λ c. search needs)
+    (λ c. search needs)
+    (λ c. search needs)
+    (λ c. search needs)
     loop-again-2
     returns-3
     returns-4)

@@ -7,9 +7,6 @@ use Rattle.calendar.specs.Texts.{placeAt}
 use Rattle.calendar.proofs.texts.takes.Statement.{statement}
 use Rattle.calendar.proofs.texts.takes.Tie as tie
 
-is-digit-requires : tie.Need-is-digit-requires
-is-digit-requires c κs = search needs
-
 returns : tie.Need-returns
 unfolding placeAt takes
 returns c = rw (eq-eqb _ _ (c .before .if1 .taken)) (c .is-digit .ensures)
@@ -27,4 +24,4 @@ unfolding placeAt takes
 returns-4 c = simp (ne-eqb _ _ (c .if2 .left), ne-eqb _ _ (c .before .if1 .left))
 
 pub takes-spec : {M : Type 1} → statement M
-takes-spec = tie.close (tie.spec is-digit-requires returns returns-2 returns-3 returns-4)
+takes-spec = tie.close (tie.spec (λ c κs. search needs) returns returns-2 returns-3 returns-4)

@@ -19,32 +19,11 @@ Inv-loop out₀ at s to₀ from₀ out to from = (from ≤ length s) × (length 
 abbrev μ-loop : tie.MeasureT-loop
 μ-loop out₀ at s to₀ from₀ out to from = length s - from
 
-loop-holds : tie.Need-loop-holds Inv-loop μ-loop
-loop-holds c = (omega arith, refl, leads-start)
-
-sub-rest : tie.Need-sub-rest Inv-loop μ-loop
-sub-rest c = search needs
-
-part-rest-start : tie.Need-part-rest-start Inv-loop μ-loop
-part-rest-start c = search needs
-
-part-rest-end : tie.Need-part-rest-end Inv-loop μ-loop
-part-rest-end c = search needs
-
-first-part-requires : tie.Need-first-part-requires Inv-loop μ-loop
-first-part-requires c κs = search needs
-
 put-part-requires : tie.Need-put-part-requires Inv-loop μ-loop
 put-part-requires c κs = part-places (take (length (c .before .before .before .before .before .before .args .s .now) - c .before .before .before .loop .from) (drop (c .before .before .before .loop .from) (c .before .before .before .before .before .before .args .s .now))) (c .before .first-part .result) (c .before .first-part .ensures)
 
-same-length : tie.Need-same-length Inv-loop μ-loop
-same-length c = search needs
-
 returns : tie.Need-returns Inv-loop μ-loop
 returns c = leads-last (c .before .before .before .before .before .before .before .loop .inv .2) (c .before .before .before .put-part .ensures) (rule-last (c .before .before .before .before .before .before .before .before .before .before .args .s .now) (c .before .before .before .before .before .before .before .loop .from) (c .before .before .before .before .before .first-part .result) (c .before .before .before .before .before .first-part .ensures) (c .if1 .taken))
-
-put-requires : tie.Need-put-requires Inv-loop μ-loop
-put-requires c κs = search needs
 
 add-from : tie.Need-add-from Inv-loop μ-loop
 add-from c =
@@ -72,15 +51,15 @@ put-rule-spec =
     (tie.spec
     Inv-loop
     μ-loop
-    loop-holds
-    sub-rest
-    part-rest-start
-    part-rest-end
-    first-part-requires
+    (λ c. (omega arith, refl, leads-start))
+    (λ c. search needs)
+    (λ c. search needs)
+    (λ c. search needs)
+    (λ c κs. search needs)
     put-part-requires
-    same-length
+    (λ c. search needs)
     returns
-    put-requires
+    (λ c κs. search needs)
     add-from
     add-from-2
     loop-less

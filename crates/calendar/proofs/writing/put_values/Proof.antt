@@ -20,37 +20,10 @@ Inv-loop out₀ at sort v to₀ from₀ out to from = (from ≤ length v) × (le
 abbrev μ-loop : tie.MeasureT-loop
 μ-loop out₀ at sort v to₀ from₀ out to from = length v - from
 
-loop-holds : tie.Need-loop-holds Inv-loop μ-loop
-loop-holds c = (omega arith, refl, leads-start)
-
-sub-rest : tie.Need-sub-rest Inv-loop μ-loop
-sub-rest c = search needs
-
-part-rest-start : tie.Need-part-rest-start Inv-loop μ-loop
-part-rest-start c = search needs
-
-part-rest-end : tie.Need-part-rest-end Inv-loop μ-loop
-part-rest-end c = search needs
-
-find-requires : tie.Need-find-requires Inv-loop μ-loop
-find-requires c κs = search needs
-
-sub-put-item : tie.Need-sub-put-item Inv-loop μ-loop
-sub-put-item c = search needs
-
-part-put-item-start : tie.Need-part-put-item-start Inv-loop μ-loop
-part-put-item-start c = search needs
-
 part-put-item-end : tie.Need-part-put-item-end Inv-loop μ-loop
 part-put-item-end c =
     let e = scanned-le 44 (c .before .before .before .before .before .before .args .v .now) (c .before .before .before .loop .from) (c .before .find .result) (c .before .find .ensures) in
     rw (length-take, length-drop) (omega arith)
-
-put-item-requires : tie.Need-put-item-requires Inv-loop μ-loop
-put-item-requires c κs = search needs
-
-same-length : tie.Need-same-length Inv-loop μ-loop
-same-length c = search needs
 
 returns : tie.Need-returns Inv-loop μ-loop
 unfolding valuesShown
@@ -58,9 +31,6 @@ returns c =
     let v = c .before .before .before .before .before .before .before .before .before .before .before .args .v .now in
     let rest = take (length v - c .before .before .before .before .before .before .before .before .loop .from) (drop (c .before .before .before .before .before .before .before .before .loop .from) v) in
     leads-last (c .before .before .before .before .before .before .before .before .loop .inv .2) (c .before .before .before .put-item .ensures) (rw (upto rest (c .before .before .before .before .before .before .find .result)) (shown-last 44 (itemShown (sortSaid (c .before .before .before .before .before .before .before .before .before .before .before .args .sort))) v (c .before .before .before .before .before .before .before .before .loop .from) (c .before .before .before .before .before .before .find .result) (c .before .before .before .before .before .before .find .ensures) (c .if1 .taken)))
-
-put-requires : tie.Need-put-requires Inv-loop μ-loop
-put-requires c κs = search needs
 
 add-from : tie.Need-add-from Inv-loop μ-loop
 add-from c =
@@ -91,18 +61,18 @@ put-values-spec =
     (tie.spec
     Inv-loop
     μ-loop
-    loop-holds
-    sub-rest
-    part-rest-start
-    part-rest-end
-    find-requires
-    sub-put-item
-    part-put-item-start
+    (λ c. (omega arith, refl, leads-start))
+    (λ c. search needs)
+    (λ c. search needs)
+    (λ c. search needs)
+    (λ c κs. search needs)
+    (λ c. search needs)
+    (λ c. search needs)
     part-put-item-end
-    put-item-requires
-    same-length
+    (λ c κs. search needs)
+    (λ c. search needs)
     returns
-    put-requires
+    (λ c κs. search needs)
     add-from
     add-from-2
     loop-less

@@ -8,9 +8,6 @@ use Rattle.content.proofs.Folding.{width-most, breaks-never, breaks-by}
 use Rattle.content.proofs.fold.breaks.Statement.{statement}
 use Rattle.content.proofs.fold.breaks.Tie as tie
 
-width-requires : tie.Need-width-requires
-width-requires c κs = search needs
-
 returns : tie.Need-returns
 returns c = sym (breaks-never _ _ (sym (c .before .width .ensures) ∙ c .if1 .taken))
 
@@ -21,4 +18,4 @@ returns-2 : tie.Need-returns-2
 returns-2 c = breaks-by _ _ _ _ (sym most-columns) (c .before .width .ensures) (c .if1 .left)
 
 pub breaks-spec : {M : Type 1} → statement M
-breaks-spec = tie.close (tie.spec width-requires returns sub-result returns-2)
+breaks-spec = tie.close (tie.spec (λ c κs. search needs) returns sub-result returns-2)

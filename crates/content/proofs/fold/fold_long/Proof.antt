@@ -17,29 +17,11 @@ Inv-loop out₀ s q₀ i₀ out q i = (i ≤ length s) × (length out ≡ length
 abbrev μ-loop : tie.MeasureT-loop
 μ-loop out₀ s q₀ i₀ out q i = length s - i
 
-loop-holds : tie.Need-loop-holds Inv-loop μ-loop
-loop-holds c = (omega arith, refl, leads-start)
-
-run-end-requires : tie.Need-run-end-requires Inv-loop μ-loop
-run-end-requires c κs = omega (arith, most-columns)
-
-sub-fold-run : tie.Need-sub-fold-run Inv-loop μ-loop
-sub-fold-run c = search needs
-
-part-fold-run-start : tie.Need-part-fold-run-start Inv-loop μ-loop
-part-fold-run-start c = search needs
-
-part-fold-run-end : tie.Need-part-fold-run-end Inv-loop μ-loop
-part-fold-run-end c = search needs
-
 fold-run-requires : tie.Need-fold-run-requires Inv-loop μ-loop
 fold-run-requires c κs =
     let found = c .before .before in
     let turn = found .before .before .before in
     rw (part-length (turn .before .before .before .args .s .now) (turn .loop .i) (found .run-end .result) (omega arith) (omega arith)) (found .run-end .ensures .2)
-
-loop-less : tie.Need-loop-less Inv-loop μ-loop
-loop-less c = search needs
 
 loop-again : tie.Need-loop-again Inv-loop μ-loop
 loop-again c =
@@ -47,25 +29,10 @@ loop-again c =
     let turn = found .before .before .before in
     (omega arith, omega arith, leads-on (turn .loop .inv .2) (c .before .before .fold-run .ensures) (part-rest _ (turn .loop .i) (found .run-end .result) (omega arith)))
 
-shared-slice-read-fold-octet : tie.Need-shared-slice-read-fold-octet Inv-loop μ-loop
-shared-slice-read-fold-octet c = search needs
-
-fold-octet-requires : tie.Need-fold-octet-requires Inv-loop μ-loop
-fold-octet-requires c κs = search needs
-
-add-i : tie.Need-add-i Inv-loop μ-loop
-add-i c = search needs
-
-loop-less-2 : tie.Need-loop-less-2 Inv-loop μ-loop
-loop-less-2 c = search needs
-
 loop-again-2 : tie.Need-loop-again-2 Inv-loop μ-loop
 loop-again-2 c =
     let test = c .before .before .before .before .before .before in
     (omega arith, omega arith, leads-on (test .before .loop .inv .2) (c .before .before .fold-octet .ensures) (here _ _ (test .loop-test .taken)))
-
-same-length : tie.Need-same-length Inv-loop μ-loop
-same-length c = search needs
 
 returns : tie.Need-returns Inv-loop μ-loop
 returns c = leads-end (c .before .loop .inv .2) (ended _ _ (c .loop-test .left))
@@ -76,18 +43,18 @@ fold-long-spec =
     (tie.spec
     Inv-loop
     μ-loop
-    loop-holds
-    run-end-requires
-    sub-fold-run
-    part-fold-run-start
-    part-fold-run-end
+    (λ c. (omega arith, refl, leads-start))
+    (λ c κs. omega (arith, most-columns))
+    (λ c. search needs)
+    (λ c. search needs)
+    (λ c. search needs)
     fold-run-requires
-    loop-less
+    (λ c. search needs)
     loop-again
-    shared-slice-read-fold-octet
-    fold-octet-requires
-    add-i
-    loop-less-2
+    (λ c. search needs)
+    (λ c κs. search needs)
+    (λ c. search needs)
+    (λ c. search needs)
     loop-again-2
-    same-length
+    (λ c. search needs)
     returns)

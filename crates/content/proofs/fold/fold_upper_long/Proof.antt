@@ -17,24 +17,6 @@ Inv-loop out₀ s q₀ i₀ out q i = (i ≤ length s) × (length out ≡ length
 abbrev μ-loop : tie.MeasureT-loop
 μ-loop out₀ s q₀ i₀ out q i = length s - i
 
-loop-holds : tie.Need-loop-holds Inv-loop μ-loop
-loop-holds c = (omega arith, refl, leads-start)
-
-shared-slice-read-upper-octet : tie.Need-shared-slice-read-upper-octet Inv-loop μ-loop
-shared-slice-read-upper-octet c = search needs
-
-upper-octet-requires : tie.Need-upper-octet-requires Inv-loop μ-loop
-upper-octet-requires c κs = search needs
-
-fold-octet-requires : tie.Need-fold-octet-requires Inv-loop μ-loop
-fold-octet-requires c κs = search needs
-
-add-i : tie.Need-add-i Inv-loop μ-loop
-add-i c = search needs
-
-loop-less : tie.Need-loop-less Inv-loop μ-loop
-loop-less c = search needs
-
 loop-again : tie.Need-loop-again Inv-loop μ-loop
 unfolding upper
 loop-again c =
@@ -44,9 +26,6 @@ loop-again c =
       leads-on (test .before .loop .inv .2) (c .before .before .fold-octet .ensures)
           (rw (here _ _ (test .loop-test .taken), c .before .before .before .upper-octet .ensures)),
     )
-
-same-length : tie.Need-same-length Inv-loop μ-loop
-same-length c = search needs
 
 returns : tie.Need-returns Inv-loop μ-loop
 unfolding upper
@@ -58,12 +37,12 @@ fold-upper-long-spec =
     (tie.spec
     Inv-loop
     μ-loop
-    loop-holds
-    shared-slice-read-upper-octet
-    upper-octet-requires
-    fold-octet-requires
-    add-i
-    loop-less
+    (λ c. (omega arith, refl, leads-start))
+    (λ c. search needs)
+    (λ c κs. search needs)
+    (λ c κs. search needs)
+    (λ c. search needs)
+    (λ c. search needs)
     loop-again
-    same-length
+    (λ c. search needs)
     returns)

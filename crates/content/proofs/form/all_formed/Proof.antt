@@ -19,23 +19,8 @@ Inv-loop buf i₀ i = all formed (linesIn buf) ≡ all formed (linesIn (drop i b
 abbrev μ-loop : tie.MeasureT-loop
 μ-loop buf i₀ i = length buf - i
 
-loop-holds : tie.Need-loop-holds Inv-loop μ-loop
-loop-holds c = refl
-
-line-end-requires : tie.Need-line-end-requires Inv-loop μ-loop
-line-end-requires c κs = search needs
-
-sub-is-formed : tie.Need-sub-is-formed Inv-loop μ-loop
-sub-is-formed c = search needs
-
-part-is-formed-start : tie.Need-part-is-formed-start Inv-loop μ-loop
-part-is-formed-start c = search needs
-
 part-is-formed-end : tie.Need-part-is-formed-end Inv-loop μ-loop
 part-is-formed-end c = scan-high isLf (c .before .before .before .before .args .buf .now) (c .before .before .loop .i) _ (c .line-end .ensures) (omega arith)
-
-is-formed-requires : tie.Need-is-formed-requires Inv-loop μ-loop
-is-formed-requires c κs = search needs
 
 returns : tie.Need-returns Inv-loop μ-loop
 returns c = sym (c .before .before .before .before .before .loop .inv ∙ all-off formed (c .before .before .before .before .before .before .before .args .buf .now) (c .before .before .before .before .before .loop .i) (c .before .before .before .line-end .result) (c .before .before .before .line-end .ensures) (c .before .before .before .before .loop-test .taken) (sym (c .before .is-formed .ensures) ∙ not-true _ (c .if1 .taken)))
@@ -58,12 +43,12 @@ all-formed-spec =
     (tie.spec
     Inv-loop
     μ-loop
-    loop-holds
-    line-end-requires
-    sub-is-formed
-    part-is-formed-start
+    (λ c. refl)
+    (λ c κs. search needs)
+    (λ c. search needs)
+    (λ c. search needs)
     part-is-formed-end
-    is-formed-requires
+    (λ c κs. search needs)
     returns
     add-i
     loop-less

@@ -7,14 +7,8 @@ use Rattle.content.proofs.Scanning.{scan-high}
 use Rattle.content.proofs.form.is_formed.Statement.{statement}
 use Rattle.content.proofs.form.is_formed.Tie as tie
 
-name-end-requires : tie.Need-name-end-requires
-name-end-requires c κs = search needs
-
 returns : tie.Need-returns
 returns c = sym (line-none (c .before .before .before .args .line .now) (c .before .name-end .result) (c .before .name-end .ensures) (c .if1 .taken))
-
-peek-requires : tie.Need-peek-requires
-peek-requires c κs = search needs
 
 returns-2 : tie.Need-returns-2
 returns-2 c = sym (line-comma (c .before .before .before .before .before .args .line .now) (c .before .before .before .name-end .result) (c .before .before .before .name-end .ensures) (nonzero _ (c .before .before .if1 .left)) (sym (c .before .peek .ensures) ∙ c .if2 .taken))
@@ -28,4 +22,4 @@ returns-3 c = c .tail-formed .ensures ∙ sym (line-tail (c .before .before .bef
 pub is-formed-spec : {M : Type 1} → statement M
 is-formed-spec =
     tie.close
-    (tie.spec name-end-requires returns peek-requires returns-2 tail-formed-requires returns-3)
+    (tie.spec (λ c κs. search needs) returns (λ c κs. search needs) returns-2 tail-formed-requires returns-3)

@@ -16,23 +16,8 @@ Inv-loop s at i₀ i = i + length (until offName (drop i s)) ≡ at + length (un
 abbrev μ-loop : tie.MeasureT-loop
 μ-loop s at i₀ i = length s - i
 
-loop-holds : tie.Need-loop-holds Inv-loop μ-loop
-loop-holds c = refl
-
-shared-slice-read-is-name-octet : tie.Need-shared-slice-read-is-name-octet Inv-loop μ-loop
-shared-slice-read-is-name-octet c = search needs
-
-is-name-octet-requires : tie.Need-is-name-octet-requires Inv-loop μ-loop
-is-name-octet-requires c κs = search needs
-
 returns : tie.Need-returns Inv-loop μ-loop
 returns c = omega (arith, until-here offName (c .before .before .before .before .before .before .args .s .now) (c .before .before .before .before .loop .i) (c .before .before .before .loop-test .taken) (rw (← c .before .is-name-octet .ensures, c .if1 .taken)))
-
-add-i : tie.Need-add-i Inv-loop μ-loop
-add-i c = search needs
-
-loop-less : tie.Need-loop-less Inv-loop μ-loop
-loop-less c = search needs
 
 loop-again : tie.Need-loop-again Inv-loop μ-loop
 loop-again c = omega (arith, until-on offName (c .before .before .before .before .before .before .args .s .now) (c .before .before .before .before .loop .i) (c .before .before .before .loop-test .taken) (rw (← c .before .is-name-octet .ensures, c .if1 .left)))
@@ -46,11 +31,11 @@ name-end-spec =
     (tie.spec
     Inv-loop
     μ-loop
-    loop-holds
-    shared-slice-read-is-name-octet
-    is-name-octet-requires
+    (λ c. refl)
+    (λ c. search needs)
+    (λ c κs. search needs)
     returns
-    add-i
-    loop-less
+    (λ c. search needs)
+    (λ c. search needs)
     loop-again
     returns-2)

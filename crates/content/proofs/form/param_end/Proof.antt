@@ -6,14 +6,8 @@ use Rattle.content.proofs.Forming.{param-none, param-not, param-inside,
 use Rattle.content.proofs.form.param_end.Statement.{statement}
 use Rattle.content.proofs.form.param_end.Tie as tie
 
-name-end-requires : tie.Need-name-end-requires
-name-end-requires c κs = search needs
-
 returns : tie.Need-returns
 returns c = param-none (c .before .before .before .args .s .now) (c .before .before .before .args .at) (c .before .before .before .pre) (c .before .name-end .result) (c .before .name-end .ensures) (c .if1 .taken)
-
-peek-requires : tie.Need-peek-requires
-peek-requires c κs = search needs
 
 returns-2 : tie.Need-returns-2
 returns-2 c = param-not (c .before .before .before .before .before .args .s .now) (c .before .before .before .before .before .args .at) (c .before .before .before .before .before .pre) (c .before .before .before .name-end .result) (c .before .before .before .name-end .ensures) (c .before .before .if1 .left) (λ e. c .if2 .taken (c .before .peek .ensures ∙ e))
@@ -31,9 +25,9 @@ pub param-end-spec : {M : Type 1} → statement M
 param-end-spec =
     tie.close
     (tie.spec
-    name-end-requires
+    (λ c κs. search needs)
     returns
-    peek-requires
+    (λ c κs. search needs)
     returns-2
     add-value-end
     value-end-requires

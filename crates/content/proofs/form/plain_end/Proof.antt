@@ -16,23 +16,8 @@ Inv-loop s at i₀ i = i + length (until endsPlain (drop i s)) ≡ at + length (
 abbrev μ-loop : tie.MeasureT-loop
 μ-loop s at i₀ i = length s - i
 
-loop-holds : tie.Need-loop-holds Inv-loop μ-loop
-loop-holds c = refl
-
-shared-slice-read-ends-plain : tie.Need-shared-slice-read-ends-plain Inv-loop μ-loop
-shared-slice-read-ends-plain c = search needs
-
-ends-plain-requires : tie.Need-ends-plain-requires Inv-loop μ-loop
-ends-plain-requires c κs = search needs
-
 returns : tie.Need-returns Inv-loop μ-loop
 returns c = omega (arith, until-here endsPlain (c .before .before .before .before .before .before .args .s .now) (c .before .before .before .before .loop .i) (c .before .before .before .loop-test .taken) (sym (c .before .ends-plain .ensures) ∙ c .if1 .taken))
-
-add-i : tie.Need-add-i Inv-loop μ-loop
-add-i c = search needs
-
-loop-less : tie.Need-loop-less Inv-loop μ-loop
-loop-less c = search needs
 
 loop-again : tie.Need-loop-again Inv-loop μ-loop
 loop-again c = omega (arith, until-on endsPlain (c .before .before .before .before .before .before .args .s .now) (c .before .before .before .before .loop .i) (c .before .before .before .loop-test .taken) (sym (c .before .ends-plain .ensures) ∙ c .if1 .left))
@@ -46,11 +31,11 @@ plain-end-spec =
     (tie.spec
     Inv-loop
     μ-loop
-    loop-holds
-    shared-slice-read-ends-plain
-    ends-plain-requires
+    (λ c. refl)
+    (λ c. search needs)
+    (λ c κs. search needs)
     returns
-    add-i
-    loop-less
+    (λ c. search needs)
+    (λ c. search needs)
     loop-again
     returns-2)

@@ -15,35 +15,11 @@ Inv-loop s at i₀ i = (i ≤ length s) × (isValue (placeAfter unquoted (drop a
 abbrev μ-loop : tie.MeasureT-loop
 μ-loop s at i₀ i = length s - i
 
-loop-holds : tie.Need-loop-holds Inv-loop μ-loop
-loop-holds c = (omega arith, refl)
-
-shared-slice-read-match : tie.Need-shared-slice-read-match Inv-loop μ-loop
-shared-slice-read-match c = search needs
-
 returns : tie.Need-returns Inv-loop μ-loop
 returns c = sym (c .before .before .before .loop .inv .1 ∙ tail-colon (c .before .before .before .before .before .args .s .now) (c .before .before .before .loop .i) (c .before .before .loop-test .taken) (c .match .keys1))
 
-add-value-end : tie.Need-add-value-end Inv-loop μ-loop
-add-value-end c = search needs
-
-value-end-requires : tie.Need-value-end-requires Inv-loop μ-loop
-value-end-requires c κs = search needs
-
-loop-less : tie.Need-loop-less Inv-loop μ-loop
-loop-less c = search needs
-
 loop-again : tie.Need-loop-again Inv-loop μ-loop
 loop-again c = (c .value-end .ensures .high, c .before .before .before .before .loop .inv .1 ∙ tail-comma (c .before .before .before .before .before .before .args .s .now) (c .before .before .before .before .loop .i) (c .before .before .before .loop-test .taken) (c .value-end .result) (c .before .match .keys2) (c .value-end .ensures))
-
-add-param-end : tie.Need-add-param-end Inv-loop μ-loop
-add-param-end c = search needs
-
-param-end-requires : tie.Need-param-end-requires Inv-loop μ-loop
-param-end-requires c κs = search needs
-
-loop-less-2 : tie.Need-loop-less-2 Inv-loop μ-loop
-loop-less-2 c = search needs
 
 loop-again-2 : tie.Need-loop-again-2 Inv-loop μ-loop
 loop-again-2 c = (c .param-end .ensures .high, c .before .before .before .before .loop .inv .1 ∙ tail-semicolon (c .before .before .before .before .before .before .args .s .now) (c .before .before .before .before .loop .i) (c .before .before .before .loop-test .taken) (c .param-end .result) (c .before .match .keys3) (c .param-end .ensures))
@@ -60,16 +36,16 @@ tail-formed-spec =
     (tie.spec
     Inv-loop
     μ-loop
-    loop-holds
-    shared-slice-read-match
+    (λ c. (omega arith, refl))
+    (λ c. search needs)
     returns
-    add-value-end
-    value-end-requires
-    loop-less
+    (λ c. search needs)
+    (λ c κs. search needs)
+    (λ c. search needs)
     loop-again
-    add-param-end
-    param-end-requires
-    loop-less-2
+    (λ c. search needs)
+    (λ c κs. search needs)
+    (λ c. search needs)
     loop-again-2
     returns-2
     returns-3)

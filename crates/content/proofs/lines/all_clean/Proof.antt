@@ -5,17 +5,11 @@ use Rattle.content.proofs.CleanLines.{clean-lines}
 use Rattle.content.proofs.lines.all_clean.Statement.{statement}
 use Rattle.content.proofs.lines.all_clean.Tie as tie
 
-is-utf8-requires : tie.Need-is-utf8-requires
-is-utf8-requires c κs = search needs
-
 returns : tie.Need-returns
 returns c = rw (clean-lines, ← c .before .is-utf8 .ensures, not-true (c .before .is-utf8 .result) (c .if1 .taken))
-
-all-text-requires : tie.Need-all-text-requires
-all-text-requires c κs = search needs
 
 returns-2 : tie.Need-returns-2
 returns-2 c = rw (clean-lines, ← c .before .before .is-utf8 .ensures, not-false (c .before .before .is-utf8 .result) (c .before .if1 .left)) (c .all-text .ensures)
 
 pub all-clean-spec : {M : Type 1} → statement M
-all-clean-spec = tie.close (tie.spec is-utf8-requires returns all-text-requires returns-2)
+all-clean-spec = tie.close (tie.spec (λ c κs. search needs) returns (λ c κs. search needs) returns-2)

@@ -4,20 +4,15 @@ use borrow.Author.Needs.{needs}
 use Rattle.content.proofs.lines.trimmed.Statement.{statement}
 use Rattle.content.proofs.lines.trimmed.Tie as tie
 
-sub-k : tie.Need-sub-k
-sub-k c = search needs
-
-shared-slice-read-if2 : tie.Need-shared-slice-read-if2
-shared-slice-read-if2 c = search needs
-
 returns : tie.Need-returns
 returns c = simp (lt-ltb _ _ (c .before .before .if1 .taken), eq-eqb _ _ (c .if2 .taken))
 
 returns-2 : tie.Need-returns-2
 returns-2 c = simp (lt-ltb _ _ (c .before .before .if1 .taken), ne-eqb _ _ (c .if2 .left))
 
-returns-3 : tie.Need-returns-3
-returns-3 c = simp (le-ltb _ _ (c .if1 .left))
-
 pub trimmed-spec : {M : Type 1} → statement M
-trimmed-spec = tie.close (tie.spec sub-k shared-slice-read-if2 returns returns-2 returns-3)
+trimmed-spec =
+    tie.close
+    (tie.spec
+    (λ c. search needs) (λ c. search needs) returns returns-2
+    (λ c. simp (le-ltb _ _ (c .if1 .left))))

@@ -19,35 +19,14 @@ Inv-loop text out₀ i₀ at₀ begun₀ out i at begun = (length out ≡ length
 abbrev μ-loop : tie.MeasureT-loop
 μ-loop text out₀ i₀ at₀ begun₀ out i at begun = length text - i
 
-loop-holds : tie.Need-loop-holds Inv-loop μ-loop
-loop-holds c = (refl, rw (laid-start) leads-start)
-
-line-end-requires : tie.Need-line-end-requires Inv-loop μ-loop
-line-end-requires c κs = search needs
-
-sub-put-all : tie.Need-sub-put-all Inv-loop μ-loop
-sub-put-all c = search needs
-
 part-put-all-start : tie.Need-part-put-all-start Inv-loop μ-loop
 part-put-all-start c = scan-low isLf (c .before .before .before .before .before .before .before .args .text .now) (c .before .before .before .before .loop .i) _ (c .before .before .line-end .ensures)
 
 part-put-all-end : tie.Need-part-put-all-end Inv-loop μ-loop
 part-put-all-end c = scan-high isLf (c .before .before .before .before .before .before .before .args .text .now) (c .before .before .before .before .loop .i) _ (c .before .before .line-end .ensures) (omega arith)
 
-put-all-requires : tie.Need-put-all-requires Inv-loop μ-loop
-put-all-requires c κs = search needs
-
-put-requires : tie.Need-put-requires Inv-loop μ-loop
-put-requires c κs = search needs
-
-same-length : tie.Need-same-length Inv-loop μ-loop
-same-length c = search needs
-
 returns : tie.Need-returns Inv-loop μ-loop
 returns c = leads-last (c .before .before .before .before .before .before .before .before .before .before .before .before .loop .inv .1) (then (c .before .before .before .before .before .before .put-all .ensures) (c .before .before .put .ensures)) (turn-last (c .before .before .before .before .before .before .before .before .before .before .before .before .before .before .before .args .text .now) (c .before .before .before .before .before .before .before .before .before .before .before .before .loop .begun) (c .before .before .before .before .before .before .before .before .before .before .before .before .loop .i) (c .before .before .before .before .before .before .before .before .before .before .line-end .result) (c .before .before .before .before .before .before .before .before .before .before .line-end .ensures) (c .before .before .before .before .before .before .before .before .before .before .before .loop-test .taken) (c .before .before .before .before .before .before .before .before .before .if1 .taken))
-
-trimmed-requires : tie.Need-trimmed-requires Inv-loop μ-loop
-trimmed-requires c κs = search needs
 
 sub-put-all-2 : tie.Need-sub-put-all-2 Inv-loop μ-loop
 sub-put-all-2 c = trim-within (c .before .before .before .before .before .before .before .before .args .text .now) (c .before .before .before .before .before .loop .i) (c .before .before .before .line-end .result) (scan-low isLf (c .before .before .before .before .before .before .before .before .args .text .now) (c .before .before .before .before .before .loop .i) _ (c .before .before .before .line-end .ensures)) (omega arith) _ (c .before .trimmed .ensures) .0
@@ -58,50 +37,14 @@ part-put-all-start-2 c = trim-within (c .before .before .before .before .before 
 part-put-all-end-2 : tie.Need-part-put-all-end-2 Inv-loop μ-loop
 part-put-all-end-2 c = omega (arith, trim-within (c .before .before .before .before .before .before .before .before .args .text .now) (c .before .before .before .before .before .loop .i) (c .before .before .before .line-end .result) (scan-low isLf (c .before .before .before .before .before .before .before .before .args .text .now) (c .before .before .before .before .before .loop .i) _ (c .before .before .before .line-end .ensures)) (omega arith) _ (c .before .trimmed .ensures) .1)
 
-put-all-requires-2 : tie.Need-put-all-requires-2 Inv-loop μ-loop
-put-all-requires-2 c κs = search needs
-
-add-blank-at : tie.Need-add-blank-at Inv-loop μ-loop
-add-blank-at c = search needs
-
-blank-at-requires : tie.Need-blank-at-requires Inv-loop μ-loop
-blank-at-requires c κs = search needs
-
-begun-after-requires : tie.Need-begun-after-requires Inv-loop μ-loop
-begun-after-requires c κs = search needs
-
-add-i : tie.Need-add-i Inv-loop μ-loop
-add-i c = search needs
-
-loop-less : tie.Need-loop-less Inv-loop μ-loop
-loop-less c = search needs
-
 loop-again : tie.Need-loop-again Inv-loop μ-loop
 loop-again c = (omega arith, rw (← c .begun-after .ensures) at (leads-on (c .before .before .before .before .before .before .before .before .before .before .before .before .loop .inv .1) (c .before .before .before .before .before .put-all2 .ensures) (turn-fold (c .before .before .before .before .before .before .before .before .before .before .before .before .before .before .before .args .text .now) (c .before .before .before .before .before .before .before .before .before .before .before .before .loop .begun) (c .before .before .before .before .before .before .before .before .before .before .before .before .loop .i) (c .before .before .before .before .before .before .before .before .before .before .line-end .result) (c .before .before .before .before .before .before .before .before .before .before .line-end .ensures) (c .before .before .before .before .before .before .before .before .trimmed .result) (c .before .before .before .before .before .before .before .before .trimmed .ensures) (c .before .before .before .before .before .before .before .before .before .if1 .left) (sym (c .before .before .blank-at .ensures) ∙ c .before .if2 .taken))))
-
-put-requires-2 : tie.Need-put-requires-2 Inv-loop μ-loop
-put-requires-2 c κs = search needs
-
-add-i-2 : tie.Need-add-i-2 Inv-loop μ-loop
-add-i-2 c = search needs
-
-loop-less-2 : tie.Need-loop-less-2 Inv-loop μ-loop
-loop-less-2 c = search needs
 
 loop-again-2 : tie.Need-loop-again-2 Inv-loop μ-loop
 loop-again-2 c = (omega arith, leads-on (c .before .before .before .before .before .before .before .before .before .before .before .before .before .before .before .loop .inv .1) (then (c .before .before .before .before .before .before .before .before .put-all2 .ensures) (c .before .before .put2 .ensures)) (turn-end (c .before .before .before .before .before .before .before .before .before .before .before .before .before .before .before .before .before .before .args .text .now) (c .before .before .before .before .before .before .before .before .before .before .before .before .before .before .before .loop .begun) (c .before .before .before .before .before .before .before .before .before .before .before .before .before .before .before .loop .i) (c .before .before .before .before .before .before .before .before .before .before .before .before .before .line-end .result) (c .before .before .before .before .before .before .before .before .before .before .before .before .before .line-end .ensures) (c .before .before .before .before .before .before .before .before .before .before .before .trimmed .result) (c .before .before .before .before .before .before .before .before .before .before .before .trimmed .ensures) (c .before .before .before .before .before .before .before .before .before .before .before .before .if1 .left) (sym (c .before .before .before .before .before .blank-at .ensures) ∙ c .before .before .before .before .if2 .left)))
 
-put-requires-3 : tie.Need-put-requires-3 Inv-loop μ-loop
-put-requires-3 c κs = search needs
-
-same-length-2 : tie.Need-same-length-2 Inv-loop μ-loop
-same-length-2 c = search needs
-
 returns-2 : tie.Need-returns-2 Inv-loop μ-loop
 returns-2 c = leads-last (c .before .before .before .before .before .before .loop .inv .1) (c .before .before .put3 .ensures) (turn-none (c .before .before .before .before .before .before .before .before .before .args .text .now) (c .before .before .before .before .before .before .loop .begun) (c .before .before .before .before .before .before .loop .i) (c .before .before .before .before .before .loop-test .left) ∙ rw (c .before .before .before .before .if3 .taken))
-
-same-length-3 : tie.Need-same-length-3 Inv-loop μ-loop
-same-length-3 c = search needs
 
 returns-3 : tie.Need-returns-3 Inv-loop μ-loop
 returns-3 c = leads-end (c .before .before .loop .inv .1) (turn-none (c .before .before .before .before .before .args .text .now) (c .before .before .loop .begun) (c .before .before .loop .i) (c .before .loop-test .left) ∙ rw (c .if3 .left))
@@ -112,32 +55,32 @@ unfold-spec =
     (tie.spec
     Inv-loop
     μ-loop
-    loop-holds
-    line-end-requires
-    sub-put-all
+    (λ c. (refl, rw (laid-start) leads-start))
+    (λ c κs. search needs)
+    (λ c. search needs)
     part-put-all-start
     part-put-all-end
-    put-all-requires
-    put-requires
-    same-length
+    (λ c κs. search needs)
+    (λ c κs. search needs)
+    (λ c. search needs)
     returns
-    trimmed-requires
+    (λ c κs. search needs)
     sub-put-all-2
     part-put-all-start-2
     part-put-all-end-2
-    put-all-requires-2
-    add-blank-at
-    blank-at-requires
-    begun-after-requires
-    add-i
-    loop-less
+    (λ c κs. search needs)
+    (λ c. search needs)
+    (λ c κs. search needs)
+    (λ c κs. search needs)
+    (λ c. search needs)
+    (λ c. search needs)
     loop-again
-    put-requires-2
-    add-i-2
-    loop-less-2
+    (λ c κs. search needs)
+    (λ c. search needs)
+    (λ c. search needs)
     loop-again-2
-    put-requires-3
-    same-length-2
+    (λ c κs. search needs)
+    (λ c. search needs)
     returns-2
-    same-length-3
+    (λ c. search needs)
     returns-3)

@@ -4,29 +4,14 @@ use Rattle.content.specs.Object.{special}
 use Rattle.content.proofs.object.is_special.Statement.{statement}
 use Rattle.content.proofs.object.is_special.Tie as tie
 
-returns : tie.Need-returns
-unfolding special
-returns c = rw (c .match .keys1)
-
-returns-2 : tie.Need-returns-2
-unfolding special
-returns-2 c = rw (c .match .keys2)
-
-returns-3 : tie.Need-returns-3
-unfolding special
-returns-3 c = rw (c .match .keys3)
-
-returns-4 : tie.Need-returns-4
-unfolding special
-returns-4 c = rw (c .match .keys4)
-
-returns-5 : tie.Need-returns-5
-unfolding special
-returns-5 c = rw (c .match .keys5)
-
 returns-6 : tie.Need-returns-6
 unfolding special
 returns-6 c = rw (ne-eqb (c .before .args .c) 94 (c .match .rest .0 .0 .0 .0 .1), ne-eqb (c .before .args .c) 34 (c .match .rest .0 .0 .0 .1), ne-eqb (c .before .args .c) 92 (c .match .rest .0 .0 .1), ne-eqb (c .before .args .c) 10 (c .match .rest .0 .1), ne-eqb (c .before .args .c) 9 (c .match .rest .1))
 
 pub is-special-spec : {M : Type 1} → statement M
-is-special-spec = tie.close (tie.spec returns returns-2 returns-3 returns-4 returns-5 returns-6)
+is-special-spec =
+    tie.close
+    (tie.spec
+    (λ c. unfold special in rw (c .match .keys1)) (λ c. unfold special in rw (c .match .keys2))
+    (λ c. unfold special in rw (c .match .keys3)) (λ c. unfold special in rw (c .match .keys4))
+    (λ c. unfold special in rw (c .match .keys5)) returns-6)

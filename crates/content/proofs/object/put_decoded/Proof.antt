@@ -24,47 +24,11 @@ abbrev μ-loop : tie.MeasureT-loop
 loop-holds : tie.Need-loop-holds Inv-loop μ-loop
 loop-holds c = (refl, rw (value-start (c .before .before .args .v .now) 0) leads-start)
 
-run-end-requires : tie.Need-run-end-requires Inv-loop μ-loop
-run-end-requires c κs = search needs
-
-sub-put-all : tie.Need-sub-put-all Inv-loop μ-loop
-sub-put-all c = search needs
-
-part-put-all-start : tie.Need-part-put-all-start Inv-loop μ-loop
-part-put-all-start c = search needs
-
 part-put-all-end : tie.Need-part-put-all-end Inv-loop μ-loop
 part-put-all-end c = scan-high special (c .before .before .before .before .before .before .args .v .now) (c .before .before .before .loop .i) _ (c .before .run-end .ensures) (omega arith)
 
-put-all-requires : tie.Need-put-all-requires Inv-loop μ-loop
-put-all-requires c κs = search needs
-
-put-requires : tie.Need-put-requires Inv-loop μ-loop
-put-requires c κs = search needs
-
-same-length : tie.Need-same-length Inv-loop μ-loop
-same-length c = search needs
-
 returns : tie.Need-returns Inv-loop μ-loop
 returns c = leads-last (c .before .before .before .before .before .before .before .before .before .before .before .before .loop .inv .1) (then (c .before .before .before .before .before .before .before .put-all .ensures) (c .before .before .put .ensures)) (value-last (c .before .before .before .before .before .before .before .before .before .before .before .before .before .before .before .args .v .now) (c .before .before .before .before .before .before .before .before .before .before .before .before .loop .i) (c .before .before .before .before .before .before .before .before .before .before .run-end .result) (c .before .before .before .before .before .before .before .before .before .before .run-end .ensures) (c .before .before .before .before .if1 .taken))
-
-shared-slice-read-c : tie.Need-shared-slice-read-c Inv-loop μ-loop
-shared-slice-read-c c = search needs
-
-add-peek : tie.Need-add-peek Inv-loop μ-loop
-add-peek c = search needs
-
-peek-requires : tie.Need-peek-requires Inv-loop μ-loop
-peek-requires c κs = search needs
-
-stands-for-requires : tie.Need-stands-for-requires Inv-loop μ-loop
-stands-for-requires c κs = search needs
-
-put-escaped-requires : tie.Need-put-escaped-requires Inv-loop μ-loop
-put-escaped-requires c κs = search needs
-
-taken-requires : tie.Need-taken-requires Inv-loop μ-loop
-taken-requires c κs = search needs
 
 add-i : tie.Need-add-i Inv-loop μ-loop
 add-i c = omega (arith, takes-few _ _ (c .taken .result) (c .taken .ensures))
@@ -74,12 +38,6 @@ loop-less c = omega (arith, takes-some _ _ (c .taken .result) (c .taken .ensures
 
 loop-again : tie.Need-loop-again Inv-loop μ-loop
 loop-again c = (omega arith, leads-on (c .before .before .before .before .before .before .before .before .before .before .before .before .before .before .before .before .loop .inv .1) (then (c .before .before .before .before .before .before .before .before .before .before .before .put-all .ensures) (c .before .before .before .put-escaped .ensures)) (value-on (c .before .before .before .before .before .before .before .before .before .before .before .before .before .before .before .before .before .before .before .args .v .now) (c .before .before .before .before .before .before .before .before .before .before .before .before .before .before .before .before .loop .i) (c .before .before .before .before .before .before .before .before .before .before .before .before .before .before .run-end .result) (c .before .before .before .before .before .before .before .before .before .before .before .before .before .before .run-end .ensures) (c .before .before .before .before .before .before .before .before .if1 .left) (c .before .before .before .before .before .before .peek .result) (c .before .before .before .before .stands-for .result) (c .taken .result) (c .before .before .before .before .before .before .peek .ensures) (c .before .before .before .before .stands-for .ensures) (c .taken .ensures)))
-
-put-requires-2 : tie.Need-put-requires-2 Inv-loop μ-loop
-put-requires-2 c κs = search needs
-
-same-length-2 : tie.Need-same-length-2 Inv-loop μ-loop
-same-length-2 c = search needs
 
 returns-2 : tie.Need-returns-2 Inv-loop μ-loop
 returns-2 c = leads-last (c .before .before .before .before .before .loop .inv .1) (c .before .before .put2 .ensures) (value-none (c .before .before .before .before .before .before .before .before .args .v .now) (c .before .before .before .before .before .loop .i) (c .before .before .before .before .loop-test .left))
@@ -91,23 +49,23 @@ put-decoded-spec =
     Inv-loop
     μ-loop
     loop-holds
-    run-end-requires
-    sub-put-all
-    part-put-all-start
+    (λ c κs. search needs)
+    (λ c. search needs)
+    (λ c. search needs)
     part-put-all-end
-    put-all-requires
-    put-requires
-    same-length
+    (λ c κs. search needs)
+    (λ c κs. search needs)
+    (λ c. search needs)
     returns
-    shared-slice-read-c
-    add-peek
-    peek-requires
-    stands-for-requires
-    put-escaped-requires
-    taken-requires
+    (λ c. search needs)
+    (λ c. search needs)
+    (λ c κs. search needs)
+    (λ c κs. search needs)
+    (λ c κs. search needs)
+    (λ c κs. search needs)
     add-i
     loop-less
     loop-again
-    put-requires-2
-    same-length-2
+    (λ c κs. search needs)
+    (λ c. search needs)
     returns-2)

@@ -20,38 +20,8 @@ Inv-loop out₀ at name to₀ i₀ t6 out to i = (length out ≡ length out₀) 
 abbrev μ-loop : tie.MeasureT-loop
 μ-loop out₀ at name to₀ i₀ t6 out to i = length name - i
 
-put-requires : tie.Need-put-requires Inv-loop μ-loop
-put-requires c κs = search needs
-
-loop-holds : tie.Need-loop-holds Inv-loop μ-loop
-loop-holds c = search needs
-
-shared-slice-read-lower-octet : tie.Need-shared-slice-read-lower-octet Inv-loop μ-loop
-shared-slice-read-lower-octet c = search needs
-
-lower-octet-requires : tie.Need-lower-octet-requires Inv-loop μ-loop
-lower-octet-requires c κs = search needs
-
-put-escaped-requires : tie.Need-put-escaped-requires Inv-loop μ-loop
-put-escaped-requires c κs = search needs
-
-add-i : tie.Need-add-i Inv-loop μ-loop
-add-i c = search needs
-
-loop-less : tie.Need-loop-less Inv-loop μ-loop
-loop-less c = search needs
-
 loop-again : tie.Need-loop-again Inv-loop μ-loop
 loop-again c = (omega arith, leads-on (c .before .before .before .before .before .before .before .loop .inv .1) (rw (c .before .before .before .lower-octet .ensures) at (c .before .before .put-escaped .ensures)) (key-on (c .before .before .before .before .before .before .before .before .before .before .before .before .before .before .args .name .now) (c .before .before .before .before .before .before .before .loop .i) (c .before .before .before .before .before .before .loop-test .taken)))
-
-slice-aggregate-put-all : tie.Need-slice-aggregate-put-all Inv-loop μ-loop
-slice-aggregate-put-all c = search needs
-
-put-all-requires : tie.Need-put-all-requires Inv-loop μ-loop
-put-all-requires c κs = search needs
-
-same-length : tie.Need-same-length Inv-loop μ-loop
-same-length c = search needs
 
 returns : tie.Need-returns Inv-loop μ-loop
 returns c = as-text (then (c .before .before .before .before .before .before .before .before .before .put .ensures) (leads-last (c .before .before .before .before .before .before .loop .inv .1) (c .before .before .put-all .ensures) (key-end (c .before .before .before .before .before .before .before .before .before .before .before .before .before .args .name .now) (c .before .before .before .before .before .before .loop .i) (c .before .before .before .before .before .loop-test .left)))) (sym (key-text (c .before .before .before .before .before .before .before .before .before .before .before .before .before .args .name .now)))
@@ -62,15 +32,15 @@ put-key-spec =
     (tie.spec
     Inv-loop
     μ-loop
-    put-requires
-    loop-holds
-    shared-slice-read-lower-octet
-    lower-octet-requires
-    put-escaped-requires
-    add-i
-    loop-less
+    (λ c κs. search needs)
+    (λ c. search needs)
+    (λ c. search needs)
+    (λ c κs. search needs)
+    (λ c κs. search needs)
+    (λ c. search needs)
+    (λ c. search needs)
     loop-again
-    slice-aggregate-put-all
-    put-all-requires
-    same-length
+    (λ c. search needs)
+    (λ c κs. search needs)
+    (λ c. search needs)
     returns)

@@ -21,41 +21,11 @@ Inv-loop out₀ at values from i₀ to₀ out i to = (i ≤ length values) × (l
 abbrev μ-loop : tie.MeasureT-loop
 μ-loop out₀ at values from i₀ to₀ out i to = length values - i
 
-loop-holds : tie.Need-loop-holds Inv-loop μ-loop
-loop-holds c = (omega arith, refl, leads-start)
-
-next-bare-requires : tie.Need-next-bare-requires Inv-loop μ-loop
-next-bare-requires c κs = search needs
-
-put-requires : tie.Need-put-requires Inv-loop μ-loop
-put-requires c κs = search needs
-
-sub-put-value : tie.Need-sub-put-value Inv-loop μ-loop
-sub-put-value c = search needs
-
-part-put-value-start : tie.Need-part-put-value-start Inv-loop μ-loop
-part-put-value-start c = search needs
-
 part-put-value-end : tie.Need-part-put-value-end Inv-loop μ-loop
 part-put-value-end c = bare-high (oneOf (code ",") (code ",")) (c .before .before .before .before .before .before .before .before .before .args .values .now) (c .before .before .before .before .before .before .loop .i) _ (c .before .before .before .before .before .next-bare .ensures) (c .before .before .before .before .before .before .loop .inv .0)
 
-put-value-requires : tie.Need-put-value-requires Inv-loop μ-loop
-put-value-requires c κs = search needs
-
-put-requires-2 : tie.Need-put-requires-2 Inv-loop μ-loop
-put-requires-2 c κs = search needs
-
-same-length : tie.Need-same-length Inv-loop μ-loop
-same-length c = search needs
-
 returns : tie.Need-returns Inv-loop μ-loop
 returns c = leads-last (c .before .before .before .before .before .before .before .before .before .before .before .before .before .before .before .loop .inv .2) (then (then (c .before .before .before .before .before .before .before .before .before .before .before .before .put .ensures) (c .before .before .before .before .before .before .before .put-value .ensures)) (c .before .before .put2 .ensures)) (more-last (c .before .before .before .before .before .before .before .before .before .before .before .before .before .before .before .before .before .before .args .values .now) (c .before .before .before .before .before .before .before .before .before .before .before .before .before .before .before .loop .i) (c .before .before .before .before .before .before .before .before .before .before .before .before .before .before .next-bare .result) (c .before .before .before .before .before .before .before .before .before .before .before .before .before .before .next-bare .ensures) (c .before .before .before .before .if1 .taken))
-
-add-i : tie.Need-add-i Inv-loop μ-loop
-add-i c = search needs
-
-loop-less : tie.Need-loop-less Inv-loop μ-loop
-loop-less c = search needs
 
 loop-again : tie.Need-loop-again Inv-loop μ-loop
 loop-again c = (omega arith, omega arith, leads-on (c .before .before .before .before .before .before .before .before .before .before .before .loop .inv .2) (then (c .before .before .before .before .before .before .before .before .put .ensures) (c .before .before .before .put-value .ensures)) (more-on (c .before .before .before .before .before .before .before .before .before .before .before .before .before .before .args .values .now) (c .before .before .before .before .before .before .before .before .before .before .before .loop .i) (c .before .before .before .before .before .before .before .before .before .before .next-bare .result) (c .before .before .before .before .before .before .before .before .before .before .next-bare .ensures) (c .if1 .left)))
@@ -66,16 +36,16 @@ put-more-spec =
     (tie.spec
     Inv-loop
     μ-loop
-    loop-holds
-    next-bare-requires
-    put-requires
-    sub-put-value
-    part-put-value-start
+    (λ c. (omega arith, refl, leads-start))
+    (λ c κs. search needs)
+    (λ c κs. search needs)
+    (λ c. search needs)
+    (λ c. search needs)
     part-put-value-end
-    put-value-requires
-    put-requires-2
-    same-length
+    (λ c κs. search needs)
+    (λ c κs. search needs)
+    (λ c. search needs)
     returns
-    add-i
-    loop-less
+    (λ c. search needs)
+    (λ c. search needs)
     loop-again)

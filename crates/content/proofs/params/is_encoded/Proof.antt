@@ -16,47 +16,14 @@ Inv-loop s e₀ t8 e = (isEncoded (paramsIn s) ≡ isEncoded (paramsIn (drop e s
 abbrev μ-loop : tie.MeasureT-loop
 μ-loop s e₀ t8 e = length s - e
 
-next-bare-requires : tie.Need-next-bare-requires Inv-loop μ-loop
-next-bare-requires c κs = search needs
-
 loop-holds : tie.Need-loop-holds Inv-loop μ-loop
 loop-holds c = (rw (← first-params (c .before .before .args .s .now) 0 (c .next-bare .result) (c .next-bare .ensures)), first-stands (c .before .before .args .s .now) 0 (c .next-bare .result) (c .next-bare .ensures))
-
-add-i : tie.Need-add-i Inv-loop μ-loop
-add-i c = search needs
-
-param-at-requires : tie.Need-param-at-requires Inv-loop μ-loop
-param-at-requires c κs = search needs
-
-sub-same-name : tie.Need-sub-same-name Inv-loop μ-loop
-sub-same-name c = search needs
-
-part-same-name-start : tie.Need-part-same-name-start Inv-loop μ-loop
-part-same-name-start c = search needs
-
-part-same-name-end : tie.Need-part-same-name-end Inv-loop μ-loop
-part-same-name-end c = search needs
-
-slice-aggregate-same-name : tie.Need-slice-aggregate-same-name Inv-loop μ-loop
-slice-aggregate-same-name c = search needs
-
-same-name-requires : tie.Need-same-name-requires Inv-loop μ-loop
-same-name-requires c κs = search needs
-
-is-base64-requires : tie.Need-is-base64-requires Inv-loop μ-loop
-is-base64-requires c κs = search needs
 
 returns : tie.Need-returns Inv-loop μ-loop
 returns c = sym (c .before .before .before .before .before .before .before .before .loop .inv .0 ∙ encoded-here (c .before .before .before .before .before .before .before .before .before .before .before .args .s .now) (c .before .before .before .before .before .before .before .before .loop .e) (c .before .before .before .before .before .before .before .before .loop .inv .1) (c .before .before .before .before .before .before .before .loop-test .taken) (c .before .before .before .before .before .before .param-at .result) (c .before .before .before .before .before .before .param-at .ensures) (sym (c .before .before .before .same-name .ensures) ∙ c .before .before .if1 .taken) (sym (c .before .is-base64 .ensures) ∙ c .if2 .taken))
 
-loop-less : tie.Need-loop-less Inv-loop μ-loop
-loop-less c = search needs
-
 loop-again : tie.Need-loop-again Inv-loop μ-loop
 loop-again c = (c .before .before .before .before .before .before .before .before .loop .inv .0 ∙ encoded-not (c .before .before .before .before .before .before .before .before .before .before .before .args .s .now) (c .before .before .before .before .before .before .before .before .loop .e) (c .before .before .before .before .before .before .before .before .loop .inv .1) (c .before .before .before .before .before .before .before .loop-test .taken) (c .before .before .before .before .before .before .param-at .result) (c .before .before .before .before .before .before .param-at .ensures) (sym (c .before .before .before .same-name .ensures) ∙ c .before .before .if1 .taken) (sym (c .before .is-base64 .ensures) ∙ c .if2 .left), param-next (c .before .before .before .before .before .before .before .before .before .before .before .args .s .now) _ (c .before .before .before .before .before .before .param-at .result) (c .before .before .before .before .before .before .param-at .ensures))
-
-loop-less-2 : tie.Need-loop-less-2 Inv-loop μ-loop
-loop-less-2 c = search needs
 
 loop-again-2 : tie.Need-loop-again-2 Inv-loop μ-loop
 loop-again-2 c = (c .before .before .before .before .before .before .loop .inv .0 ∙ encoded-on (c .before .before .before .before .before .before .before .before .before .args .s .now) (c .before .before .before .before .before .before .loop .e) (c .before .before .before .before .before .before .loop .inv .1) (c .before .before .before .before .before .loop-test .taken) (c .before .before .before .before .param-at .result) (c .before .before .before .before .param-at .ensures) (sym (c .before .same-name .ensures) ∙ c .if1 .left), param-next (c .before .before .before .before .before .before .before .before .before .args .s .now) _ (c .before .before .before .before .param-at .result) (c .before .before .before .before .param-at .ensures))
@@ -70,19 +37,19 @@ is-encoded-spec =
     (tie.spec
     Inv-loop
     μ-loop
-    next-bare-requires
+    (λ c κs. search needs)
     loop-holds
-    add-i
-    param-at-requires
-    sub-same-name
-    part-same-name-start
-    part-same-name-end
-    slice-aggregate-same-name
-    same-name-requires
-    is-base64-requires
+    (λ c. search needs)
+    (λ c κs. search needs)
+    (λ c. search needs)
+    (λ c. search needs)
+    (λ c. search needs)
+    (λ c. search needs)
+    (λ c κs. search needs)
+    (λ c κs. search needs)
     returns
-    loop-less
+    (λ c. search needs)
     loop-again
-    loop-less-2
+    (λ c. search needs)
     loop-again-2
     returns-2)

@@ -16,26 +16,8 @@ Inv-loop s at b n i₀ i = i + length (until (λ c. eqb c b) (drop i s)) ≡ at 
 abbrev μ-loop : tie.MeasureT-loop
 μ-loop s at b n i₀ i = length s - i
 
-past-blocks-requires : tie.Need-past-blocks-requires Inv-loop μ-loop
-past-blocks-requires c κs = search needs
-
-loop-holds : tie.Need-loop-holds Inv-loop μ-loop
-loop-holds c = c .past-blocks .ensures
-
-sub-if1 : tie.Need-sub-if1 Inv-loop μ-loop
-sub-if1 c = search needs
-
-find-last-requires : tie.Need-find-last-requires Inv-loop μ-loop
-find-last-requires c κs = search needs
-
 returns : tie.Need-returns Inv-loop μ-loop
 returns c = c .find-last .ensures ∙ c .before .before .before .loop .inv
-
-in-eight-requires : tie.Need-in-eight-requires Inv-loop μ-loop
-in-eight-requires c κs = search needs
-
-add-if2 : tie.Need-add-if2 Inv-loop μ-loop
-add-if2 c = search needs
 
 returns-2 : tie.Need-returns-2 Inv-loop μ-loop
 returns-2 c = let f = c .before .in-eight .ensures in omega (arith, f .is, f .ends (c .if2 .taken))
@@ -55,13 +37,13 @@ find-spec =
     (tie.spec
     Inv-loop
     μ-loop
-    past-blocks-requires
-    loop-holds
-    sub-if1
-    find-last-requires
+    (λ c κs. search needs)
+    (λ c. c .past-blocks .ensures)
+    (λ c. search needs)
+    (λ c κs. search needs)
     returns
-    in-eight-requires
-    add-if2
+    (λ c κs. search needs)
+    (λ c. search needs)
     returns-2
     loop-less
     loop-again

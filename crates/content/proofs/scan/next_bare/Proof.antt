@@ -19,23 +19,8 @@ Inv-loop s at a b most i₀ i = (a ≤ most) × (b ≤ most) × (34 ≤ most) ×
 abbrev μ-loop : tie.MeasureT-loop
 μ-loop s at a b most i₀ i = length s - i
 
-greater-requires : tie.Need-greater-requires Inv-loop μ-loop
-greater-requires c κs = search needs
-
-greater-requires-2 : tie.Need-greater-requires-2 Inv-loop μ-loop
-greater-requires-2 c κs = search needs
-
 loop-holds : tie.Need-loop-holds Inv-loop μ-loop
 loop-holds c = (omega arith, omega arith, omega arith, refl)
-
-shared-slice-read-c : tie.Need-shared-slice-read-c Inv-loop μ-loop
-shared-slice-read-c c = search needs
-
-add-i : tie.Need-add-i Inv-loop μ-loop
-add-i c = search needs
-
-loop-less : tie.Need-loop-less Inv-loop μ-loop
-loop-less c = search needs
 
 loop-again : tie.Need-loop-again Inv-loop μ-loop
 loop-again c =
@@ -43,26 +28,14 @@ loop-again c =
     let p = c .before .before .before .before .before .before .before .args in
     (l .inv .0, l .inv .1, l .inv .2, omega (arith, bare-plain (λ x. eqb x (p .a) or eqb x (p .b)) (p .s .now) (l .i) (c .before .before .loop-test .taken) (above _ (p .a) (p .b) _ (l .inv .0) (l .inv .1) (c .if1 .taken)) (above-one _ 34 _ (l .inv .2) (c .if1 .taken)), l .inv .3))
 
-is-bare-requires : tie.Need-is-bare-requires Inv-loop μ-loop
-is-bare-requires c κs = search needs
-
 returns : tie.Need-returns Inv-loop μ-loop
 returns c =
     let l = c .before .before .before .before .before .loop in
     let p = c .before .before .before .before .before .before .before .before .before .args in
     omega (arith, bare-here (λ x. eqb x (p .a) or eqb x (p .b)) (p .s .now) (l .i) false (c .before .before .before .before .loop-test .taken) (sym (c .before .is-bare .ensures) ∙ c .if2 .taken), l .inv .3)
 
-next-past-quotes-requires : tie.Need-next-past-quotes-requires Inv-loop μ-loop
-next-past-quotes-requires c κs = search needs
-
 returns-2 : tie.Need-returns-2 Inv-loop μ-loop
 returns-2 c = c .next-past-quotes .ensures ∙ c .before .before .before .before .before .before .before .loop .inv .3
-
-add-i-2 : tie.Need-add-i-2 Inv-loop μ-loop
-add-i-2 c = search needs
-
-loop-less-2 : tie.Need-loop-less-2 Inv-loop μ-loop
-loop-less-2 c = search needs
 
 loop-again-2 : tie.Need-loop-again-2 Inv-loop μ-loop
 loop-again-2 c =
@@ -82,18 +55,18 @@ next-bare-spec =
     (tie.spec
     Inv-loop
     μ-loop
-    greater-requires
-    greater-requires-2
+    (λ c κs. search needs)
+    (λ c κs. search needs)
     loop-holds
-    shared-slice-read-c
-    add-i
-    loop-less
+    (λ c. search needs)
+    (λ c. search needs)
+    (λ c. search needs)
     loop-again
-    is-bare-requires
+    (λ c κs. search needs)
     returns
-    next-past-quotes-requires
+    (λ c κs. search needs)
     returns-2
-    add-i-2
-    loop-less-2
+    (λ c. search needs)
+    (λ c. search needs)
     loop-again-2
     returns-3)

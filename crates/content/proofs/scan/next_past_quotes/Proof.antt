@@ -18,26 +18,8 @@ Inv-loop s at a b i₀ quoted₀ i quoted = i + length (untilBare (λ c. eqb c a
 abbrev μ-loop : tie.MeasureT-loop
 μ-loop s at a b i₀ quoted₀ i quoted = length s - i
 
-loop-holds : tie.Need-loop-holds Inv-loop μ-loop
-loop-holds c = refl
-
-shared-slice-read-c : tie.Need-shared-slice-read-c Inv-loop μ-loop
-shared-slice-read-c c = search needs
-
-is-bare-requires : tie.Need-is-bare-requires Inv-loop μ-loop
-is-bare-requires c κs = search needs
-
 returns : tie.Need-returns Inv-loop μ-loop
 returns c = omega (arith, bare-here (λ x. eqb x (c .before .before .before .before .before .before .args .a) or eqb x (c .before .before .before .before .before .before .args .b)) (c .before .before .before .before .before .before .args .s .now) (c .before .before .before .before .loop .i) (c .before .before .before .before .loop .quoted) (c .before .before .before .loop-test .taken) (sym (c .before .is-bare .ensures) ∙ c .if1 .taken))
-
-quote-after-requires : tie.Need-quote-after-requires Inv-loop μ-loop
-quote-after-requires c κs = search needs
-
-add-i : tie.Need-add-i Inv-loop μ-loop
-add-i c = search needs
-
-loop-less : tie.Need-loop-less Inv-loop μ-loop
-loop-less c = search needs
 
 loop-again : tie.Need-loop-again Inv-loop μ-loop
 loop-again c = rw (c .quote-after .ensures) (omega (arith, bare-on (λ x. eqb x (c .before .before .before .before .before .before .before .args .a) or eqb x (c .before .before .before .before .before .before .before .args .b)) (c .before .before .before .before .before .before .before .args .s .now) (c .before .before .before .before .before .loop .i) (c .before .before .before .before .before .loop .quoted) (c .before .before .before .before .loop-test .taken) (sym (c .before .before .is-bare .ensures) ∙ c .before .if1 .left)))
@@ -51,12 +33,12 @@ next-past-quotes-spec =
     (tie.spec
     Inv-loop
     μ-loop
-    loop-holds
-    shared-slice-read-c
-    is-bare-requires
+    (λ c. refl)
+    (λ c. search needs)
+    (λ c κs. search needs)
     returns
-    quote-after-requires
-    add-i
-    loop-less
+    (λ c κs. search needs)
+    (λ c. search needs)
+    (λ c. search needs)
     loop-again
     returns-2)

@@ -41,34 +41,16 @@ claims t = (
   has-name-reads.Learnt,
 )
 
-twice-few-next-bare-requires : (t : ℕ) → twice-few-lts.Need-next-bare-requires (claims t) (twice-few-at t) twice-few.Post
-twice-few-next-bare-requires t c κs = search needs
-
 twice-few-returns : (t : ℕ) → twice-few-lts.Need-returns (claims t) (twice-few-at t) twice-few.Post
 twice-few-returns t c =
     let b = c .before in
     let s = b .before .before .args .s .now in
     sym (ap nameTwice (first-params s (b .before .before .args .from) (b .next-bare .result) (b .next-bare .ensures)) ∙ twice-none s (b .next-bare .result) (c .if1 .taken))
 
-twice-few-twice-many-requires : (t : ℕ) → twice-few-lts.Need-twice-many-requires (claims t) (twice-few-at t) twice-few.Post
-twice-few-twice-many-requires t c κs = search needs
-
 twice-few-returns-2 : (t : ℕ) → twice-few-lts.Need-returns-2 (claims t) (twice-few-at t) twice-few.Post
 twice-few-returns-2 t c =
     let b = c .before .before .before in
     c .twice-many .ensures ∙ sym (ap nameTwice (first-params (b .before .before .args .s .now) (b .before .before .args .from) (b .next-bare .result) (b .next-bare .ensures)))
-
-twice-few-add-i : (t : ℕ) → twice-few-lts.Need-add-i (claims t) (twice-few-at t) twice-few.Post
-twice-few-add-i t c = search needs
-
-twice-few-param-at-requires : (t : ℕ) → twice-few-lts.Need-param-at-requires (claims t) (twice-few-at t) twice-few.Post
-twice-few-param-at-requires t c κs = search needs
-
-twice-few-sub-twice-few : (t : ℕ) → twice-few-lts.Need-sub-twice-few (claims t) (twice-few-at t) twice-few.Post
-twice-few-sub-twice-few t c = omega arith
-
-twice-few-twice-few-requires : (t : ℕ) → twice-few-lts.Need-twice-few-requires (claims t) (twice-few-at t) twice-few.Post
-twice-few-twice-few-requires t c κs = (omega arith, tt)
 
 twice-few-returns-3 : (t : ℕ) → twice-few-lts.Need-returns-3 (claims t) (twice-few-at t) twice-few.Post
 twice-few-returns-3 t c =
@@ -81,18 +63,6 @@ twice-few-returns-3 t c =
     ap nameTwice (first-params s i e (b .next-bare .ensures))
     ∙ twice-behind s e (first-stands s i e (b .next-bare .ensures)) (p .before .before .if1 .left) (p .param-at .result) (p .param-at .ensures) (sym (c .before .twice-few .ensures) ∙ c .if3 .taken)
     )
-
-twice-few-sub-has-name : (t : ℕ) → twice-few-lts.Need-sub-has-name (claims t) (twice-few-at t) twice-few.Post
-twice-few-sub-has-name t c = search needs
-
-twice-few-part-has-name-start : (t : ℕ) → twice-few-lts.Need-part-has-name-start (claims t) (twice-few-at t) twice-few.Post
-twice-few-part-has-name-start t c = search needs
-
-twice-few-part-has-name-end : (t : ℕ) → twice-few-lts.Need-part-has-name-end (claims t) (twice-few-at t) twice-few.Post
-twice-few-part-has-name-end t c = search needs
-
-twice-few-has-name-requires : (t : ℕ) → twice-few-lts.Need-has-name-requires (claims t) (twice-few-at t) twice-few.Post
-twice-few-has-name-requires t c κs = search needs
 
 twice-few-returns-4 : (t : ℕ) → twice-few-lts.Need-returns-4 (claims t) (twice-few-at t) twice-few.Post
 twice-few-returns-4 t c =
@@ -112,17 +82,17 @@ pub +twice-few-spec : {M : Type 1} → statement M
 +twice-few-spec = close μ-twice-few λ t. twice-few-lts.spec (claims t)
     (twice-few-at t)
     twice-few.Post
-    (twice-few-next-bare-requires t)
+    (λ c κs. search needs)
     (twice-few-returns t)
-    (twice-few-twice-many-requires t)
+    (λ c κs. search needs)
     (twice-few-returns-2 t)
-    (twice-few-add-i t)
-    (twice-few-param-at-requires t)
-    (twice-few-sub-twice-few t)
-    (twice-few-twice-few-requires t)
+    (λ c. search needs)
+    (λ c κs. search needs)
+    (λ c. omega arith)
+    (λ c κs. (omega arith, tt))
     (twice-few-returns-3 t)
-    (twice-few-sub-has-name t)
-    (twice-few-part-has-name-start t)
-    (twice-few-part-has-name-end t)
-    (twice-few-has-name-requires t)
+    (λ c. search needs)
+    (λ c. search needs)
+    (λ c. search needs)
+    (λ c κs. search needs)
     (twice-few-returns-4 t)

@@ -20,23 +20,11 @@ Inv-loop s table name q₀ q = slotIn s (lower name) table ≡ q + passed s (low
 abbrev μ-loop : tie.MeasureT-loop
 μ-loop s table name q₀ q = length table - q
 
-slot-of-requires : tie.Need-slot-of-requires Inv-loop μ-loop
-slot-of-requires c κs = search needs
-
 loop-holds : tie.Need-loop-holds Inv-loop μ-loop
 loop-holds c = rw (c .slot-of .ensures) (seeking-start _ _ _)
 
-mul-p : tie.Need-mul-p Inv-loop μ-loop
-mul-p c = search needs
-
-shared-slice-read-p : tie.Need-shared-slice-read-p Inv-loop μ-loop
-shared-slice-read-p c = search needs
-
 returns : tie.Need-returns Inv-loop μ-loop
 returns c = let l = c .before .before .before .loop in seeking-free _ _ _ (l .q) (c .before .before .loop-test .taken) (c .if1 .taken) ∙ sym (l .inv)
-
-next-bare-requires : tie.Need-next-bare-requires Inv-loop μ-loop
-next-bare-requires c κs = search needs
 
 -- the place in a slot lies within the parameters
 place : (c : tie.After-next-bare Inv-loop μ-loop) → c .next-bare .result ≤ length (c .before .before .before .before .before .before .before .before .before .args .s .now)
@@ -44,30 +32,12 @@ place c =
     let l = c .before .before .before .before in
     bare-high (oneOf (code "=") (code ";")) _ _ _ (c .next-bare .ensures) (l .before .before .before .before .before .pre (l .loop .q))
 
-sub-same-name : tie.Need-sub-same-name Inv-loop μ-loop
-sub-same-name c = search needs
-
-part-same-name-start : tie.Need-part-same-name-start Inv-loop μ-loop
-part-same-name-start c = search needs
-
-part-same-name-end : tie.Need-part-same-name-end Inv-loop μ-loop
-part-same-name-end c = place c
-
-same-name-requires : tie.Need-same-name-requires Inv-loop μ-loop
-same-name-requires c κs = search needs
-
 returns-2 : tie.Need-returns-2 Inv-loop μ-loop
 returns-2 c =
     let l = c .before .before .before .before .before .before .before .loop in
     seeking-there _ _ _ (l .q) (c .before .before .before .before .before .before .loop-test .taken)
     (ap (same _) (name-seen _ _ _ (c .before .before .before .next-bare .ensures)) ∙ sym (same-lower _ _) ∙ sym (c .before .same-name .ensures) ∙ c .if2 .taken)
     ∙ sym (l .inv)
-
-add-q : tie.Need-add-q Inv-loop μ-loop
-add-q c = search needs
-
-loop-less : tie.Need-loop-less Inv-loop μ-loop
-loop-less c = search needs
 
 loop-again : tie.Need-loop-again Inv-loop μ-loop
 loop-again c =
@@ -85,18 +55,18 @@ slot-in-spec =
     (tie.spec
     Inv-loop
     μ-loop
-    slot-of-requires
+    (λ c κs. search needs)
     loop-holds
-    mul-p
-    shared-slice-read-p
+    (λ c. search needs)
+    (λ c. search needs)
     returns
-    next-bare-requires
-    sub-same-name
-    part-same-name-start
-    part-same-name-end
-    same-name-requires
+    (λ c κs. search needs)
+    (λ c. search needs)
+    (λ c. search needs)
+    (λ c. place c)
+    (λ c κs. search needs)
     returns-2
-    add-q
-    loop-less
+    (λ c. search needs)
+    (λ c. search needs)
     loop-again
     returns-3)

@@ -16,30 +16,6 @@ Inv-loop name h₀ i₀ h i = (h < 16381) × (slotFrom h (lower (drop i name)) �
 abbrev μ-loop : tie.MeasureT-loop
 μ-loop name h₀ i₀ h i = length name - i
 
-loop-holds : tie.Need-loop-holds Inv-loop μ-loop
-loop-holds c = (omega arith, slot-start _)
-
-mul-h : tie.Need-mul-h Inv-loop μ-loop
-mul-h c = omega arith
-
-shared-slice-read-lower-octet : tie.Need-shared-slice-read-lower-octet Inv-loop μ-loop
-shared-slice-read-lower-octet c = search needs
-
-lower-octet-requires : tie.Need-lower-octet-requires Inv-loop μ-loop
-lower-octet-requires c κs = search needs
-
-cast-h : tie.Need-cast-h Inv-loop μ-loop
-cast-h c = search needs
-
-add-h : tie.Need-add-h Inv-loop μ-loop
-add-h c = search needs
-
-add-i : tie.Need-add-i Inv-loop μ-loop
-add-i c = search needs
-
-loop-less : tie.Need-loop-less Inv-loop μ-loop
-loop-less c = search needs
-
 loop-again : tie.Need-loop-again Inv-loop μ-loop
 loop-again c =
     let l = c .before .before .before .loop in
@@ -51,4 +27,7 @@ returns c = let l = c .before .loop in slot-end _ (l .i) (l .h) (c .loop-test .l
 pub slot-of-spec : {M : Type 1} → statement M
 slot-of-spec =
     tie.close
-    (tie.spec Inv-loop μ-loop loop-holds mul-h shared-slice-read-lower-octet lower-octet-requires cast-h add-h add-i loop-less loop-again returns)
+    (tie.spec
+    Inv-loop μ-loop (λ c. (omega arith, slot-start _)) (λ c. omega arith) (λ c. search needs)
+    (λ c κs. search needs) (λ c. search needs) (λ c. search needs) (λ c. search needs)
+    (λ c. search needs) loop-again returns)

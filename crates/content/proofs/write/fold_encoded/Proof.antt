@@ -17,27 +17,6 @@ Inv-loop out₀ v q₀ i₀ out q i = (i ≤ length v) × (length out ≡ length
 abbrev μ-loop : tie.MeasureT-loop
 μ-loop out₀ v q₀ i₀ out q i = length v - i
 
-loop-holds : tie.Need-loop-holds Inv-loop μ-loop
-loop-holds c = (omega arith, refl, leads-start)
-
-plain-end-requires : tie.Need-plain-end-requires Inv-loop μ-loop
-plain-end-requires c κs = search needs
-
-sub-fold-all : tie.Need-sub-fold-all Inv-loop μ-loop
-sub-fold-all c = search needs
-
-part-fold-all-start : tie.Need-part-fold-all-start Inv-loop μ-loop
-part-fold-all-start c = search needs
-
-part-fold-all-end : tie.Need-part-fold-all-end Inv-loop μ-loop
-part-fold-all-end c = search needs
-
-fold-all-requires : tie.Need-fold-all-requires Inv-loop μ-loop
-fold-all-requires c κs = search needs
-
-same-length : tie.Need-same-length Inv-loop μ-loop
-same-length c = search needs
-
 returns : tie.Need-returns Inv-loop μ-loop
 returns c =
     let run = c .before .before .before in
@@ -49,15 +28,6 @@ returns c =
 shared-slice-read-fold-encoded-octet :
     tie.Need-shared-slice-read-fold-encoded-octet Inv-loop μ-loop
 shared-slice-read-fold-encoded-octet c = search needs
-
-fold-encoded-octet-requires : tie.Need-fold-encoded-octet-requires Inv-loop μ-loop
-fold-encoded-octet-requires c κs = search needs
-
-add-i : tie.Need-add-i Inv-loop μ-loop
-add-i c = search needs
-
-loop-less : tie.Need-loop-less Inv-loop μ-loop
-loop-less c = search needs
 
 loop-again : tie.Need-loop-again Inv-loop μ-loop
 loop-again c =
@@ -74,16 +44,16 @@ fold-encoded-spec =
     (tie.spec
     Inv-loop
     μ-loop
-    loop-holds
-    plain-end-requires
-    sub-fold-all
-    part-fold-all-start
-    part-fold-all-end
-    fold-all-requires
-    same-length
+    (λ c. (omega arith, refl, leads-start))
+    (λ c κs. search needs)
+    (λ c. search needs)
+    (λ c. search needs)
+    (λ c. search needs)
+    (λ c κs. search needs)
+    (λ c. search needs)
     returns
     shared-slice-read-fold-encoded-octet
-    fold-encoded-octet-requires
-    add-i
-    loop-less
+    (λ c κs. search needs)
+    (λ c. search needs)
+    (λ c. search needs)
     loop-again)

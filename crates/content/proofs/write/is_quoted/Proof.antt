@@ -16,24 +16,9 @@ Inv-loop v i₀ i = (i ≤ length v) × (any asksQuotes v ≡ any asksQuotes (dr
 abbrev μ-loop : tie.MeasureT-loop
 μ-loop v i₀ i = length v - i
 
-loop-holds : tie.Need-loop-holds Inv-loop μ-loop
-loop-holds c = (omega arith, refl)
-
-shared-slice-read-asks-quotes : tie.Need-shared-slice-read-asks-quotes Inv-loop μ-loop
-shared-slice-read-asks-quotes c = search needs
-
-asks-quotes-requires : tie.Need-asks-quotes-requires Inv-loop μ-loop
-asks-quotes-requires c κs = search needs
-
 returns : tie.Need-returns Inv-loop μ-loop
 unfolding any
 returns c = sym (c .before .before .before .before .loop .inv .1 ∙ rw (here _ _ (c .before .before .before .loop-test .taken), ← (c .before .asks-quotes .ensures), c .if1 .taken))
-
-add-i : tie.Need-add-i Inv-loop μ-loop
-add-i c = search needs
-
-loop-less : tie.Need-loop-less Inv-loop μ-loop
-loop-less c = search needs
 
 loop-again : tie.Need-loop-again Inv-loop μ-loop
 unfolding any
@@ -49,11 +34,11 @@ is-quoted-spec =
     (tie.spec
     Inv-loop
     μ-loop
-    loop-holds
-    shared-slice-read-asks-quotes
-    asks-quotes-requires
+    (λ c. (omega arith, refl))
+    (λ c. search needs)
+    (λ c κs. search needs)
     returns
-    add-i
-    loop-less
+    (λ c. search needs)
+    (λ c. search needs)
     loop-again
     returns-2)

@@ -6,21 +6,6 @@ use Rattle.content.proofs.Encoded.{plain-whole}
 use Rattle.content.proofs.write.write_param_value.Statement.{statement}
 use Rattle.content.proofs.write.write_param_value.Tie as tie
 
-is-quoted-requires : tie.Need-is-quoted-requires
-is-quoted-requires c κs = search needs
-
-fold-octet-requires : tie.Need-fold-octet-requires
-fold-octet-requires c κs = search needs
-
-fold-encoded-requires : tie.Need-fold-encoded-requires
-fold-encoded-requires c κs = search needs
-
-fold-octet-requires-2 : tie.Need-fold-octet-requires-2
-fold-octet-requires-2 c κs = search needs
-
-same-length : tie.Need-same-length
-same-length c = search needs
-
 returns : tie.Need-returns
 unfolding paramValueText quotedIf
 returns c =
@@ -28,15 +13,6 @@ returns c =
     let test = open-quote .before .before in
     rw (← (test .before .is-quoted .ensures), test .if1 .taken)
     (then (then (open-quote .fold-octet .ensures) (c .before .before .before .before .before .before .fold-encoded .ensures)) (c .before .before .fold-octet2 .ensures))
-
-plain-end-requires : tie.Need-plain-end-requires
-plain-end-requires c κs = search needs
-
-fold-all-requires : tie.Need-fold-all-requires
-fold-all-requires c κs = search needs
-
-same-length-2 : tie.Need-same-length-2
-same-length-2 c = search needs
 
 returns-2 : tie.Need-returns-2
 unfolding paramValueText quotedIf
@@ -46,12 +22,6 @@ returns-2 c =
     let plain = plain-whole (test .before .before .before .before .args .v .now) (rw (c .before .before .before .before .if2 .taken) at (found .plain-end .ensures .2)) in
     rw (← (test .before .is-quoted .ensures), test .if1 .left, plain) (c .before .before .fold-all .ensures)
 
-fold-encoded-requires-2 : tie.Need-fold-encoded-requires-2
-fold-encoded-requires-2 c κs = search needs
-
-same-length-3 : tie.Need-same-length-3
-same-length-3 c = search needs
-
 returns-3 : tie.Need-returns-3
 unfolding paramValueText quotedIf
 returns-3 c = rw (← (c .before .before .before .before .before .before .before .is-quoted .ensures), c .before .before .before .before .before .before .if1 .left) (c .before .before .fold-encoded2 .ensures)
@@ -60,16 +30,16 @@ pub write-param-value-spec : {M : Type 1} → statement M
 write-param-value-spec =
     tie.close
     (tie.spec
-    is-quoted-requires
-    fold-octet-requires
-    fold-encoded-requires
-    fold-octet-requires-2
-    same-length
+    (λ c κs. search needs)
+    (λ c κs. search needs)
+    (λ c κs. search needs)
+    (λ c κs. search needs)
+    (λ c. search needs)
     returns
-    plain-end-requires
-    fold-all-requires
-    same-length-2
+    (λ c κs. search needs)
+    (λ c κs. search needs)
+    (λ c. search needs)
     returns-2
-    fold-encoded-requires-2
-    same-length-3
+    (λ c κs. search needs)
+    (λ c. search needs)
     returns-3)

@@ -52,60 +52,21 @@ Inv-loop t at left rows out₀ to text₀ rule₀ a name begun c first q₀ i₀
 abbrev μ-loop : lts.MeasureT-loop
 μ-loop t at left rows out₀ to text₀ rule₀ a name begun c first q₀ i₀ word out text rule q i = length t - i
 
-after-requires : (t : ℕ) → lts.Need-after-requires (claims t) (here t) self.Post Inv-loop μ-loop
-after-requires t c κs = search needs
-
-text-at-requires : (t : ℕ) → lts.Need-text-at-requires (claims t) (here t) self.Post Inv-loop μ-loop
-text-at-requires t c κs = search needs
-
-slice-aggregate-write-mark : (t : ℕ) → lts.Need-slice-aggregate-write-mark (claims t) (here t) self.Post Inv-loop μ-loop
-slice-aggregate-write-mark t c = search needs
-
 write-mark-requires : (t : ℕ) → lts.Need-write-mark-requires (claims t) (here t) self.Post Inv-loop μ-loop
 write-mark-requires t c κs = (c .before .before .text-at .ensures .order, c .before .before .text-at .ensures .within)
 
 convert-properties-requires : (t : ℕ) → lts.Need-convert-properties-requires (claims t) (here t) self.Post Inv-loop μ-loop
 convert-properties-requires t c κs = (properties-there _ (c .before .before .before .before .before .before .before .before .before .before .before .before .before .before .before .pre .1 .0) (c .before .before .before .before .before .before .before .before .before .after .ensures) (c .before .before .before .before .before .before .before .before .text-at .ensures .behind), c .before .before .before .before .before .before .before .before .before .before .before .before .before .before .before .pre .1 .1, c .before .before .before .before .before .before .before .before .before .before .before .before .before .before .before .pre .1 .2)
 
-enum-known-p : (t : ℕ) → lts.Need-enum-known-p (claims t) (here t) self.Post Inv-loop μ-loop
-enum-known-p t c = search needs
-
-enum-told : (t : ℕ) → lts.Need-enum-told (claims t) (here t) self.Post Inv-loop μ-loop
-enum-told t c = search needs
-
-same-length : (t : ℕ) → lts.Need-same-length (claims t) (here t) self.Post Inv-loop μ-loop
-same-length t c = search needs
-
-same-length-2 : (t : ℕ) → lts.Need-same-length-2 (claims t) (here t) self.Post Inv-loop μ-loop
-same-length-2 t c = search needs
-
-same-length-3 : (t : ℕ) → lts.Need-same-length-3 (claims t) (here t) self.Post Inv-loop μ-loop
-same-length-3 t c = search needs
-
 returns : (t : ℕ) → lts.Need-returns (claims t) (here t) self.Post Inv-loop μ-loop
 returns t c =
     let r = refuses _ _ _ _ _ _ _ _ (c .before .before .before .before .before .before .before .before .convert-properties .ensures) (c .enum-told .given .1) in
     rw (c .enum-told .given .1) (component-refused _ (c .before .before .before .before .before .before .before .before .before .before .before .before .before .before .before .before .before .before .before .before .before .before .before .before .pre .1 .0) (c .before .before .before .before .before .before .before .before .before .before .before .before .before .before .before .before .before .before .after .ensures) (c .before .before .before .before .before .before .before .before .before .before .before .before .before .before .before .before .before .text-at .ensures .behind) _ (r .0), front-behind (c .before .before .before .before .before .before .before .before .before .before .before .before .before .before .write-mark .ensures) (r .1))
 
-after-requires-2 : (t : ℕ) → lts.Need-after-requires-2 (claims t) (here t) self.Post Inv-loop μ-loop
-after-requires-2 t c κs = search needs
-
 loop-holds : (t : ℕ) → lts.Need-loop-holds (claims t) (here t) self.Post Inv-loop μ-loop
 loop-holds t c =
     let z = passes _ _ _ _ _ _ _ _ (c .before .before .before .before .before .before .before .before .before .before .convert-properties .ensures) (c .before .before .p .given .1) in
     ((_, nothing), refl, refl, walking-start (isComponent (c .before .before .before .before .before .before .before .before .before .before .before .before .before .before .before .before .before .before .before .before .before .before .before .before .before .before .args .left - 1)) (subs-there _ (c .before .before .before .before .before .before .before .before .before .before .before .before .before .before .before .before .before .before .before .before .before .before .before .before .before .before .pre .1 .0) (c .before .before .before .before .before .before .before .before .before .before .before .before .before .before .before .before .before .before .before .before .after .ensures) (c .before .before .before .before .before .before .before .before .before .before .before .before .before .before .before .before .before .before .before .text-at .ensures .behind) (z .behind)) (c .after2 .ensures), refl, leads-start)
-
-tag-requires : (t : ℕ) → lts.Need-tag-requires (claims t) (here t) self.Post Inv-loop μ-loop
-tag-requires t c κs = search needs
-
-after-requires-3 : (t : ℕ) → lts.Need-after-requires-3 (claims t) (here t) self.Post Inv-loop μ-loop
-after-requires-3 t c κs = search needs
-
-leave-requires : (t : ℕ) → lts.Need-leave-requires (claims t) (here t) self.Post Inv-loop μ-loop
-leave-requires t c κs = search needs
-
-slice-aggregate-write-mark-2 : (t : ℕ) → lts.Need-slice-aggregate-write-mark-2 (claims t) (here t) self.Post Inv-loop μ-loop
-slice-aggregate-write-mark-2 t c = search needs
 
 write-mark-requires-2 : (t : ℕ) → lts.Need-write-mark-requires-2 (claims t) (here t) self.Post Inv-loop μ-loop
 write-mark-requires-2 t c κs = (c .before .before .before .before .before .before .before .before .before .before .before .before .before .before .before .before .before .before .before .before .before .before .before .before .before .before .text-at .ensures .order, c .before .before .before .before .before .before .before .before .before .before .before .before .before .before .before .before .before .before .before .before .before .before .before .before .before .before .text-at .ensures .within)
@@ -135,12 +96,6 @@ sub-convert-component t c = omega (arith, composed _ _ (c .before .before .befor
 
 convert-component-requires : (t : ℕ) → lts.Need-convert-component-requires (claims t) (here t) self.Post Inv-loop μ-loop
 convert-component-requires t c κs = (omega (arith, composed _ _ (c .before .before .before .before .before .before .before .before .before .before .before .before .before .before .before .before .before .before .before .before .before .before .before .before .before .before .before .before .before .before .before .before .pre .1 .0) .levels, c .before .before .before .before .before .before .before .before .before .before .before .before .before .before .before .before .before .before .before .before .before .before .before .before .before .before .before .before .before .before .before .before .pre .0), (walking-here (c .before .before .before .before .before .loop .inv .3) (λ e. c .before .before .before .if1 .left (c .before .before .before .before .tag .ensures ∙ e)), omega (arith, c .before .before .before .before .before .loop .inv .1, c .before .before .before .before .before .before .before .before .before .before .before .before .before .before .before .before .before .before .before .before .before .before .before .before .before .before .before .before .before .before .before .before .pre .1 .1), omega (arith, c .before .before .before .before .before .loop .inv .2, c .before .before .before .before .before .before .before .before .before .before .before .before .before .before .before .before .before .before .before .before .before .before .before .before .before .before .before .before .before .before .before .before .pre .1 .2)))
-
-enum-known-s : (t : ℕ) → lts.Need-enum-known-s (claims t) (here t) self.Post Inv-loop μ-loop
-enum-known-s t c = search needs
-
-enum-told-2 : (t : ℕ) → lts.Need-enum-told-2 (claims t) (here t) self.Post Inv-loop μ-loop
-enum-told-2 t c = search needs
 
 same-length-7 : (t : ℕ) → lts.Need-same-length-7 (claims t) (here t) self.Post Inv-loop μ-loop
 same-length-7 t c = c .before .before .before .before .before .before .before .before .convert-component .kept .1 .1 .1 .1 .0 ∙ kept (c .before .before .before .before .before .before .before .before .before .before .before .before .before .before .loop .inv .0 .1) ∙ c .before .before .before .before .before .before .before .before .before .before .before .before .before .before .before .before .before .before .before .before .before .before .before .before .before .convert-properties .kept .1 .1 .1 .0 ∙ c .before .before .before .before .before .before .before .before .before .before .before .before .before .before .before .before .before .before .before .before .before .before .before .before .before .before .before .before .before .before .before .write-mark .kept .0
@@ -179,23 +134,23 @@ pub +convert-component-spec : {M : Type 1} → statement M
     self.Post
     Inv-loop
     μ-loop
-    (after-requires t)
-    (text-at-requires t)
-    (slice-aggregate-write-mark t)
+    (λ c κs. search needs)
+    (λ c κs. search needs)
+    (λ c. search needs)
     (write-mark-requires t)
     (convert-properties-requires t)
-    (enum-known-p t)
-    (enum-told t)
-    (same-length t)
-    (same-length-2 t)
-    (same-length-3 t)
+    (λ c. search needs)
+    (λ c. search needs)
+    (λ c. search needs)
+    (λ c. search needs)
+    (λ c. search needs)
     (returns t)
-    (after-requires-2 t)
+    (λ c κs. search needs)
     (loop-holds t)
-    (tag-requires t)
-    (after-requires-3 t)
-    (leave-requires t)
-    (slice-aggregate-write-mark-2 t)
+    (λ c κs. search needs)
+    (λ c κs. search needs)
+    (λ c κs. search needs)
+    (λ c. search needs)
     (write-mark-requires-2 t)
     (same-length-4 t)
     (same-length-5 t)
@@ -203,8 +158,8 @@ pub +convert-component-spec : {M : Type 1} → statement M
     (returns-2 t)
     (sub-convert-component t)
     (convert-component-requires t)
-    (enum-known-s t)
-    (enum-told-2 t)
+    (λ c. search needs)
+    (λ c. search needs)
     (same-length-7 t)
     (same-length-8 t)
     (same-length-9 t)

@@ -7,20 +7,8 @@ use borrow.Author.Needs.{needs}
 use Rattle.ical.proofs.converting.convert_sound.Statement.{statement}
 use Rattle.ical.proofs.converting.convert_sound.Tie as tie
 
-is-sound-requires : tie.Need-is-sound-requires
-is-sound-requires c κs = search needs
-
 returns : tie.Need-returns
 returns c = (unsound _ _ (sym (c .before .is-sound .ensures) ∙ not-true _ (c .if1 .taken)), front-same)
-
-shape-of-requires : tie.Need-shape-of-requires
-shape-of-requires c κs = search needs
-
-enum-known-s : tie.Need-enum-known-s
-enum-known-s c = search needs
-
-enum-told : tie.Need-enum-told
-enum-told c = search needs
 
 returns-2 : tie.Need-returns-2
 returns-2 c = (other-shape _ _ (sym (c .before .before .before .before .is-sound .ensures) ∙ not-false _ (c .before .before .before .if1 .left)) (other-told _ _ (c .before .before .shape-of .ensures) (c .enum-told .given .1)), front-same)
@@ -35,15 +23,6 @@ convert-component-requires c κs =
     let k = calendar-told _ _ (c .before .before .before .before .before .before .before .shape-of .ensures) (c .before .before .before .before .before .s .given .1) in
     (component-there _ (k .0) (k .1) (c .before .before .before .if2 .left), c .before .before .before .before .before .before .before .before .before .before .before .before .before .before .before .pre .0, c .before .before .before .before .before .before .before .before .before .before .before .before .before .before .before .pre .1)
 
-same-length : tie.Need-same-length
-same-length c = search needs
-
-same-length-2 : tie.Need-same-length-2
-same-length-2 c = search needs
-
-same-length-3 : tie.Need-same-length-3
-same-length-3 c = search needs
-
 returns-4 : tie.Need-returns-4
 returns-4 c =
     let k = calendar-told _ _ (c .before .before .before .before .before .before .before .before .before .before .before .before .before .before .shape-of .ensures) (c .before .before .before .before .before .before .before .before .before .before .before .before .s .given .1) in
@@ -53,15 +32,15 @@ pub convert-sound-spec : {M : Type 1} → statement M
 convert-sound-spec =
     tie.close
     (tie.spec
-    is-sound-requires
+    (λ c κs. search needs)
     returns
-    shape-of-requires
-    enum-known-s
-    enum-told
+    (λ c κs. search needs)
+    (λ c. search needs)
+    (λ c. search needs)
     returns-2
     returns-3
     convert-component-requires
-    same-length
-    same-length-2
-    same-length-3
+    (λ c. search needs)
+    (λ c. search needs)
+    (λ c. search needs)
     returns-4)

@@ -10,18 +10,6 @@ use Rattle.ical.proofs.lines.write_kind.Tie as tie
 returns : tie.Need-returns
 returns c = rw (not-true (c .before .before .before .args .shown) (c .if1 .taken)) (as-folded none (sym (hidden-kind _)))
 
-slice-aggregate-begin-param : tie.Need-slice-aggregate-begin-param
-slice-aggregate-begin-param c = search needs
-
-begin-param-requires : tie.Need-begin-param-requires
-begin-param-requires c κs = search needs
-
-fold-upper-requires : tie.Need-fold-upper-requires
-fold-upper-requires c κs = search needs
-
-same-length : tie.Need-same-length
-same-length c = search needs
-
 returns-2 : tie.Need-returns-2
 returns-2 c = rw (not-false (c .before .before .before .before .before .before .before .before .before .before .before .before .args .shown) (c .before .before .before .before .before .before .before .before .before .if1 .left)) (as-folded (then (c .before .before .before .before .before .before .begin-param .ensures) (c .before .before .fold-upper .ensures)) (sym (shown-kind _ (c .before .before .before .before .before .before .before .before .before .before .before .before .pre))))
 
@@ -30,8 +18,8 @@ write-kind-spec =
     tie.close
     (tie.spec
     returns
-    slice-aggregate-begin-param
-    begin-param-requires
-    fold-upper-requires
-    same-length
+    (λ c. search needs)
+    (λ c κs. search needs)
+    (λ c κs. search needs)
+    (λ c. search needs)
     returns-2)

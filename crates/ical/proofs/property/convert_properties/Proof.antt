@@ -27,17 +27,8 @@ Inv-loop t at rows out₀ to text₀ rule₀ i₀ q₀ out text rule i q =
 abbrev μ-loop : tie.MeasureT-loop
 μ-loop t at rows out₀ to text₀ rule₀ i₀ q₀ out text rule i q = length t - i
 
-after-requires : tie.Need-after-requires Inv-loop μ-loop
-after-requires c κs = search needs
-
 loop-holds : tie.Need-loop-holds Inv-loop μ-loop
 loop-holds c = ((_, nothing), refl, refl, walking-start isProperty (c .before .before .before .before .before .before .pre .0) (c .after .ensures), refl, leads-start)
-
-tag-requires : tie.Need-tag-requires Inv-loop μ-loop
-tag-requires c κs = search needs
-
-after-requires-2 : tie.Need-after-requires-2 Inv-loop μ-loop
-after-requires-2 c κs = search needs
 
 same-length : tie.Need-same-length Inv-loop μ-loop
 same-length c = omega (arith, kept (c .before .before .before .loop .inv .0 .1))
@@ -59,9 +50,6 @@ returns c =
 convert-property-requires : tie.Need-convert-property-requires Inv-loop μ-loop
 convert-property-requires c κs = (walking-here (c .before .before .before .before .before .loop .inv .3) (λ e. c .before .before .before .if1 .left (c .before .before .before .before .tag .ensures ∙ e)), omega (arith, c .before .before .before .before .before .loop .inv .1, c .before .before .before .before .before .before .before .before .before .before .before .before .pre .1), omega (arith, c .before .before .before .before .before .loop .inv .2, c .before .before .before .before .before .before .before .before .before .before .before .before .pre .2))
 
-enum-known-p : tie.Need-enum-known-p Inv-loop μ-loop
-enum-known-p c = search needs
-
 loop-less : tie.Need-loop-less Inv-loop μ-loop
 loop-less c =
     let y = passes _ _ _ _ _ _ _ _ (c .before .before .before .before .before .before .before .before .before .convert-property .ensures) (c .before .p .given .1) .behind in
@@ -77,9 +65,6 @@ loop-again c =
       sym (properties-on _ _ _ (λ e. c .before .before .before .before .before .before .before .before .before .before .before .before .before .if1 .left (c .before .before .before .before .before .before .before .before .before .before .before .before .before .before .tag .ensures ∙ e)) (y .behind) (y .faultless)) ∙ c .before .before .before .before .before .before .before .before .before .before .before .before .before .before .before .loop .inv .4,
       leads-on (c .before .before .before .before .before .before .before .before .before .before .before .before .before .before .before .loop .inv .5) (y .wrote) (lines-on _ _ _ (λ e. c .before .before .before .before .before .before .before .before .before .before .before .before .before .if1 .left (c .before .before .before .before .before .before .before .before .before .before .before .before .before .before .tag .ensures ∙ e)) (y .behind)),
     )
-
-enum-known-p-2 : tie.Need-enum-known-p-2 Inv-loop μ-loop
-enum-known-p-2 c = search needs
 
 same-length-4 : tie.Need-same-length-4 Inv-loop μ-loop
 same-length-4 c = omega (arith, kept (c .before .before .before .before .before .before .before .before .before .before .before .before .before .before .before .loop .inv .0 .1))
@@ -101,19 +86,19 @@ convert-properties-spec =
     (tie.spec
     Inv-loop
     μ-loop
-    after-requires
+    (λ c κs. search needs)
     loop-holds
-    tag-requires
-    after-requires-2
+    (λ c κs. search needs)
+    (λ c κs. search needs)
     same-length
     same-length-2
     same-length-3
     returns
     convert-property-requires
-    enum-known-p
+    (λ c. search needs)
     loop-less
     loop-again
-    enum-known-p-2
+    (λ c. search needs)
     same-length-4
     same-length-5
     same-length-6

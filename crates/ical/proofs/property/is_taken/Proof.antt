@@ -9,24 +9,6 @@ use Rattle.ical.proofs.property.is_taken.Tie as tie
 returns : tie.Need-returns
 returns c = rw (not-true (c .before .before .before .before .args .k .taken) (c .if1 .taken))
 
-sort-of-requires : tie.Need-sort-of-requires
-sort-of-requires c κs = search needs
-
-text-at-requires : tie.Need-text-at-requires
-text-at-requires c κs = search needs
-
-sub-holds-values : tie.Need-sub-holds-values
-sub-holds-values c = search needs
-
-part-holds-values-start : tie.Need-part-holds-values-start
-part-holds-values-start c = search needs
-
-part-holds-values-end : tie.Need-part-holds-values-end
-part-holds-values-end c = search needs
-
-holds-values-requires : tie.Need-holds-values-requires
-holds-values-requires c κs = search needs
-
 returns-2 : tie.Need-returns-2
 returns-2 c = rw (not-false (c .before .before .before .before .before .before .before .before .args .k .taken) (c .before .before .before .before .if1 .left)) (c .holds-values .ensures ∙ taken-by-sort _ _ _ _ (c .before .before .before .sort-of .ensures) (c .before .before .text-at .ensures .part ∙ first-octets _ _))
 
@@ -35,10 +17,10 @@ is-taken-spec =
     tie.close
     (tie.spec
     returns
-    sort-of-requires
-    text-at-requires
-    sub-holds-values
-    part-holds-values-start
-    part-holds-values-end
-    holds-values-requires
+    (λ c κs. search needs)
+    (λ c κs. search needs)
+    (λ c. search needs)
+    (λ c. search needs)
+    (λ c. search needs)
+    (λ c κs. search needs)
     returns-2)

@@ -6,23 +6,8 @@ use borrow.Author.Needs.{needs}
 use Rattle.ical.proofs.property.write_stood.Statement.{statement}
 use Rattle.ical.proofs.property.write_stood.Tie as tie
 
-is-taken-requires : tie.Need-is-taken-requires
-is-taken-requires c κs = search needs
-
 returns : tie.Need-returns
 returns c = (not-taken _ _ _ (c .before .is-taken .ensures) (not-true _ (c .if1 .taken)), front-same)
-
-write-tested-requires : tie.Need-write-tested-requires
-write-tested-requires c κs = search needs
-
-same-length : tie.Need-same-length
-same-length c = search needs
-
-same-length-2 : tie.Need-same-length-2
-same-length-2 c = search needs
-
-same-length-3 : tie.Need-same-length-3
-same-length-3 c = search needs
 
 returns-2 : tie.Need-returns-2
 returns-2 c = stood (c .before .before .before .before .before .before .before .before .before .before .before .before .before .before .before .before .before .args .k) _ (c .before .before .before .before .before .before .before .before .before .before .before .before .before .before .before .before .before .args .t .now) (c .before .before .before .before .before .before .before .before .before .before .before .before .before .before .before .before .before .args .text .now) (c .before .before .before .before .before .before .before .before .before .before .before .before .before .before .before .before .before .args .rule .now) _ _ _ (c .before .before .before .before .before .before .write-tested .result) (c .before .before .before .before .before .before .before .before .before .before .before .is-taken .ensures) (not-false _ (c .before .before .before .before .before .before .before .before .before .before .if1 .left)) (c .before .before .before .before .before .before .before .before .before .before .before .before .before .before .before .before .before .pre .0) (c .before .before .before .before .before .before .before .before .before .before .before .before .before .before .before .before .before .pre .1) (c .before .before .before .before .before .before .write-tested .ensures)
@@ -31,10 +16,10 @@ pub write-stood-spec : {M : Type 1} → statement M
 write-stood-spec =
     tie.close
     (tie.spec
-    is-taken-requires
+    (λ c κs. search needs)
     returns
-    write-tested-requires
-    same-length
-    same-length-2
-    same-length-3
+    (λ c κs. search needs)
+    (λ c. search needs)
+    (λ c. search needs)
+    (λ c. search needs)
     returns-2)

@@ -17,18 +17,12 @@ Inv-loop s i₀ i = all wordOctet (drop i s) ≡ all wordOctet s
 abbrev μ-loop : tie.MeasureT-loop
 μ-loop s i₀ i = length s - i
 
-loop-holds : tie.Need-loop-holds Inv-loop μ-loop
-loop-holds c = refl
-
 returns : tie.Need-returns Inv-loop μ-loop
 returns c =
     let at-is-word-octet = c .before in
     let at-loop-test = at-is-word-octet .before .before in
     let at-loop = at-loop-test .before in
     sym (all-stop wordOctet _ _ (at-loop-test .loop-test .taken) (sym (at-is-word-octet .is-word-octet .ensures) ∙ not-true _ (c .if1 .taken))) ∙ at-loop .loop .inv
-
-loop-less : tie.Need-loop-less Inv-loop μ-loop
-loop-less c = omega arith
 
 loop-again : tie.Need-loop-again Inv-loop μ-loop
 loop-again c =
@@ -46,11 +40,11 @@ is-word-spec =
     (tie.spec
     Inv-loop
     μ-loop
-    loop-holds
+    (λ c. refl)
     (λ c. search needs)
     (λ c κs. search needs)
     returns
     (λ c. search needs)
-    loop-less
+    (λ c. omega arith)
     loop-again
     returns-2)

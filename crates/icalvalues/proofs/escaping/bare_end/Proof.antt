@@ -15,17 +15,11 @@ Inv-loop s i r₀ r = Bare s i r
 abbrev μ-loop : tie.MeasureT-loop
 μ-loop s i r₀ r = length s - r
 
-loop-holds : tie.Need-loop-holds Inv-loop μ-loop
-loop-holds c = c .past-blocks .ensures
-
 returns : tie.Need-returns Inv-loop μ-loop
 returns c = c .before .before .before .before .loop .inv
 
 loop-again : tie.Need-loop-again Inv-loop μ-loop
 loop-again c = bare-more (c .before .before .before .before .loop .inv) (c .before .before .before .loop-test .taken) (sym (c .before .is-bare .ensures) ∙ not-false _ (c .if1 .left))
-
-returns-2 : tie.Need-returns-2 Inv-loop μ-loop
-returns-2 c = c .before .loop .inv
 
 pub bare-end-spec : {M : Type 1} → statement M
 bare-end-spec =
@@ -34,11 +28,11 @@ bare-end-spec =
     Inv-loop
     μ-loop
     (λ c κs. search needs)
-    loop-holds
+    (λ c. c .past-blocks .ensures)
     (λ c. search needs)
     (λ c κs. search needs)
     returns
     (λ c. search needs)
     (λ c. search needs)
     loop-again
-    returns-2)
+    (λ c. c .before .loop .inv))

@@ -15,20 +15,11 @@ Inv-loop s i n r₀ r = Bare s i r
 abbrev μ-loop : tie.MeasureT-loop
 μ-loop s i n r₀ r = length s - r
 
-loop-holds : tie.Need-loop-holds Inv-loop μ-loop
-loop-holds c = bare-none (c .before .pre)
-
-returns : tie.Need-returns Inv-loop μ-loop
-returns c = c .before .before .loop .inv
-
 loop-again : tie.Need-loop-again Inv-loop μ-loop
 loop-again c = bare-block (c .before .before .before .before .before .loop .inv) _ (omega arith) (omega arith) (sym (c .before .all-bare .ensures) ∙ c .if2 .taken)
 
 returns-2 : tie.Need-returns-2 Inv-loop μ-loop
 returns-2 c = c .before .before .before .before .before .loop .inv
-
-returns-3 : tie.Need-returns-3 Inv-loop μ-loop
-returns-3 c = c .before .loop .inv
 
 pub past-blocks-spec : {M : Type 1} → statement M
 past-blocks-spec =
@@ -36,9 +27,9 @@ past-blocks-spec =
     (tie.spec
     Inv-loop
     μ-loop
-    loop-holds
+    (λ c. bare-none (c .before .pre))
     (λ c. search needs)
-    returns
+    (λ c. c .before .before .loop .inv)
     (λ c. search needs)
     (λ c. search needs)
     (λ c. search needs)
@@ -48,4 +39,4 @@ past-blocks-spec =
     (λ c. search needs)
     loop-again
     returns-2
-    returns-3)
+    (λ c. c .before .loop .inv))

@@ -15,9 +15,6 @@ returns c = (first-short _ _ _ _ (c .if1 .taken), front-same)
 returns-2 : tie.Need-returns-2
 returns-2 c = (second-short _ _ _ _ (c .if2 .taken), front-same)
 
-write-values-requires : tie.Need-write-values-requires
-write-values-requires c κs = no-recur _ (c .before .match .keys2)
-
 returns-3 : tie.Need-returns-3
 returns-3 c = rw (room _ _ (c .before .before .before .before .before .before .if1 .left), room _ _ (c .before .before .before .before .before .if2 .left)) (c .before .before .write-values .ensures)
 
@@ -59,7 +56,7 @@ write-tested-spec =
     returns
     returns-2
     (λ c. search needs)
-    write-values-requires
+    (λ c κs. no-recur _ (c .before .match .keys2))
     (λ c. search needs)
     returns-3
     (λ c κs. search needs)

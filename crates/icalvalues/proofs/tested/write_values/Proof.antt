@@ -13,14 +13,6 @@ use borrow.Author.Needs.{needs}
 use Rattle.icalvalues.proofs.tested.write_values.Statement.{statement}
 use Rattle.icalvalues.proofs.tested.write_values.Tie as tie
 
-write-parts-requires : tie.Need-write-parts-requires
-unfolding sortSaid simple
-write-parts-requires c κs = refl
-
-write-parts-requires-2 : tie.Need-write-parts-requires-2
-unfolding sortSaid simple
-write-parts-requires-2 c κs = refl
-
 write-some-requires : tie.Need-write-some-requires
 write-some-requires c κs = (λ z. c .before .if1 .taken (c .before .before .tag .ensures ∙ z), simple-left _ (c .before .before .before .before .match .keys3) (c .before .before .before .before .before .before .before .pre))
 
@@ -49,9 +41,9 @@ write-values-spec =
     tie.close
     (tie.spec
     (λ c. search needs)
-    write-parts-requires
+    (λ c κs. unfold sortSaid simple in refl)
     (λ c. search needs)
-    write-parts-requires-2
+    (λ c κs. unfold sortSaid simple in refl)
     (λ c κs. search needs)
     (λ c κs. search needs)
     write-some-requires

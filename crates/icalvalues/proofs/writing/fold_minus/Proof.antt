@@ -9,9 +9,9 @@ returns : tie.Need-returns
 unfolding minusIf
 returns c = rw (c .before .before .before .before .if1 .taken) (c .before .before .fold-octet .ensures)
 
-returns-2 : tie.Need-returns-2
-unfolding minusIf
-returns-2 c = rw (c .if1 .left) none
-
 pub fold-minus-spec : {M : Type 1} → statement M
-fold-minus-spec = tie.close (tie.spec (λ c κs. search needs) (λ c. search needs) returns returns-2)
+fold-minus-spec =
+    tie.close
+    (tie.spec
+    (λ c κs. search needs) (λ c. search needs) returns
+    (λ c. unfold minusIf in rw (c .if1 .left) none))

@@ -70,12 +70,6 @@ place-component-loop-holds t c =
     let at-start = at-place-properties .before .before .before .before .before .before .before .before .before in
     (refl, going-start _ _ _ _ _ _ _ _ _ _ (at-place-properties .place-properties .result) (at-place-properties .place-properties .ensures) (at-start .pre .1 .1 .0) (at-start .pre .1 .1 .1))
 
-place-component-enum-known-next : (t : ℕ) → place-component-lts.Need-enum-known-next (claims-place-component t) (place-component-at t) place-component.Post place-component-Inv-loop place-component-μ-loop
-place-component-enum-known-next t c = search needs
-
-place-component-put-comma-requires : (t : ℕ) → place-component-lts.Need-put-comma-requires (claims-place-component t) (place-component-at t) place-component.Post place-component-Inv-loop place-component-μ-loop
-place-component-put-comma-requires t c κs = search needs
-
 place-component-sub-place-component : (t : ℕ) → place-component-lts.Need-sub-place-component (claims-place-component t) (place-component-at t) place-component.Post place-component-Inv-loop place-component-μ-loop
 place-component-sub-place-component t c =
     let at-next = c .before .before .before .before .before in
@@ -107,21 +101,6 @@ place-component-loop-again t c =
     let g = rw (at-next .next .given .1) at (at-loop .loop .inv .1) in
     (omega (arith, at-loop .loop .inv .0, at-put-comma .put-comma .kept .0, at-place-component .place-component .kept .1 .1 .1 .1 .1 .1 .0), sub-goes _ _ _ _ _ _ _ _ _ _ _ _ _ g _ _ (at-place-component .place-component .result) (at-put-comma .put-comma .ensures) (at-place-component .place-component .ensures))
 
-place-component-enum-known-next-2 : (t : ℕ) → place-component-lts.Need-enum-known-next-2 (claims-place-component t) (place-component-at t) place-component.Post place-component-Inv-loop place-component-μ-loop
-place-component-enum-known-next-2 t c = search needs
-
-place-component-slice-aggregate-put-all : (t : ℕ) → place-component-lts.Need-slice-aggregate-put-all (claims-place-component t) (place-component-at t) place-component.Post place-component-Inv-loop place-component-μ-loop
-place-component-slice-aggregate-put-all t c = search needs
-
-place-component-put-all-requires : (t : ℕ) → place-component-lts.Need-put-all-requires (claims-place-component t) (place-component-at t) place-component.Post place-component-Inv-loop place-component-μ-loop
-place-component-put-all-requires t c κs = search needs
-
-place-component-next-at-requires : (t : ℕ) → place-component-lts.Need-next-at-requires (claims-place-component t) (place-component-at t) place-component.Post place-component-Inv-loop place-component-μ-loop
-place-component-next-at-requires t c κs = search needs
-
-place-component-same-length : (t : ℕ) → place-component-lts.Need-same-length (claims-place-component t) (place-component-at t) place-component.Post place-component-Inv-loop place-component-μ-loop
-place-component-same-length t c = search needs
-
 place-component-returns : (t : ℕ) → place-component-lts.Need-returns (claims-place-component t) (place-component-at t) place-component.Post place-component-Inv-loop place-component-μ-loop
 place-component-returns t c =
     let at-put-all = c .before .before .before in
@@ -130,12 +109,6 @@ place-component-returns t c =
     let at-place-properties = at-loop .before .before .before in
     let at-open-component = at-place-properties .before .before .before .before in
     sub-ends _ _ _ _ _ _ _ _ _ _ _ _ (rw (at-next2 .next2 .given .1) at (at-loop .loop .inv .1)) _ _ _ (at-open-component .open-component .ensures) (at-place-properties .place-properties .ensures) _ _ (at-put-all .put-all .ensures) _ (c .next-at .ensures)
-
-place-component-enum-known-next-3 : (t : ℕ) → place-component-lts.Need-enum-known-next-3 (claims-place-component t) (place-component-at t) place-component.Post place-component-Inv-loop place-component-μ-loop
-place-component-enum-known-next-3 t c = search needs
-
-place-component-same-length-2 : (t : ℕ) → place-component-lts.Need-same-length-2 (claims-place-component t) (place-component-at t) place-component.Post place-component-Inv-loop place-component-μ-loop
-place-component-same-length-2 t c = search needs
 
 place-component-returns-2 : (t : ℕ) → place-component-lts.Need-returns-2 (claims-place-component t) (place-component-at t) place-component.Post place-component-Inv-loop place-component-μ-loop
 place-component-returns-2 t c =
@@ -153,18 +126,18 @@ pub +place-component-spec : {M : Type 1} → statement M
     (place-component-add-place-properties t)
     (place-component-place-properties-requires t)
     (place-component-loop-holds t)
-    (place-component-enum-known-next t)
-    (place-component-put-comma-requires t)
+    (λ c. search needs)
+    (λ c κs. search needs)
     (place-component-sub-place-component t)
     (place-component-place-component-requires t)
     (place-component-loop-less t)
     (place-component-loop-again t)
-    (place-component-enum-known-next-2 t)
-    (place-component-slice-aggregate-put-all t)
-    (place-component-put-all-requires t)
-    (place-component-next-at-requires t)
-    (place-component-same-length t)
+    (λ c. search needs)
+    (λ c. search needs)
+    (λ c κs. search needs)
+    (λ c κs. search needs)
+    (λ c. search needs)
     (place-component-returns t)
-    (place-component-enum-known-next-3 t)
-    (place-component-same-length-2 t)
+    (λ c. search needs)
+    (λ c. search needs)
     (place-component-returns-2 t)

@@ -20,35 +20,17 @@ abbrev μ-loop : tie.MeasureT-loop
 line : (k : tie.After-kind-at Inv-loop μ-loop) → LineAt (k .before .before .before .before .before .args .buf .now) (k .before .before .before .loop .i) (k .before .line-end .result)
 line k = record { within = k .before .before .loop-test .taken; ends = k .before .line-end .ensures }
 
-loop-holds : tie.Need-loop-holds Inv-loop μ-loop
-loop-holds c = (omega arith, omega arith, refl)
-
-line-end-requires : tie.Need-line-end-requires Inv-loop μ-loop
-line-end-requires c κs = search needs
-
 kind-at-requires : tie.Need-kind-at-requires Inv-loop μ-loop
 kind-at-requires c κs = record { within = c .before .loop-test .taken; ends = c .line-end .ensures }
 
-enum-told : tie.Need-enum-told Inv-loop μ-loop
-enum-told c = search needs
-
-add-within : tie.Need-add-within Inv-loop μ-loop
-add-within c = omega arith
-
 add-i : tie.Need-add-i Inv-loop μ-loop
 add-i c = omega (arith, line-high _ _ _ (line (c .before .before)))
-
-loop-less : tie.Need-loop-less Inv-loop μ-loop
-loop-less c = omega (arith, line (c .before .before))
 
 loop-again : tie.Need-loop-again Inv-loop μ-loop
 loop-again c =
     let at-kind-at = c .before .before in
     let at-loop = at-kind-at .before .before .before in
     (omega (arith, line at-kind-at), omega (arith, line at-kind-at), over-opens _ _ _ (at-loop .loop .inv .0) _ (at-loop .loop .inv .2) _ (line at-kind-at) _ (told-as (at-kind-at .kind-at .ensures) (c .enum-told .given .1)))
-
-enum-told-2 : tie.Need-enum-told-2 Inv-loop μ-loop
-enum-told-2 c = search needs
 
 add-result : tie.Need-add-result Inv-loop μ-loop
 add-result c = omega (arith, line-high _ _ _ (line (c .before .before .before)))
@@ -59,9 +41,6 @@ returns c =
     let at-kind-at = at-enum-told2 .before .before in
     let at-loop = at-kind-at .before .before .before in
     over-end _ _ _ (at-loop .loop .inv .0) _ (at-loop .loop .inv .2) _ (line at-kind-at) _ (told-as (at-kind-at .kind-at .ensures) (at-enum-told2 .enum-told2 .given .1)) (c .if1 .taken)
-
-sub-within : tie.Need-sub-within Inv-loop μ-loop
-sub-within c = omega arith
 
 add-i-2 : tie.Need-add-i-2 Inv-loop μ-loop
 add-i-2 c = omega (arith, line-high _ _ _ (line (c .before .before .before)))
@@ -76,14 +55,8 @@ loop-again-2 c =
     let at-loop = at-kind-at .before .before .before in
     (omega (arith, line at-kind-at), omega (arith, line at-kind-at), over-closes _ _ _ (at-loop .loop .inv .0) _ (at-loop .loop .inv .2) _ (line at-kind-at) _ (told-as (at-kind-at .kind-at .ensures) (at-enum-told2 .enum-told2 .given .1)) (c .if1 .left))
 
-enum-told-3 : tie.Need-enum-told-3 Inv-loop μ-loop
-enum-told-3 c = search needs
-
 add-i-3 : tie.Need-add-i-3 Inv-loop μ-loop
 add-i-3 c = omega (arith, line-high _ _ _ (line (c .before .before)))
-
-loop-less-3 : tie.Need-loop-less-3 Inv-loop μ-loop
-loop-less-3 c = omega (arith, line (c .before .before))
 
 loop-again-3 : tie.Need-loop-again-3 Inv-loop μ-loop
 loop-again-3 c =
@@ -91,14 +64,8 @@ loop-again-3 c =
     let at-loop = at-kind-at .before .before .before in
     (omega (arith, line at-kind-at), omega (arith, line at-kind-at), over-plain _ _ _ (at-loop .loop .inv .0) _ (at-loop .loop .inv .2) _ (line at-kind-at) (told-as (at-kind-at .kind-at .ensures) (c .enum-told3 .given .1)))
 
-enum-told-4 : tie.Need-enum-told-4 Inv-loop μ-loop
-enum-told-4 c = search needs
-
 add-i-4 : tie.Need-add-i-4 Inv-loop μ-loop
 add-i-4 c = omega (arith, line-high _ _ _ (line (c .before .before)))
-
-loop-less-4 : tie.Need-loop-less-4 Inv-loop μ-loop
-loop-less-4 c = omega (arith, line (c .before .before))
 
 loop-again-4 : tie.Need-loop-again-4 Inv-loop μ-loop
 loop-again-4 c =
@@ -117,27 +84,27 @@ behind-end-spec =
     (tie.spec
     Inv-loop
     μ-loop
-    loop-holds
-    line-end-requires
+    (λ c. (omega arith, omega arith, refl))
+    (λ c κs. search needs)
     kind-at-requires
-    enum-told
-    add-within
+    (λ c. search needs)
+    (λ c. omega arith)
     add-i
-    loop-less
+    (λ c. omega (arith, line (c .before .before)))
     loop-again
-    enum-told-2
+    (λ c. search needs)
     add-result
     returns
-    sub-within
+    (λ c. omega arith)
     add-i-2
     loop-less-2
     loop-again-2
-    enum-told-3
+    (λ c. search needs)
     add-i-3
-    loop-less-3
+    (λ c. omega (arith, line (c .before .before)))
     loop-again-3
-    enum-told-4
+    (λ c. search needs)
     add-i-4
-    loop-less-4
+    (λ c. omega (arith, line (c .before .before)))
     loop-again-4
     returns-2)

@@ -20,17 +20,8 @@ abbrev μ-loop : tie.MeasureT-loop
 line : (k : tie.After-kind-at Inv-loop μ-loop) → LineAt (k .before .before .before .before .before .args .buf .now) (k .before .before .before .loop .i) (k .before .line-end .result)
 line k = record { within = k .before .before .loop-test .taken; ends = k .before .line-end .ensures }
 
-loop-holds : tie.Need-loop-holds Inv-loop μ-loop
-loop-holds c = (omega arith, refl)
-
-line-end-requires : tie.Need-line-end-requires Inv-loop μ-loop
-line-end-requires c κs = search needs
-
 kind-at-requires : tie.Need-kind-at-requires Inv-loop μ-loop
 kind-at-requires c κs = record { within = c .before .loop-test .taken; ends = c .line-end .ensures }
-
-enum-known-name : tie.Need-enum-known-name Inv-loop μ-loop
-enum-known-name c = search needs
 
 returns : tie.Need-returns Inv-loop μ-loop
 returns c =
@@ -38,9 +29,6 @@ returns c =
     let at-kind-at = at-name .before .before in
     let at-loop = at-kind-at .before .before .before in
     record { finds = next-opens _ _ _ (at-loop .loop .inv .0) (at-loop .loop .inv .1) _ (line at-kind-at) _ (told-as (at-kind-at .kind-at .ensures) (at-name .name .given .1)); place = refl }
-
-enum-told : tie.Need-enum-told Inv-loop μ-loop
-enum-told c = search needs
 
 add-t10 : tie.Need-add-t10 Inv-loop μ-loop
 add-t10 c = omega (arith, line-high _ _ _ (line (c .before .before)))
@@ -51,14 +39,8 @@ returns-2 c =
     let at-loop = at-kind-at .before .before .before in
     record { finds = next-closes _ _ _ (at-loop .loop .inv .0) (at-loop .loop .inv .1) _ (line at-kind-at) _ (told-as (at-kind-at .kind-at .ensures) (c .enum-told .given .1)); place = refl }
 
-enum-told-2 : tie.Need-enum-told-2 Inv-loop μ-loop
-enum-told-2 c = search needs
-
 add-i : tie.Need-add-i Inv-loop μ-loop
 add-i c = omega (arith, line-high _ _ _ (line (c .before .before)))
-
-loop-less : tie.Need-loop-less Inv-loop μ-loop
-loop-less c = omega (arith, line (c .before .before))
 
 loop-again : tie.Need-loop-again Inv-loop μ-loop
 loop-again c =
@@ -66,14 +48,8 @@ loop-again c =
     let at-loop = at-kind-at .before .before .before in
     (omega (arith, line at-kind-at), next-plain _ _ _ (at-loop .loop .inv .0) (at-loop .loop .inv .1) _ (line at-kind-at) (told-as (at-kind-at .kind-at .ensures) (c .enum-told2 .given .1)))
 
-enum-told-3 : tie.Need-enum-told-3 Inv-loop μ-loop
-enum-told-3 c = search needs
-
 add-i-2 : tie.Need-add-i-2 Inv-loop μ-loop
 add-i-2 c = omega (arith, line-high _ _ _ (line (c .before .before)))
-
-loop-less-2 : tie.Need-loop-less-2 Inv-loop μ-loop
-loop-less-2 c = omega (arith, line (c .before .before))
 
 loop-again-2 : tie.Need-loop-again-2 Inv-loop μ-loop
 loop-again-2 c =
@@ -92,20 +68,20 @@ next-at-spec =
     (tie.spec
     Inv-loop
     μ-loop
-    loop-holds
-    line-end-requires
+    (λ c. (omega arith, refl))
+    (λ c κs. search needs)
     kind-at-requires
-    enum-known-name
+    (λ c. search needs)
     returns
-    enum-told
+    (λ c. search needs)
     add-t10
     returns-2
-    enum-told-2
+    (λ c. search needs)
     add-i
-    loop-less
+    (λ c. omega (arith, line (c .before .before)))
     loop-again
-    enum-told-3
+    (λ c. search needs)
     add-i-2
-    loop-less-2
+    (λ c. omega (arith, line (c .before .before)))
     loop-again-2
     returns-3)

@@ -11,30 +11,6 @@ use Rattle.jcal.proofs.Stacks.{name-part}
 use Rattle.jcal.proofs.components.open_component.Statement.{statement}
 use Rattle.jcal.proofs.components.open_component.Tie as tie
 
-put-requires : tie.Need-put-requires
-put-requires c κs = search needs
-
-sub-put-name : tie.Need-sub-put-name
-sub-put-name c = search needs
-
-part-put-name-start : tie.Need-part-put-name-start
-part-put-name-start c = search needs
-
-part-put-name-end : tie.Need-part-put-name-end
-part-put-name-end c = search needs
-
-put-name-requires : tie.Need-put-name-requires
-put-name-requires c κs = search needs
-
-slice-aggregate-put-all : tie.Need-slice-aggregate-put-all
-slice-aggregate-put-all c = search needs
-
-put-all-requires : tie.Need-put-all-requires
-put-all-requires c κs = search needs
-
-same-length : tie.Need-same-length
-same-length c = search needs
-
 returns : tie.Need-returns
 unfolding nameText
 returns c =
@@ -48,12 +24,12 @@ pub open-component-spec : {M : Type 1} → statement M
 open-component-spec =
     tie.close
     (tie.spec
-    put-requires
-    sub-put-name
-    part-put-name-start
-    part-put-name-end
-    put-name-requires
-    slice-aggregate-put-all
-    put-all-requires
-    same-length
+    (λ c κs. search needs)
+    (λ c. search needs)
+    (λ c. search needs)
+    (λ c. search needs)
+    (λ c κs. search needs)
+    (λ c. search needs)
+    (λ c κs. search needs)
+    (λ c. search needs)
     returns)

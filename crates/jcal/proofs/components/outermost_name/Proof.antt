@@ -6,21 +6,6 @@ use borrow.Author.Needs.{needs}
 use Rattle.jcal.proofs.components.outermost_name.Statement.{statement}
 use Rattle.jcal.proofs.components.outermost_name.Tie as tie
 
-kind-at-requires : tie.Need-kind-at-requires
-kind-at-requires c κs = c .before .pre .0
-
-enum-known-name : tie.Need-enum-known-name
-enum-known-name c = search needs
-
-enum-told : tie.Need-enum-told
-enum-told c = search needs
-
-enum-told-2 : tie.Need-enum-told-2
-enum-told-2 c = search needs
-
-enum-told-3 : tie.Need-enum-told-3
-enum-told-3 c = search needs
-
 returns : tie.Need-returns
 returns c =
     let at-name = c .before in
@@ -49,11 +34,11 @@ pub outermost-name-spec : {M : Type 1} → statement M
 outermost-name-spec =
     tie.close
     (tie.spec
-    kind-at-requires
-    enum-known-name
-    enum-told
-    enum-told-2
-    enum-told-3
+    (λ c κs. c .before .pre .0)
+    (λ c. search needs)
+    (λ c. search needs)
+    (λ c. search needs)
+    (λ c. search needs)
     returns
     returns-2
     returns-3

@@ -16,9 +16,6 @@ use Rattle.jcal.proofs.components.place_calendar.Tie as tie
 line : (c : tie.After-line-end) → LineAt (c .before .before .before .before .args .lines .now) 0 (c .line-end .result)
 line c = record { within = some-line _ (c .before .before .before .before .pre .0); ends = c .line-end .ensures }
 
-line-end-requires : tie.Need-line-end-requires
-line-end-requires c κs = search needs
-
 outermost-name-requires : tie.Need-outermost-name-requires
 outermost-name-requires c κs = (line c, c .before .before .before .before .pre .0)
 
@@ -31,27 +28,6 @@ place-component-requires c κs =
     let f = readProperty (tableIn (at-start .args .rows .now)) in
     (name-of _ _ _ (line at-line-end) _ told, (calendar-ready f _ _ (line at-line-end) (at-start .pre .0) _ told _ (at-start .pre .1), omega (arith, most-levels, calendar-few f _ _ (line at-line-end) (at-start .pre .0) _ told)))
 
-enum-known-at : tie.Need-enum-known-at
-enum-known-at c = search needs
-
-finish-requires : tie.Need-finish-requires
-finish-requires c κs = search needs
-
-enum-known-at-2 : tie.Need-enum-known-at-2
-enum-known-at-2 c = search needs
-
-finish-requires-2 : tie.Need-finish-requires-2
-finish-requires-2 c κs = search needs
-
-enum-known-why : tie.Need-enum-known-why
-enum-known-why c = search needs
-
-refuse-requires : tie.Need-refuse-requires
-refuse-requires c κs = search needs
-
-same-length : tie.Need-same-length
-same-length c = search needs
-
 returns : tie.Need-returns
 returns c =
     let at-finish = c .before .before in
@@ -62,9 +38,6 @@ returns c =
     let at-start = at-line-end .before .before .before .before in
     at-finish .finish .ensures ∙ calendar-placed _ _ _ (line at-line-end) (at-start .pre .0) _ (at-outermost-name .outermost-name .ensures) _ _ (Sub _ _ _) (rw (at-at .at .given .1) at (at-place-component .place-component .ensures))
 
-same-length-2 : tie.Need-same-length-2
-same-length-2 c = search needs
-
 returns-2 : tie.Need-returns-2
 returns-2 c =
     let at-finish2 = c .before .before in
@@ -74,9 +47,6 @@ returns-2 c =
     let at-line-end = at-outermost-name .before in
     let at-start = at-line-end .before .before .before .before in
     at-finish2 .finish2 .ensures ∙ calendar-placed _ _ _ (line at-line-end) (at-start .pre .0) _ (at-outermost-name .outermost-name .ensures) _ _ (End _ _) (rw (at-at2 .at2 .given .1) at (at-place-component .place-component .ensures))
-
-same-length-3 : tie.Need-same-length-3
-same-length-3 c = search needs
 
 returns-3 : tie.Need-returns-3
 returns-3 c =
@@ -92,18 +62,18 @@ pub place-calendar-spec : {M : Type 1} → statement M
 place-calendar-spec =
     tie.close
     (tie.spec
-    line-end-requires
+    (λ c κs. search needs)
     outermost-name-requires
     place-component-requires
-    enum-known-at
-    finish-requires
-    enum-known-at-2
-    finish-requires-2
-    enum-known-why
-    refuse-requires
-    same-length
+    (λ c. search needs)
+    (λ c κs. search needs)
+    (λ c. search needs)
+    (λ c κs. search needs)
+    (λ c. search needs)
+    (λ c κs. search needs)
+    (λ c. search needs)
     returns
-    same-length-2
+    (λ c. search needs)
     returns-2
-    same-length-3
+    (λ c. search needs)
     returns-3)

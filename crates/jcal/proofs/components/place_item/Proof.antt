@@ -6,15 +6,6 @@ use Rattle.jcal.proofs.Walking.{item-placed}
 use Rattle.jcal.proofs.components.place_item.Statement.{statement}
 use Rattle.jcal.proofs.components.place_item.Tie as tie
 
-put-comma-requires : tie.Need-put-comma-requires
-put-comma-requires c κs = search needs
-
-place-property-requires : tie.Need-place-property-requires
-place-property-requires c κs = search needs
-
-same-length : tie.Need-same-length
-same-length c = search needs
-
 returns : tie.Need-returns
 returns c =
     let at-place-property = c .before .before in
@@ -24,4 +15,4 @@ returns c =
 
 pub place-item-spec : {M : Type 1} → statement M
 place-item-spec =
-    tie.close (tie.spec put-comma-requires place-property-requires same-length returns)
+    tie.close (tie.spec (λ c κs. search needs) (λ c κs. search needs) (λ c. search needs) returns)

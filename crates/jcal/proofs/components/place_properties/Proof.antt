@@ -25,29 +25,11 @@ line k = record { within = k .before .before .loop-test .taken; ends = k .before
 loop-holds : tie.Need-loop-holds Inv-loop μ-loop
 loop-holds c = (refl, omega arith, held-start _ _ _ _ (c .before .before .before .pre))
 
-line-end-requires : tie.Need-line-end-requires Inv-loop μ-loop
-line-end-requires c κs = search needs
-
 kind-at-requires : tie.Need-kind-at-requires Inv-loop μ-loop
 kind-at-requires c κs = record { within = c .before .loop-test .taken; ends = c .line-end .ensures }
 
-enum-told : tie.Need-enum-told Inv-loop μ-loop
-enum-told c = search needs
-
-sub-place-item : tie.Need-sub-place-item Inv-loop μ-loop
-sub-place-item c = omega (arith, line (c .before .before))
-
-part-place-item-start : tie.Need-part-place-item-start Inv-loop μ-loop
-part-place-item-start c = omega (arith, line (c .before .before))
-
 part-place-item-end : tie.Need-part-place-item-end Inv-loop μ-loop
 part-place-item-end c = line-high _ _ _ (line (c .before .before))
-
-place-item-requires : tie.Need-place-item-requires Inv-loop μ-loop
-place-item-requires c κs = search needs
-
-enum-known-q : tie.Need-enum-known-q Inv-loop μ-loop
-enum-known-q c = search needs
 
 add-i : tie.Need-add-i Inv-loop μ-loop
 add-i c =
@@ -69,12 +51,6 @@ loop-again c =
     let at-start = at-loop .before .before .before .before in
     (omega (arith, at-place-item .place-item .kept .1 .1 .1 .0, at-loop .loop .inv .0), omega (arith, line at-kind-at, at-loop .loop .inv .1), held-item _ _ (at-start .args .from) _ _ _ _ _ _ (at-loop .loop .inv .2) _ (line at-kind-at) (told-as (at-kind-at .kind-at .ensures) (at-enum-told .enum-told .given .1)) _ (rw (line-is _ _ _ (line at-kind-at), at-q .q .given .1) at (at-place-item .place-item .ensures)))
 
-enum-known-why : tie.Need-enum-known-why Inv-loop μ-loop
-enum-known-why c = search needs
-
-same-length : tie.Need-same-length Inv-loop μ-loop
-same-length c = search needs
-
 returns : tie.Need-returns Inv-loop μ-loop
 returns c =
     let at-why = c .before in
@@ -84,18 +60,6 @@ returns c =
     let at-loop = at-kind-at .before .before .before in
     let at-start = at-loop .before .before .before .before in
     held-refused _ _ (at-start .args .from) _ _ _ _ _ _ (at-loop .loop .inv .2) _ (line at-kind-at) (told-as (at-kind-at .kind-at .ensures) (at-enum-told .enum-told .given .1)) _ (rw (line-is _ _ _ (line at-kind-at), at-why .why .given .1) at (at-place-item .place-item .ensures))
-
-enum-known-name : tie.Need-enum-known-name Inv-loop μ-loop
-enum-known-name c = search needs
-
-slice-aggregate-put-all : tie.Need-slice-aggregate-put-all Inv-loop μ-loop
-slice-aggregate-put-all c = search needs
-
-put-all-requires : tie.Need-put-all-requires Inv-loop μ-loop
-put-all-requires c κs = search needs
-
-same-length-2 : tie.Need-same-length-2 Inv-loop μ-loop
-same-length-2 c = search needs
 
 returns-2 : tie.Need-returns-2 Inv-loop μ-loop
 returns-2 c =
@@ -111,9 +75,6 @@ add-behind-end c =
     let at-kind-at = c .before .before .before .before in
     omega (arith, line-high _ _ _ (line at-kind-at))
 
-behind-end-requires : tie.Need-behind-end-requires Inv-loop μ-loop
-behind-end-requires c κs = search needs
-
 loop-less-2 : tie.Need-loop-less-2 Inv-loop μ-loop
 loop-less-2 c =
     let at-kind-at = c .before .before .before .before .before in
@@ -128,9 +89,6 @@ loop-again-2 c =
     let at-start = at-loop .before .before .before .before in
     (at-loop .loop .inv .0, omega (arith, line at-kind-at, at-loop .loop .inv .1, c .behind-end .ensures .further), held-over _ _ (at-start .args .from) _ _ _ _ _ _ (at-loop .loop .inv .2) _ (line at-kind-at) _ (told-as (at-kind-at .kind-at .ensures) (at-name .name .given .1)) (at-if1 .if1 .left) _ (c .behind-end .ensures))
 
-enum-told-2 : tie.Need-enum-told-2 Inv-loop μ-loop
-enum-told-2 c = search needs
-
 add-end-properties : tie.Need-add-end-properties Inv-loop μ-loop
 add-end-properties c = omega (arith, line-high _ _ _ (line (c .before .before)))
 
@@ -141,9 +99,6 @@ end-properties-requires c κs =
     let at-loop = at-kind-at .before .before .before in
     λ o. ends-next _ _ _ _ _ _ _ _ _ (at-loop .loop .inv .2) _ (line at-kind-at) _ (told-as (at-kind-at .kind-at .ensures) (at-enum-told2 .enum-told2 .given .1)) o (at-loop .loop .inv .1)
 
-same-length-3 : tie.Need-same-length-3 Inv-loop μ-loop
-same-length-3 c = search needs
-
 returns-3 : tie.Need-returns-3 Inv-loop μ-loop
 returns-3 c =
     let at-end-properties = c .before .before in
@@ -152,14 +107,8 @@ returns-3 c =
     let at-loop = at-kind-at .before .before .before in
     held-ends _ _ _ _ _ _ _ _ _ (at-loop .loop .inv .2) _ (line at-kind-at) _ (told-as (at-kind-at .kind-at .ensures) (at-enum-told2 .enum-told2 .given .1)) _ (at-end-properties .end-properties .result) (at-end-properties .end-properties .ensures .finds) (at-end-properties .end-properties .ensures .wrote)
 
-enum-told-3 : tie.Need-enum-told-3 Inv-loop μ-loop
-enum-told-3 c = search needs
-
 add-i-2 : tie.Need-add-i-2 Inv-loop μ-loop
 add-i-2 c = omega (arith, line-high _ _ _ (line (c .before .before)))
-
-loop-less-3 : tie.Need-loop-less-3 Inv-loop μ-loop
-loop-less-3 c = omega (arith, line (c .before .before))
 
 loop-again-3 : tie.Need-loop-again-3 Inv-loop μ-loop
 loop-again-3 c =
@@ -173,9 +122,6 @@ end-properties-requires-2 c κs =
     let at-loop-test = c .before in
     let at-loop = at-loop-test .before in
     λ o. none-next _ _ _ _ _ _ _ _ _ (at-loop .loop .inv .2) (at-loop-test .loop-test .left) o (at-loop .loop .inv .1)
-
-same-length-4 : tie.Need-same-length-4 Inv-loop μ-loop
-same-length-4 c = search needs
 
 returns-4 : tie.Need-returns-4 Inv-loop μ-loop
 returns-4 c =
@@ -191,38 +137,38 @@ place-properties-spec =
     Inv-loop
     μ-loop
     loop-holds
-    line-end-requires
+    (λ c κs. search needs)
     kind-at-requires
-    enum-told
-    sub-place-item
-    part-place-item-start
+    (λ c. search needs)
+    (λ c. omega (arith, line (c .before .before)))
+    (λ c. omega (arith, line (c .before .before)))
     part-place-item-end
-    place-item-requires
-    enum-known-q
+    (λ c κs. search needs)
+    (λ c. search needs)
     add-i
     loop-less
     loop-again
-    enum-known-why
-    same-length
+    (λ c. search needs)
+    (λ c. search needs)
     returns
-    enum-known-name
-    slice-aggregate-put-all
-    put-all-requires
-    same-length-2
+    (λ c. search needs)
+    (λ c. search needs)
+    (λ c κs. search needs)
+    (λ c. search needs)
     returns-2
     add-behind-end
-    behind-end-requires
+    (λ c κs. search needs)
     loop-less-2
     loop-again-2
-    enum-told-2
+    (λ c. search needs)
     add-end-properties
     end-properties-requires
-    same-length-3
+    (λ c. search needs)
     returns-3
-    enum-told-3
+    (λ c. search needs)
     add-i-2
-    loop-less-3
+    (λ c. omega (arith, line (c .before .before)))
     loop-again-3
     end-properties-requires-2
-    same-length-4
+    (λ c. search needs)
     returns-4)

@@ -5,16 +5,6 @@ use Rattle.jcal.specs.Walk.{comma}
 use Rattle.jcal.proofs.components.put_comma.Statement.{statement}
 use Rattle.jcal.proofs.components.put_comma.Tie as tie
 
-returns : tie.Need-returns
-unfolding comma
-returns c = rw (c .if1 .taken) nothing
-
-put-requires : tie.Need-put-requires
-put-requires c κs = search needs
-
-same-length : tie.Need-same-length
-same-length c = search needs
-
 returns-2 : tie.Need-returns-2
 unfolding comma
 returns-2 c =
@@ -23,4 +13,8 @@ returns-2 c =
     rw (at-if1 .if1 .left) (at-put .put .ensures)
 
 pub put-comma-spec : {M : Type 1} → statement M
-put-comma-spec = tie.close (tie.spec returns put-requires same-length returns-2)
+put-comma-spec =
+    tie.close
+    (tie.spec
+    (λ c. unfold comma in rw (c .if1 .taken) nothing) (λ c κs. search needs) (λ c. search needs)
+    returns-2)

@@ -8,27 +8,12 @@ use Rattle.jcal.proofs.Stages.{structure-failed, structure-passed, pair
 use Rattle.jcal.proofs.conversion.convert_lines.Statement.{statement}
 use Rattle.jcal.proofs.conversion.convert_lines.Tie as tie
 
-test-structure-requires : tie.Need-test-structure-requires
-test-structure-requires c κs = search needs
-
-enum-known-in-order : tie.Need-enum-known-in-order
-enum-known-in-order c = search needs
-
 convert-paired-requires : tie.Need-convert-paired-requires
 convert-paired-requires c κs =
     let at-in-order = c .before .before in
     let at-test-structure = at-in-order .before .before in
     let p = structure-passed _ (at-test-structure .test-structure .ensures) (at-in-order .in-order .given .1) in
     (p .0, p .1)
-
-enum-known-why : tie.Need-enum-known-why
-enum-known-why c = search needs
-
-refuse-requires : tie.Need-refuse-requires
-refuse-requires c κs = search needs
-
-same-length : tie.Need-same-length
-same-length c = search needs
 
 returns : tie.Need-returns
 returns c =
@@ -37,9 +22,6 @@ returns c =
     let at-test-structure = at-in-order .before .before in
     let at-start = at-test-structure .before .before .before .before in
     at-convert-paired .convert-paired .ensures ∙ ap (λ (a : Answer (List ℕ)). answer a (at-start .args .out .now)) (pairs _ _ (structure-passed _ (at-test-structure .test-structure .ensures) (at-in-order .in-order .given .1) .0))
-
-same-length-2 : tie.Need-same-length-2
-same-length-2 c = search needs
 
 returns-2 : tie.Need-returns-2
 returns-2 c =
@@ -53,12 +35,12 @@ pub convert-lines-spec : {M : Type 1} → statement M
 convert-lines-spec =
     tie.close
     (tie.spec
-    test-structure-requires
-    enum-known-in-order
+    (λ c κs. search needs)
+    (λ c. search needs)
     convert-paired-requires
-    enum-known-why
-    refuse-requires
-    same-length
+    (λ c. search needs)
+    (λ c κs. search needs)
+    (λ c. search needs)
     returns
-    same-length-2
+    (λ c. search needs)
     returns-2)

@@ -10,24 +10,12 @@ use Rattle.jcal.proofs.Stages.{text-long}
 use Rattle.jcal.proofs.conversion.to_jcal.Statement.{statement}
 use Rattle.jcal.proofs.conversion.to_jcal.Tie as tie
 
-refuse-requires : tie.Need-refuse-requires
-refuse-requires c κs = search needs
-
-same-length : tie.Need-same-length
-same-length c = search needs
-
 returns : tie.Need-returns
 returns c =
     let at-refuse = c .before .before in
     let at-if1 = at-refuse .before .before in
     let at-start = at-if1 .before .before .before .before in
     at-refuse .refuse .ensures ∙ ap (λ (a : Answer (List ℕ)). answer a (at-start .args .out .now)) (text-long _ _ (omega (arith, most-text, at-if1 .if1 .taken)))
-
-convert-short-requires : tie.Need-convert-short-requires
-convert-short-requires c κs = search needs
-
-same-length-2 : tie.Need-same-length-2
-same-length-2 c = search needs
 
 returns-2 : tie.Need-returns-2
 returns-2 c = c .before .before .convert-short .ensures
@@ -38,22 +26,16 @@ convert-long-requires c κs =
     let at-if1 = at-if2 .before in
     omega (arith, most-text, at-if1 .if1 .left)
 
-same-length-3 : tie.Need-same-length-3
-same-length-3 c = search needs
-
-returns-3 : tie.Need-returns-3
-returns-3 c = c .before .before .convert-long .ensures
-
 pub to-jcal-spec : {M : Type 1} → statement M
 to-jcal-spec =
     tie.close
     (tie.spec
-    refuse-requires
-    same-length
+    (λ c κs. search needs)
+    (λ c. search needs)
     returns
-    convert-short-requires
-    same-length-2
+    (λ c κs. search needs)
+    (λ c. search needs)
     returns-2
     convert-long-requires
-    same-length-3
-    returns-3)
+    (λ c. search needs)
+    (λ c. c .before .before .convert-long .ensures))

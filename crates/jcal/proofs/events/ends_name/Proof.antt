@@ -9,17 +9,11 @@ use Rattle.jcal.proofs.events.ends_name.Tie as tie
 returns : tie.Need-returns
 returns c = sym (ap not (ends-none (c .before .args .line .now) (c .before .args .n) (c .if1 .taken)))
 
-shared-slice-read-if2 : tie.Need-shared-slice-read-if2
-shared-slice-read-if2 c = search needs
-
 returns-2 : tie.Need-returns-2
 returns-2 c =
     let at-if1 = c .before .before in
     let at-start = at-if1 .before in
     sym (ap not (ends-semicolon (at-start .args .line .now) (at-start .args .n) (at-if1 .if1 .left) (c .if2 .taken)))
-
-shared-slice-read-result : tie.Need-shared-slice-read-result
-shared-slice-read-result c = search needs
 
 returns-3 : tie.Need-returns-3
 returns-3 c =
@@ -30,4 +24,4 @@ returns-3 c =
 
 pub ends-name-spec : {M : Type 1} → statement M
 ends-name-spec =
-    tie.close (tie.spec returns shared-slice-read-if2 returns-2 shared-slice-read-result returns-3)
+    tie.close (tie.spec returns (λ c. search needs) returns-2 (λ c. search needs) returns-3)

@@ -8,24 +8,6 @@ use Rattle.jcal.proofs.Heads.{bounds-colon, bounds-semicolon, bounds-no
 use Rattle.jcal.proofs.events.has_bounds.Statement.{statement}
 use Rattle.jcal.proofs.events.has_bounds.Tie as tie
 
-shared-slice-read-if2 : tie.Need-shared-slice-read-if2
-shared-slice-read-if2 c = search needs
-
-add-is-name : tie.Need-add-is-name
-add-is-name c = search needs
-
-sub-is-name : tie.Need-sub-is-name
-sub-is-name c = search needs
-
-part-is-name-start : tie.Need-part-is-name-start
-part-is-name-start c = search needs
-
-part-is-name-end : tie.Need-part-is-name-end
-part-is-name-end c = search needs
-
-is-name-requires : tie.Need-is-name-requires
-is-name-requires c κs = search needs
-
 returns : tie.Need-returns
 returns c =
     let at-if2 = c .before .before in
@@ -46,12 +28,12 @@ pub has-bounds-spec : {M : Type 1} → statement M
 has-bounds-spec =
     tie.close
     (tie.spec
-    shared-slice-read-if2
-    add-is-name
-    sub-is-name
-    part-is-name-start
-    part-is-name-end
-    is-name-requires
+    (λ c. search needs)
+    (λ c. search needs)
+    (λ c. search needs)
+    (λ c. search needs)
+    (λ c. search needs)
+    (λ c κs. search needs)
     returns
     returns-2
     returns-3)

@@ -16,26 +16,11 @@ returns c =
     let at-start = c .before .before .before in
     sym (called-short (at-start .args .line .now) (at-start .args .name .now) (c .if1 .taken))
 
-ends-name-requires : tie.Need-ends-name-requires
-ends-name-requires c κs = search needs
-
 returns-2 : tie.Need-returns-2
 returns-2 c =
     let at-ends-name = c .before in
     let at-start = at-ends-name .before .before .before .before in
     sym (called-other (at-start .args .line .now) (at-start .args .name .now) (not-not _ _ (sym (at-ends-name .ends-name .ensures) ∙ not-true _ (c .if2 .taken))))
-
-sub-same-name : tie.Need-sub-same-name
-sub-same-name c = search needs
-
-part-same-name-start : tie.Need-part-same-name-start
-part-same-name-start c = search needs
-
-part-same-name-end : tie.Need-part-same-name-end
-part-same-name-end c = search needs
-
-same-name-requires : tie.Need-same-name-requires
-same-name-requires c κs = search needs
 
 returns-3 : tie.Need-returns-3
 returns-3 c =
@@ -49,10 +34,10 @@ is-called-spec =
     tie.close
     (tie.spec
     returns
-    ends-name-requires
+    (λ c κs. search needs)
     returns-2
-    sub-same-name
-    part-same-name-start
-    part-same-name-end
-    same-name-requires
+    (λ c. search needs)
+    (λ c. search needs)
+    (λ c. search needs)
+    (λ c κs. search needs)
     returns-3)

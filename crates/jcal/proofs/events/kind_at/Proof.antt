@@ -8,17 +8,8 @@ use Rattle.jcal.proofs.Telling.{line-high, tells-opens, tells-broken, t
 use Rattle.jcal.proofs.events.kind_at.Statement.{statement}
 use Rattle.jcal.proofs.events.kind_at.Tie as tie
 
-sub-line : tie.Need-sub-line
-sub-line c = search needs
-
-part-line-start : tie.Need-part-line-start
-part-line-start c = search needs
-
 part-line-end : tie.Need-part-line-end
 part-line-end c = line-high (c .before .args .buf .now) (c .before .args .i) (c .before .args .e) (c .before .pre)
-
-slice-aggregate-is-called : tie.Need-slice-aggregate-is-called
-slice-aggregate-is-called c = search needs
 
 is-called-requires : tie.Need-is-called-requires
 unfolding isName filled all nameOctet isLetter isUpper isLower isDigit between
@@ -26,9 +17,6 @@ is-called-requires c κs = refl
 
 has-bounds-requires : tie.Need-has-bounds-requires
 has-bounds-requires c κs = alike-length _ _ (sym (c .before .is-called .ensures) ∙ c .if1 .taken)
-
-add-t14 : tie.Need-add-t14
-add-t14 c = search needs
 
 returns : tie.Need-returns
 returns c =
@@ -46,18 +34,12 @@ returns-2 c =
     let at-start = at-is-called .before .before .before .before in
     tells-broken (at-start .args .buf .now) (at-start .args .i) (at-start .args .e) (at-start .pre) (sym (at-is-called .is-called .ensures) ∙ at-if1 .if1 .taken) (sym (at-has-bounds .has-bounds .ensures) ∙ c .if2 .left)
 
-slice-aggregate-is-called-2 : tie.Need-slice-aggregate-is-called-2
-slice-aggregate-is-called-2 c = search needs
-
 is-called-requires-2 : tie.Need-is-called-requires-2
 unfolding isName filled all nameOctet isLetter isUpper isLower isDigit between
 is-called-requires-2 c κs = refl
 
 has-bounds-requires-2 : tie.Need-has-bounds-requires-2
 has-bounds-requires-2 c κs = alike-length _ _ (sym (c .before .is-called2 .ensures) ∙ c .if3 .taken)
-
-add-t19 : tie.Need-add-t19
-add-t19 c = search needs
 
 returns-3 : tie.Need-returns-3
 returns-3 c =
@@ -91,19 +73,19 @@ pub kind-at-spec : {M : Type 1} → statement M
 kind-at-spec =
     tie.close
     (tie.spec
-    sub-line
-    part-line-start
+    (λ c. search needs)
+    (λ c. search needs)
     part-line-end
-    slice-aggregate-is-called
+    (λ c. search needs)
     is-called-requires
     has-bounds-requires
-    add-t14
+    (λ c. search needs)
     returns
     returns-2
-    slice-aggregate-is-called-2
+    (λ c. search needs)
     is-called-requires-2
     has-bounds-requires-2
-    add-t19
+    (λ c. search needs)
     returns-3
     returns-4
     returns-5)

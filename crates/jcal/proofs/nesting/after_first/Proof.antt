@@ -6,9 +6,6 @@ use Rattle.jcal.proofs.Stacks.{first-else, first-opens, first-other}
 use Rattle.jcal.proofs.nesting.after_first.Statement.{statement}
 use Rattle.jcal.proofs.nesting.after_first.Tie as tie
 
-enum-known-kind : tie.Need-enum-known-kind
-enum-known-kind c = search needs
-
 sub-same-name : tie.Need-sub-same-name
 sub-same-name c =
     let at-kind = c .before in
@@ -27,30 +24,12 @@ part-same-name-end c =
     let at-start = at-kind .before .before .before in
     (rw (at-kind .kind .given .1) at (at-start .pre .0)) .high
 
-slice-aggregate-same-name : tie.Need-slice-aggregate-same-name
-slice-aggregate-same-name c = search needs
-
-same-name-requires : tie.Need-same-name-requires
-same-name-requires c κs = search needs
-
-element-write-names : tie.Need-element-write-names
-element-write-names c = search needs
-
 returns : tie.Need-returns
 returns c =
     let at-same-name = c .before in
     let at-kind = at-same-name .before .before .before .before in
     let at-start = at-kind .before .before .before in
     rw (at-kind .kind .given .1) (first-opens (at-start .args .buf .now) (at-start .args .names .now) (at-start .pre .1) _ (at-start .args .e) (rw (at-kind .kind .given .1) at (at-start .pre .0)) (sym (at-same-name .same-name .ensures) ∙ c .if1 .taken))
-
-enum-told : tie.Need-enum-told
-enum-told c = search needs
-
-enum-told-2 : tie.Need-enum-told-2
-enum-told-2 c = search needs
-
-enum-told-3 : tie.Need-enum-told-3
-enum-told-3 c = search needs
 
 returns-2 : tie.Need-returns-2
 returns-2 c =
@@ -78,17 +57,17 @@ pub after-first-spec : {M : Type 1} → statement M
 after-first-spec =
     tie.close
     (tie.spec
-    enum-known-kind
+    (λ c. search needs)
     sub-same-name
     part-same-name-start
     part-same-name-end
-    slice-aggregate-same-name
-    same-name-requires
-    element-write-names
+    (λ c. search needs)
+    (λ c κs. search needs)
+    (λ c. search needs)
     returns
-    enum-told
-    enum-told-2
-    enum-told-3
+    (λ c. search needs)
+    (λ c. search needs)
+    (λ c. search needs)
     returns-2
     returns-3
     returns-4

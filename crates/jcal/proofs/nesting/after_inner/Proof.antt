@@ -8,32 +8,11 @@ use Rattle.jcal.proofs.Stacks.{inner-opens, inner-deep, inner-other, in
 use Rattle.jcal.proofs.nesting.after_inner.Statement.{statement}
 use Rattle.jcal.proofs.nesting.after_inner.Tie as tie
 
-enum-known-kind : tie.Need-enum-known-kind
-enum-known-kind c = search needs
-
-add-next : tie.Need-add-next
-add-next c = omega (arith, most-levels)
-
-mul-names : tie.Need-mul-names
-mul-names c = search needs
-
-element-write-names : tie.Need-element-write-names
-element-write-names c = search needs
-
 returns : tie.Need-returns
 returns c =
     let at-kind = c .before .before in
     let at-start = at-kind .before .before .before in
     rw (at-kind .kind .given .1) (inner-opens (at-start .args .buf .now) (at-start .args .names .now) (at-start .pre .1 .1) _ (at-start .args .around) (c .if1 .taken))
-
-enum-known-kind-2 : tie.Need-enum-known-kind-2
-enum-known-kind-2 c = search needs
-
-mul-open : tie.Need-mul-open
-mul-open c = omega (arith, most-levels)
-
-element-copy-out-open : tie.Need-element-copy-out-open
-element-copy-out-open c = omega (arith, most-levels)
 
 sub-is-named : tie.Need-sub-is-named
 sub-is-named c =
@@ -53,9 +32,6 @@ part-is-named-end c =
     let at-start = at-kind2 .before .before .before in
     (rw (at-kind2 .kind2 .given .1) at (at-start .pre .0)) .high
 
-is-named-requires : tie.Need-is-named-requires
-is-named-requires c κs = search needs
-
 returns-2 : tie.Need-returns-2
 returns-2 c =
     let at-is-named = c .before in
@@ -70,15 +46,6 @@ returns-3 c =
     let at-kind2 = at-is-named .before .before .before .before in
     let at-start = at-kind2 .before .before .before in
     rw (at-kind2 .kind2 .given .1) (inner-last (at-start .args .buf .now) (at-start .args .names .now) (at-start .pre .1 .1) _ (at-start .args .e) (at-start .args .around) (rw (at-kind2 .kind2 .given .1) at (at-start .pre .0)) (sym (at-is-named .is-named .ensures) ∙ not-false _ (at-if2 .if2 .left)) (c .if3 .taken))
-
-sub-t19 : tie.Need-sub-t19
-sub-t19 c = search needs
-
-enum-told : tie.Need-enum-told
-enum-told c = search needs
-
-enum-told-2 : tie.Need-enum-told-2
-enum-told-2 c = search needs
 
 returns-4 : tie.Need-returns-4
 returns-4 c =
@@ -108,23 +75,23 @@ pub after-inner-spec : {M : Type 1} → statement M
 after-inner-spec =
     tie.close
     (tie.spec
-    enum-known-kind
-    add-next
-    mul-names
-    element-write-names
+    (λ c. search needs)
+    (λ c. omega (arith, most-levels))
+    (λ c. search needs)
+    (λ c. search needs)
     returns
-    enum-known-kind-2
-    mul-open
-    element-copy-out-open
+    (λ c. search needs)
+    (λ c. omega (arith, most-levels))
+    (λ c. omega (arith, most-levels))
     sub-is-named
     part-is-named-start
     part-is-named-end
-    is-named-requires
+    (λ c κs. search needs)
     returns-2
     returns-3
-    sub-t19
-    enum-told
-    enum-told-2
+    (λ c. search needs)
+    (λ c. search needs)
+    (λ c. search needs)
     returns-4
     returns-5
     returns-6

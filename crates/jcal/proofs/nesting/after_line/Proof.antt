@@ -5,26 +5,11 @@ use Rattle.jcal.proofs.Stacks.{complete-on, wrong-on, few-as}
 use Rattle.jcal.proofs.nesting.after_line.Statement.{statement}
 use Rattle.jcal.proofs.nesting.after_line.Tie as tie
 
-enum-told : tie.Need-enum-told
-enum-told c = search needs
-
-after-first-requires : tie.Need-after-first-requires
-after-first-requires c κs = search needs
-
-enum-known-nesting : tie.Need-enum-known-nesting
-enum-known-nesting c = search needs
-
 after-inner-requires : tie.Need-after-inner-requires
 after-inner-requires c κs =
     let at-nesting = c .before .before in
     let at-start = at-nesting .before .before .before in
     (at-start .pre .0, (few-as (at-start .pre .1 .0) (at-nesting .nesting .given .1), at-start .pre .1 .1))
-
-enum-told-2 : tie.Need-enum-told-2
-enum-told-2 c = search needs
-
-enum-known-nesting-2 : tie.Need-enum-known-nesting-2
-enum-known-nesting-2 c = search needs
 
 returns : tie.Need-returns
 unfolding nestOf
@@ -53,12 +38,12 @@ pub after-line-spec : {M : Type 1} → statement M
 after-line-spec =
     tie.close
     (tie.spec
-    enum-told
-    after-first-requires
-    enum-known-nesting
+    (λ c. search needs)
+    (λ c κs. search needs)
+    (λ c. search needs)
     after-inner-requires
-    enum-told-2
-    enum-known-nesting-2
+    (λ c. search needs)
+    (λ c. search needs)
     returns
     returns-2
     returns-3

@@ -4,18 +4,6 @@ use Rattle.jcal.proofs.Stacks.{judged-unbegun, judged-within, judged-co
 use Rattle.jcal.proofs.nesting.at_end.Statement.{statement}
 use Rattle.jcal.proofs.nesting.at_end.Tie as tie
 
-enum-told : tie.Need-enum-told
-enum-told c = search needs
-
-enum-told-2 : tie.Need-enum-told-2
-enum-told-2 c = search needs
-
-enum-told-3 : tie.Need-enum-told-3
-enum-told-3 c = search needs
-
-enum-known-nesting : tie.Need-enum-known-nesting
-enum-known-nesting c = search needs
-
 returns : tie.Need-returns
 returns c = rw (c .enum-told .given .1) (judged-unbegun _)
 
@@ -34,10 +22,10 @@ pub at-end-spec : {M : Type 1} → statement M
 at-end-spec =
     tie.close
     (tie.spec
-    enum-told
-    enum-told-2
-    enum-told-3
-    enum-known-nesting
+    (λ c. search needs)
+    (λ c. search needs)
+    (λ c. search needs)
+    (λ c. search needs)
     returns
     returns-2
     returns-3

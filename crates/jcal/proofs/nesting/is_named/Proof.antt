@@ -13,22 +13,10 @@ returns c =
     let at-start = c .before .before .before in
     sym (named-none (at-start .args .buf .now) (at-start .args .at) (at-start .args .name .now) (c .if1 .taken) ∙ same-empty (at-start .args .name .now))
 
-line-end-requires : tie.Need-line-end-requires
-line-end-requires c κs = search needs
-
-sub-same-name : tie.Need-sub-same-name
-sub-same-name c = search needs
-
-part-same-name-start : tie.Need-part-same-name-start
-part-same-name-start c = search needs
-
 part-same-name-end : tie.Need-part-same-name-end
 part-same-name-end c =
     let at-start = c .before .before .before .before in
     scan-high isLf (at-start .args .buf .now) (at-start .args .at) _ (c .line-end .ensures) (omega arith)
-
-same-name-requires : tie.Need-same-name-requires
-same-name-requires c κs = search needs
 
 returns-2 : tie.Need-returns-2
 returns-2 c =
@@ -41,9 +29,9 @@ is-named-spec =
     tie.close
     (tie.spec
     returns
-    line-end-requires
-    sub-same-name
-    part-same-name-start
+    (λ c κs. search needs)
+    (λ c. search needs)
+    (λ c. search needs)
     part-same-name-end
-    same-name-requires
+    (λ c κs. search needs)
     returns-2)

@@ -7,18 +7,6 @@ use Rattle.jcal.specs.Events.{told}
 use Rattle.jcal.proofs.nesting.keeps_order.Statement.{statement}
 use Rattle.jcal.proofs.nesting.keeps_order.Tie as tie
 
-enum-told : tie.Need-enum-told
-enum-told c = search needs
-
-enum-told-2 : tie.Need-enum-told-2
-enum-told-2 c = search needs
-
-enum-told-3 : tie.Need-enum-told-3
-enum-told-3 c = search needs
-
-enum-told-4 : tie.Need-enum-told-4
-enum-told-4 c = search needs
-
 returns : tie.Need-returns
 unfolding told mayStand
 returns c =
@@ -55,10 +43,10 @@ pub keeps-order-spec : {M : Type 1} → statement M
 keeps-order-spec =
     tie.close
     (tie.spec
-    enum-told
-    enum-told-2
-    enum-told-3
-    enum-told-4
+    (λ c. search needs)
+    (λ c. search needs)
+    (λ c. search needs)
+    (λ c. search needs)
     returns
     returns-2
     returns-3

@@ -29,9 +29,6 @@ loop-holds : tie.Need-loop-holds Inv-loop μ-loop
 unfolding nestOf ordered
 loop-holds c = (refl, rw most-levels (omega arith), sym most-levels, refl)
 
-line-end-requires : tie.Need-line-end-requires Inv-loop μ-loop
-line-end-requires c κs = search needs
-
 kind-at-requires : tie.Need-kind-at-requires Inv-loop μ-loop
 kind-at-requires c κs =
     let at-loop-test = c .before in
@@ -45,12 +42,6 @@ after-line-requires c κs =
     let at-loop = at-loop-test .before in
     let at-start = at-loop .before .before in
     (name-of (at-start .args .buf .now) (at-loop .loop .i) (at-line-end .line-end .result) (record { within = at-loop-test .loop-test .taken; ends = at-line-end .line-end .ensures }) _ (at-kind-at .kind-at .ensures), (at-loop .loop .inv .1, at-loop .loop .inv .2))
-
-keeps-order-requires : tie.Need-keeps-order-requires Inv-loop μ-loop
-keeps-order-requires c κs = search needs
-
-is-behind-requires : tie.Need-is-behind-requires Inv-loop μ-loop
-is-behind-requires c κs = search needs
 
 add-i : tie.Need-add-i Inv-loop μ-loop
 add-i c =
@@ -79,9 +70,6 @@ loop-again c =
     let n = at-after-line .after-line .ensures 0 in
     (at-loop .loop .inv .0 ∙ nests-on (at-start .args .buf .now) (at-loop .loop .names) _ (at-loop .loop .i) (at-line-end .line-end .result) (at-loop .loop .nesting) (at-after-line .after-line .result) _ at (at-kind-at .kind-at .ensures) (at-after-line .after-line .ensures), n .few, n .room, at-loop .loop .inv .3 ∙ order-on (at-start .args .buf .now) (at-loop .loop .i) (at-loop .loop .in-order) (at-loop .loop .behind) (at-line-end .line-end .result) (at-kind-at .kind-at .result) (at-keeps-order .keeps-order .result) (c .is-behind .result) at (at-kind-at .kind-at .ensures) (at-keeps-order .keeps-order .ensures) (c .is-behind .ensures))
 
-at-end-requires : tie.Need-at-end-requires Inv-loop μ-loop
-at-end-requires c κs = search needs
-
 returns : tie.Need-returns Inv-loop μ-loop
 returns c =
     let at-loop-test = c .before in
@@ -96,13 +84,13 @@ test-structure-spec =
     Inv-loop
     μ-loop
     loop-holds
-    line-end-requires
+    (λ c κs. search needs)
     kind-at-requires
     after-line-requires
-    keeps-order-requires
-    is-behind-requires
+    (λ c κs. search needs)
+    (λ c κs. search needs)
     add-i
     loop-less
     loop-again
-    at-end-requires
+    (λ c κs. search needs)
     returns)

@@ -7,34 +7,10 @@ use Rattle.jcal.proofs.Telling.{told-as, line-is, line-high}
 use Rattle.jcal.proofs.testing.test_line.Statement.{statement}
 use Rattle.jcal.proofs.testing.test_line.Tie as tie
 
-kind-at-requires : tie.Need-kind-at-requires
-kind-at-requires c κs = c .before .before .pre
-
-enum-told : tie.Need-enum-told
-enum-told c = search needs
-
-enum-told-2 : tie.Need-enum-told-2
-enum-told-2 c = search needs
-
-enum-told-3 : tie.Need-enum-told-3
-enum-told-3 c = search needs
-
-sub-test-property : tie.Need-sub-test-property
-sub-test-property c = search needs
-
-part-test-property-start : tie.Need-part-test-property-start
-part-test-property-start c = search needs
-
 part-test-property-end : tie.Need-part-test-property-end
 part-test-property-end c =
     let at-start = c .before .before .before .before .before in
     line-high _ _ _ (at-start .pre)
-
-test-property-requires : tie.Need-test-property-requires
-test-property-requires c κs = search needs
-
-enum-told-4 : tie.Need-enum-told-4
-enum-told-4 c = search needs
 
 returns : tie.Need-returns
 unfolding passed
@@ -59,15 +35,15 @@ pub test-line-spec : {M : Type 1} → statement M
 test-line-spec =
     tie.close
     (tie.spec
-    kind-at-requires
-    enum-told
-    enum-told-2
-    enum-told-3
-    sub-test-property
-    part-test-property-start
+    (λ c κs. c .before .before .pre)
+    (λ c. search needs)
+    (λ c. search needs)
+    (λ c. search needs)
+    (λ c. search needs)
+    (λ c. search needs)
     part-test-property-end
-    test-property-requires
-    enum-told-4
+    (λ c κs. search needs)
+    (λ c. search needs)
     returns
     returns-2
     returns-3

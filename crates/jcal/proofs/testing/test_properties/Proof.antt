@@ -21,17 +21,8 @@ Inv-loop buf rows i₀ i = eachTested (readProperty (tableIn rows)) (eventsIn bu
 abbrev μ-loop : tie.MeasureT-loop
 μ-loop buf rows i₀ i = length buf - i
 
-loop-holds : tie.Need-loop-holds Inv-loop μ-loop
-loop-holds c = refl
-
-line-end-requires : tie.Need-line-end-requires Inv-loop μ-loop
-line-end-requires c κs = search needs
-
 test-line-requires : tie.Need-test-line-requires Inv-loop μ-loop
 test-line-requires c κs = record { within = c .before .loop-test .taken; ends = c .line-end .ensures }
-
-enum-told : tie.Need-enum-told Inv-loop μ-loop
-enum-told c = search needs
 
 add-i : tie.Need-add-i Inv-loop μ-loop
 add-i c =
@@ -55,9 +46,6 @@ loop-again c =
     let at-loop = at-loop-test .before in
     let at-start = at-loop .before .before .before in
     at-loop .loop .inv ∙ turn-on _ (at-start .args .buf .now) (at-loop .loop .i) (at-line-end .line-end .result) (record { within = at-loop-test .loop-test .taken; ends = at-line-end .line-end .ensures }) (passed-as (at-test-line .test-line .ensures) (c .enum-told .given .1))
-
-enum-known-why : tie.Need-enum-known-why Inv-loop μ-loop
-enum-known-why c = search needs
 
 returns : tie.Need-returns Inv-loop μ-loop
 unfolding passed
@@ -83,13 +71,13 @@ test-properties-spec =
     (tie.spec
     Inv-loop
     μ-loop
-    loop-holds
-    line-end-requires
+    (λ c. refl)
+    (λ c κs. search needs)
     test-line-requires
-    enum-told
+    (λ c. search needs)
     add-i
     loop-less
     loop-again
-    enum-known-why
+    (λ c. search needs)
     returns
     returns-2)

@@ -6,21 +6,6 @@ use Rattle.jcalproperties.proofs.Typing.{name-string}
 use Rattle.jcalproperties.proofs.names.put_name.Statement.{statement}
 use Rattle.jcalproperties.proofs.names.put_name.Tie as tie
 
-is-name-requires : tie.Need-is-name-requires
-is-name-requires c κs = search needs
-
-put-requires : tie.Need-put-requires
-put-requires c κs = search needs
-
-put-lower-requires : tie.Need-put-lower-requires
-put-lower-requires c κs = search needs
-
-put-requires-2 : tie.Need-put-requires-2
-put-requires-2 c κs = search needs
-
-same-length : tie.Need-same-length
-same-length c = search needs
-
 returns : tie.Need-returns
 returns c =
     let at-put2 = c .before .before in
@@ -29,12 +14,6 @@ returns c =
     let at-if1 = at-put .before .before in
     let at-is-name = at-if1 .before in
     as-text (then (then (at-put .put .ensures) (at-put-lower .put-lower .ensures)) (at-put2 .put2 .ensures)) (name-string _ (sym (at-is-name .is-name .ensures) ∙ at-if1 .if1 .taken))
-
-put-quoted-requires : tie.Need-put-quoted-requires
-put-quoted-requires c κs = search needs
-
-same-length-2 : tie.Need-same-length-2
-same-length-2 c = search needs
 
 returns-2 : tie.Need-returns-2
 returns-2 c =
@@ -45,12 +24,12 @@ pub put-name-spec : {M : Type 1} → statement M
 put-name-spec =
     tie.close
     (tie.spec
-    is-name-requires
-    put-requires
-    put-lower-requires
-    put-requires-2
-    same-length
+    (λ c κs. search needs)
+    (λ c κs. search needs)
+    (λ c κs. search needs)
+    (λ c κs. search needs)
+    (λ c. search needs)
     returns
-    put-quoted-requires
-    same-length-2
+    (λ c κs. search needs)
+    (λ c. search needs)
     returns-2)

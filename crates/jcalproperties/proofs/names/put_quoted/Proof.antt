@@ -18,27 +18,6 @@ Inv-loop out₀ at name to₀ i₀ out to i = (length out ≡ length out₀) × 
 abbrev μ-loop : tie.MeasureT-loop
 μ-loop out₀ at name to₀ i₀ out to i = length name - i
 
-put-requires : tie.Need-put-requires Inv-loop μ-loop
-put-requires c κs = search needs
-
-loop-holds : tie.Need-loop-holds Inv-loop μ-loop
-loop-holds c = search needs
-
-shared-slice-read-lower-octet : tie.Need-shared-slice-read-lower-octet Inv-loop μ-loop
-shared-slice-read-lower-octet c = search needs
-
-lower-octet-requires : tie.Need-lower-octet-requires Inv-loop μ-loop
-lower-octet-requires c κs = search needs
-
-put-escaped-requires : tie.Need-put-escaped-requires Inv-loop μ-loop
-put-escaped-requires c κs = search needs
-
-add-i : tie.Need-add-i Inv-loop μ-loop
-add-i c = search needs
-
-loop-less : tie.Need-loop-less Inv-loop μ-loop
-loop-less c = search needs
-
 loop-again : tie.Need-loop-again Inv-loop μ-loop
 loop-again c =
     let at-put-escaped = c .before .before in
@@ -47,12 +26,6 @@ loop-again c =
     let at-loop = at-loop-test .before in
     let at-start = at-loop .before .before .before .before .before .before .before in
     (omega arith, leads-on (at-loop .loop .inv .1) (rw (at-lower-octet .lower-octet .ensures) at (at-put-escaped .put-escaped .ensures)) (name-on (at-start .args .name .now) (at-loop .loop .i) (at-loop-test .loop-test .taken)))
-
-put-requires-2 : tie.Need-put-requires-2 Inv-loop μ-loop
-put-requires-2 c κs = search needs
-
-same-length : tie.Need-same-length Inv-loop μ-loop
-same-length c = search needs
 
 returns : tie.Need-returns Inv-loop μ-loop
 unfolding printString
@@ -70,14 +43,14 @@ put-quoted-spec =
     (tie.spec
     Inv-loop
     μ-loop
-    put-requires
-    loop-holds
-    shared-slice-read-lower-octet
-    lower-octet-requires
-    put-escaped-requires
-    add-i
-    loop-less
+    (λ c κs. search needs)
+    (λ c. search needs)
+    (λ c. search needs)
+    (λ c κs. search needs)
+    (λ c κs. search needs)
+    (λ c. search needs)
+    (λ c. search needs)
     loop-again
-    put-requires-2
-    same-length
+    (λ c κs. search needs)
+    (λ c. search needs)
     returns)

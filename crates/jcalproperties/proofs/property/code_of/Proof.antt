@@ -9,15 +9,6 @@ use Rattle.jcalproperties.proofs.Typing.{bounded-as}
 use Rattle.jcalproperties.proofs.property.code_of.Statement.{statement}
 use Rattle.jcalproperties.proofs.property.code_of.Tie as tie
 
-enum-told : tie.Need-enum-told
-enum-told c = search needs
-
-default-code-requires : tie.Need-default-code-requires
-default-code-requires c κs = search needs
-
-enum-known-kind : tie.Need-enum-known-kind
-enum-known-kind c = search needs
-
 sub-code-named : tie.Need-sub-code-named
 sub-code-named c =
     let at-kind = c .before in
@@ -35,15 +26,6 @@ part-code-named-end c =
     let at-kind = c .before in
     let at-start = at-kind .before .before .before in
     bounded-as (length (at-start .args .params .now)) _ (at-start .pre) (at-kind .kind .given .1) .1
-
-code-named-requires : tie.Need-code-named-requires
-code-named-requires c κs = search needs
-
-enum-told-2 : tie.Need-enum-told-2
-enum-told-2 c = search needs
-
-default-code-requires-2 : tie.Need-default-code-requires-2
-default-code-requires-2 c κs = search needs
 
 returns : tie.Need-returns
 unfolding kindOf namedType
@@ -63,15 +45,15 @@ pub code-of-spec : {M : Type 1} → statement M
 code-of-spec =
     tie.close
     (tie.spec
-    enum-told
-    default-code-requires
-    enum-known-kind
+    (λ c. search needs)
+    (λ c κs. search needs)
+    (λ c. search needs)
     sub-code-named
     part-code-named-start
     part-code-named-end
-    code-named-requires
-    enum-told-2
-    default-code-requires-2
+    (λ c κs. search needs)
+    (λ c. search needs)
+    (λ c κs. search needs)
     returns
     returns-2
     returns-3)

@@ -4,17 +4,13 @@ use Rattle.converter.specs.Property.{encodingFits}
 use Rattle.jcalproperties.proofs.property.encoding_fits.Statement.{statement}
 use Rattle.jcalproperties.proofs.property.encoding_fits.Tie as tie
 
-returns : tie.Need-returns
-unfolding encodingFits
-returns c = rw (c .match .keys1)
-
-returns-2 : tie.Need-returns-2
-unfolding encodingFits
-returns-2 c = rw (c .match .keys2)
-
 returns-3 : tie.Need-returns-3
 unfolding encodingFits
 returns-3 c = rw (ne-eqb _ 0 (c .match .rest .0 .1), ne-eqb _ 1 (c .match .rest .1))
 
 pub encoding-fits-spec : {M : Type 1} → statement M
-encoding-fits-spec = tie.close (tie.spec returns returns-2 returns-3)
+encoding-fits-spec =
+    tie.close
+    (tie.spec
+    (λ c. unfold encodingFits in rw (c .match .keys1))
+    (λ c. unfold encodingFits in rw (c .match .keys2)) returns-3)

@@ -6,27 +6,12 @@ use Rattle.jcalproperties.proofs.Typing.{given-refused, given-read, eig
 use Rattle.jcalproperties.proofs.property.front_given.Statement.{statement}
 use Rattle.jcalproperties.proofs.property.front_given.Tie as tie
 
-value-type-requires : tie.Need-value-type-requires
-value-type-requires c κs = search needs
-
-params-fit-requires : tie.Need-params-fit-requires
-params-fit-requires c κs = search needs
-
 returns : tie.Need-returns
 returns c =
     let at-params-fit = c .before in
     let at-value-type = at-params-fit .before in
     let at-start = at-value-type .before .before .before .before in
     (λ t v e. given-refused (at-start .args .name .now) (paramsIn (at-start .args .params .now)) (at-params-fit .params-fit .result) _ (at-value-type .value-type .ensures .is) (at-params-fit .params-fit .ensures) (c .if1 .taken) t v, front-same)
-
-code-of-requires : tie.Need-code-of-requires
-code-of-requires c κs = search needs
-
-is-encoded-requires : tie.Need-is-encoded-requires
-is-encoded-requires c κs = search needs
-
-encoding-fits-requires : tie.Need-encoding-fits-requires
-encoding-fits-requires c κs = search needs
 
 returns-2 : tie.Need-returns-2
 returns-2 c =
@@ -38,15 +23,6 @@ returns-2 c =
     let at-value-type = at-params-fit .before in
     let at-start = at-value-type .before .before .before .before in
     (eight-refused (at-start .args .name .now) (paramsIn (at-start .args .params .now)) _ (given-read (at-start .args .name .now) (paramsIn (at-start .args .params .now)) (at-params-fit .params-fit .result) _ (at-value-type .value-type .ensures .is) (at-params-fit .params-fit .ensures) (at-if1 .if1 .left)) _ _ (at-code-of .code-of .ensures) _ _ (at-is-encoded .is-encoded .ensures) (at-encoding-fits .encoding-fits .ensures) (c .if2 .taken), front-same)
-
-put-front-requires : tie.Need-put-front-requires
-put-front-requires c κs = search needs
-
-put-type-requires : tie.Need-put-type-requires
-put-type-requires c κs = search needs
-
-same-length : tie.Need-same-length
-same-length c = search needs
 
 returns-3 : tie.Need-returns-3
 returns-3 c =
@@ -66,14 +42,14 @@ pub front-given-spec : {M : Type 1} → statement M
 front-given-spec =
     tie.close
     (tie.spec
-    value-type-requires
-    params-fit-requires
+    (λ c κs. search needs)
+    (λ c κs. search needs)
     returns
-    code-of-requires
-    is-encoded-requires
-    encoding-fits-requires
+    (λ c κs. search needs)
+    (λ c κs. search needs)
+    (λ c κs. search needs)
     returns-2
-    put-front-requires
-    put-type-requires
-    same-length
+    (λ c κs. search needs)
+    (λ c κs. search needs)
+    (λ c. search needs)
     returns-3)

@@ -11,12 +11,6 @@ use Rattle.jcalproperties.proofs.Typing.{plain-read, plain-front, eight
 use Rattle.jcalproperties.proofs.property.front_plain.Statement.{statement}
 use Rattle.jcalproperties.proofs.property.front_plain.Tie as tie
 
-default-code-requires : tie.Need-default-code-requires
-default-code-requires c κs = search needs
-
-encoding-fits-requires : tie.Need-encoding-fits-requires
-encoding-fits-requires c κs = search needs
-
 returns : tie.Need-returns
 unfolding isEncoded any
 returns c =
@@ -24,24 +18,6 @@ returns c =
     let at-default-code = at-encoding-fits .before in
     let at-start = at-default-code .before .before .before in
     (eight-refused (at-start .args .name .now) [] none (plain-read (at-start .args .name .now)) _ _ (at-default-code .default-code .ensures) false _ refl (at-encoding-fits .encoding-fits .ensures) (c .if1 .taken), front-same)
-
-put-requires : tie.Need-put-requires
-put-requires c κs = search needs
-
-put-name-requires : tie.Need-put-name-requires
-put-name-requires c κs = search needs
-
-slice-aggregate-put-all : tie.Need-slice-aggregate-put-all
-slice-aggregate-put-all c = search needs
-
-put-all-requires : tie.Need-put-all-requires
-put-all-requires c κs = search needs
-
-put-default-requires : tie.Need-put-default-requires
-put-default-requires c κs = search needs
-
-same-length : tie.Need-same-length
-same-length c = search needs
 
 returns-2 : tie.Need-returns-2
 unfolding isEncoded any
@@ -60,13 +36,13 @@ pub front-plain-spec : {M : Type 1} → statement M
 front-plain-spec =
     tie.close
     (tie.spec
-    default-code-requires
-    encoding-fits-requires
+    (λ c κs. search needs)
+    (λ c κs. search needs)
     returns
-    put-requires
-    put-name-requires
-    slice-aggregate-put-all
-    put-all-requires
-    put-default-requires
-    same-length
+    (λ c κs. search needs)
+    (λ c κs. search needs)
+    (λ c. search needs)
+    (λ c κs. search needs)
+    (λ c κs. search needs)
+    (λ c. search needs)
     returns-2)

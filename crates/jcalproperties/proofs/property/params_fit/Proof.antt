@@ -5,20 +5,8 @@ use borrow.Author.Needs.{needs}
 use Rattle.jcalproperties.proofs.property.params_fit.Statement.{statement}
 use Rattle.jcalproperties.proofs.property.params_fit.Tie as tie
 
-name-twice-requires : tie.Need-name-twice-requires
-name-twice-requires c κs = search needs
-
 returns : tie.Need-returns
 returns c = params-twice _ _ (sym (c .before .name-twice .ensures) ∙ c .if1 .taken)
-
-enum-told : tie.Need-enum-told
-enum-told c = search needs
-
-enum-told-2 : tie.Need-enum-told-2
-enum-told-2 c = search needs
-
-enum-told-3 : tie.Need-enum-told-3
-enum-told-3 c = search needs
 
 returns-2 : tie.Need-returns-2
 returns-2 c =
@@ -42,11 +30,11 @@ pub params-fit-spec : {M : Type 1} → statement M
 params-fit-spec =
     tie.close
     (tie.spec
-    name-twice-requires
+    (λ c κs. search needs)
     returns
-    enum-told
-    enum-told-2
-    enum-told-3
+    (λ c. search needs)
+    (λ c. search needs)
+    (λ c. search needs)
     returns-2
     returns-3
     returns-4)

@@ -6,27 +6,6 @@ use Rattle.jcalproperties.proofs.Typing.{values-wrote}
 use Rattle.jcalproperties.proofs.property.place_values.Statement.{statement}
 use Rattle.jcalproperties.proofs.property.place_values.Tie as tie
 
-sort-of-requires : tie.Need-sort-of-requires
-sort-of-requires c κs = search needs
-
-is-many-requires : tie.Need-is-many-requires
-is-many-requires c κs = search needs
-
-put-tested-requires : tie.Need-put-tested-requires
-put-tested-requires c κs = search needs
-
-enum-known-q : tie.Need-enum-known-q
-enum-known-q c = search needs
-
-put-requires : tie.Need-put-requires
-put-requires c κs = search needs
-
-enum-told : tie.Need-enum-told
-enum-told c = search needs
-
-same-length : tie.Need-same-length
-same-length c = search needs
-
 returns : tie.Need-returns
 unfolding valuesOf
 returns c =
@@ -36,9 +15,6 @@ returns c =
     let at-is-many = at-put-tested .before .before in
     let at-sort-of = at-is-many .before in
     values-wrote _ _ _ (rw (at-sort-of .sort-of .ensures, at-is-many .is-many .ensures, at-q .q .given .1) at (at-put-tested .put-tested .ensures)) (at-put .put .ensures)
-
-same-length-2 : tie.Need-same-length-2
-same-length-2 c = search needs
 
 returns-2 : tie.Need-returns-2
 unfolding valuesOf
@@ -53,13 +29,13 @@ pub place-values-spec : {M : Type 1} → statement M
 place-values-spec =
     tie.close
     (tie.spec
-    sort-of-requires
-    is-many-requires
-    put-tested-requires
-    enum-known-q
-    put-requires
-    enum-told
-    same-length
+    (λ c κs. search needs)
+    (λ c κs. search needs)
+    (λ c κs. search needs)
+    (λ c. search needs)
+    (λ c κs. search needs)
+    (λ c. search needs)
+    (λ c. search needs)
     returns
-    same-length-2
+    (λ c. search needs)
     returns-2)

@@ -8,30 +8,6 @@ use Rattle.jcalproperties.proofs.Typing.{type-quoted}
 use Rattle.jcalproperties.proofs.property.put_default.Statement.{statement}
 use Rattle.jcalproperties.proofs.property.put_default.Tie as tie
 
-enum-known-found : tie.Need-enum-known-found
-enum-known-found c = search needs
-
-put-requires : tie.Need-put-requires
-put-requires c κs = search needs
-
-put-type-name-requires : tie.Need-put-type-name-requires
-put-type-name-requires c κs = search needs
-
-put-requires-2 : tie.Need-put-requires-2
-put-requires-2 c κs = search needs
-
-enum-told : tie.Need-enum-told
-enum-told c = search needs
-
-slice-aggregate-put-all : tie.Need-slice-aggregate-put-all
-slice-aggregate-put-all c = search needs
-
-put-all-requires : tie.Need-put-all-requires
-put-all-requires c κs = search needs
-
-same-length : tie.Need-same-length
-same-length c = search needs
-
 returns : tie.Need-returns
 unfolding typeOf rowFound
 returns c =
@@ -40,9 +16,6 @@ returns c =
     let at-put = at-put-type-name .before .before .before .before in
     let at-found = at-put .before .before .before in
     rw (at-found .found .given .1) (as-text (then (then (at-put .put .ensures) (at-put-type-name .put-type-name .ensures)) (at-put2 .put2 .ensures)) (type-quoted _))
-
-same-length-2 : tie.Need-same-length-2
-same-length-2 c = search needs
 
 returns-2 : tie.Need-returns-2
 unfolding typeOf rowFound printString quoted escaped
@@ -55,14 +28,14 @@ pub put-default-spec : {M : Type 1} → statement M
 put-default-spec =
     tie.close
     (tie.spec
-    enum-known-found
-    put-requires
-    put-type-name-requires
-    put-requires-2
-    enum-told
-    slice-aggregate-put-all
-    put-all-requires
-    same-length
+    (λ c. search needs)
+    (λ c κs. search needs)
+    (λ c κs. search needs)
+    (λ c κs. search needs)
+    (λ c. search needs)
+    (λ c. search needs)
+    (λ c κs. search needs)
+    (λ c. search needs)
     returns
-    same-length-2
+    (λ c. search needs)
     returns-2)

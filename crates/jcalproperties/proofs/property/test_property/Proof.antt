@@ -5,18 +5,6 @@ use Rattle.jcalproperties.proofs.Typing.{stands-passed, refused-failed}
 use Rattle.jcalproperties.proofs.property.test_property.Statement.{statement}
 use Rattle.jcalproperties.proofs.property.test_property.Tie as tie
 
-slice-aggregate-place-property : tie.Need-slice-aggregate-place-property
-slice-aggregate-place-property c = search needs
-
-place-property-requires : tie.Need-place-property-requires
-place-property-requires c κs = search needs
-
-enum-told : tie.Need-enum-told
-enum-told c = search needs
-
-enum-known-why : tie.Need-enum-known-why
-enum-known-why c = search needs
-
 returns : tie.Need-returns
 unfolding passed
 returns c =
@@ -35,9 +23,9 @@ pub test-property-spec : {M : Type 1} → statement M
 test-property-spec =
     tie.close
     (tie.spec
-    slice-aggregate-place-property
-    place-property-requires
-    enum-told
-    enum-known-why
+    (λ c. search needs)
+    (λ c κs. search needs)
+    (λ c. search needs)
+    (λ c. search needs)
     returns
     returns-2)

@@ -52,15 +52,6 @@ returns-3 c =
     let t = tried (c .before .before) in
     value-alone _ _ _ _ (c .before .before .before .before .before .before .before .before .before .before .before .before .before .before .before .before .loop .inv .2) _ (c .before .before .before .before .before .before .before .before .before .before .before .before .before .before .value-end .ensures) (t .0) (t .1) (then (c .before .before .before .before .before .before .before .before .before .before .before .before .put .ensures) (t .2)) (c .before .if1 .left) (not-true _ (c .if2 .taken))
 
-add-i : tie.Need-add-i Inv-loop μ-loop
-add-i c = omega (arith, ahead c)
-
-add-i-2 : tie.Need-add-i-2 Inv-loop μ-loop
-add-i-2 c = omega (arith, ahead c)
-
-loop-less : tie.Need-loop-less Inv-loop μ-loop
-loop-less c = omega (arith, ahead c)
-
 loop-again : tie.Need-loop-again Inv-loop μ-loop
 loop-again c =
     let t = tried (c .before .before) in
@@ -90,7 +81,7 @@ put-tested-list-spec =
     returns-2
     (λ c. search needs)
     returns-3
-    add-i
-    add-i-2
-    loop-less
+    (λ c. omega (arith, ahead c))
+    (λ c. omega (arith, ahead c))
+    (λ c. omega (arith, ahead c))
     loop-again)

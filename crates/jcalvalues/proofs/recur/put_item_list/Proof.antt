@@ -30,9 +30,6 @@ ahead c =
     let find = c .before .before .before .before .before .before .before .before .before .before .find in
     scanned-in (code ",") (args .v .now) (loop .i) (find .result) (find .ensures) (c .before .before .before .before .if1 .left)
 
-loop-holds : tie.Need-loop-holds Inv-loop μ-loop
-loop-holds c = (omega arith, refl, leads-start)
-
 part-put-item-json-end : tie.Need-part-put-item-json-end Inv-loop μ-loop
 part-put-item-json-end c =
     let args = c .before .before .before .before .before .before .args in
@@ -65,7 +62,7 @@ put-item-list-spec =
     (tie.spec
     Inv-loop
     μ-loop
-    loop-holds
+    (λ c. (omega arith, refl, leads-start))
     (λ c. search needs)
     (λ c. search needs)
     (λ c. search needs)

@@ -29,9 +29,6 @@ ahead c =
     let find = c .before .before .before .before .before .before .before .before .before .before .find in
     scanned-in (code ";") (args .s .now) (loop .i) (find .result) (find .ensures) (c .before .before .before .before .if1 .left)
 
-loop-holds : tie.Need-loop-holds Inv-loop μ-loop
-loop-holds c = (omega arith, refl, leads-start)
-
 part-put-part-end : tie.Need-part-put-part-end Inv-loop μ-loop
 part-put-part-end c =
     let args = c .before .before .before .before .before .before .args in
@@ -62,7 +59,7 @@ put-parts-spec =
     (tie.spec
     Inv-loop
     μ-loop
-    loop-holds
+    (λ c. (omega arith, refl, leads-start))
     (λ c. search needs)
     (λ c. search needs)
     (λ c. search needs)

@@ -3,8 +3,5 @@ use borrow.Author.Needs.{needs}
 use Rattle.jcalvalues.proofs.single.attempt.Statement.{statement}
 use Rattle.jcalvalues.proofs.single.attempt.Tie as tie
 
-returns : tie.Need-returns
-returns c = rw (c .if1 .taken)
-
 pub attempt-spec : {M : Type 1} → statement M
-attempt-spec = tie.close (tie.spec returns (λ c. search needs))
+attempt-spec = tie.close (tie.spec (λ c. rw (c .if1 .taken)) (λ c. search needs))

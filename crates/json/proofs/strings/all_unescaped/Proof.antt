@@ -16,21 +16,6 @@ Inv-loop s good₀ i₀ good i = (i ≤ length s) × ((good and all unescaped (d
 abbrev μ-loop : tie.MeasureT-loop
 μ-loop s good₀ i₀ good i = length s - i
 
-loop-holds : tie.Need-loop-holds Inv-loop μ-loop
-loop-holds c = (omega arith, refl)
-
-shared-slice-read-still-unescaped : tie.Need-shared-slice-read-still-unescaped Inv-loop μ-loop
-shared-slice-read-still-unescaped c = search needs
-
-still-unescaped-requires : tie.Need-still-unescaped-requires Inv-loop μ-loop
-still-unescaped-requires c κs = search needs
-
-add-i : tie.Need-add-i Inv-loop μ-loop
-add-i c = search needs
-
-loop-less : tie.Need-loop-less Inv-loop μ-loop
-loop-less c = search needs
-
 loop-again : tie.Need-loop-again Inv-loop μ-loop
 loop-again c = (omega arith, rw (c .still-unescaped .ensures) (all-more unescaped (c .before .before .before .before .before .args .s .now) (c .before .before .before .loop .i) (c .before .before .before .loop .good) (c .before .before .loop-test .taken) ∙ c .before .before .before .loop .inv .1))
 
@@ -43,10 +28,10 @@ all-unescaped-spec =
     (tie.spec
     Inv-loop
     μ-loop
-    loop-holds
-    shared-slice-read-still-unescaped
-    still-unescaped-requires
-    add-i
-    loop-less
+    (λ c. (omega arith, refl))
+    (λ c. search needs)
+    (λ c κs. search needs)
+    (λ c. search needs)
+    (λ c. search needs)
     loop-again
     returns)

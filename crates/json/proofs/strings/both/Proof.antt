@@ -3,11 +3,5 @@ use mathlib.Core.Path.{refl}
 use Rattle.json.proofs.strings.both.Statement.{statement}
 use Rattle.json.proofs.strings.both.Tie as tie
 
-returns : tie.Need-returns
-returns c = rw (c .if1 .taken) refl
-
-returns-2 : tie.Need-returns-2
-returns-2 c = rw (c .if1 .left) refl
-
 pub both-spec : {M : Type 1} → statement M
-both-spec = tie.close (tie.spec returns returns-2)
+both-spec = tie.close (tie.spec (λ c. rw (c .if1 .taken) refl) (λ c. rw (c .if1 .left) refl))

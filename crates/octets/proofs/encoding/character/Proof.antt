@@ -8,56 +8,32 @@ use Rattle.octets.proofs.Utf8.{lead-above}
 use Rattle.octets.proofs.encoding.character.Statement.{statement}
 use Rattle.octets.proofs.encoding.character.Tie as tie
 
-peek-requires : tie.Need-peek-requires
-peek-requires c κs = search needs
-
 add-next : tie.Need-add-next
 add-next c = omega (arith, seen (c .before .before .args .s .now) (c .before .before .args .i) (omega arith))
 
 returns : tie.Need-returns
 returns c = begins-not _ _ _ (c .before .peek .ensures) (c .before .before .before .pre) (lead-low _ (omega arith) (omega arith))
 
-last-one-requires : tie.Need-last-one-requires
-last-one-requires c κs = search needs
-
 returns-2 : tie.Need-returns-2
 returns-2 c = begins _ _ _ (c .before .before .before .peek .ensures) (c .before .before .before .before .before .pre) _ _ (lead-one _ (omega arith) (omega arith)) (c .last-one .ensures _ one-awaits)
-
-last-two-requires : tie.Need-last-two-requires
-last-two-requires c κs = search needs
 
 returns-3 : tie.Need-returns-3
 unfolding lead
 returns-3 c = begins _ _ _ (c .before .before .before .before .peek .ensures) (c .before .before .before .before .before .before .pre) _ _ (lead-is 224 _ refl _ (c .before .if3 .taken)) (c .last-two .ensures _ E0-awaits)
 
-last-two-requires-2 : tie.Need-last-two-requires-2
-last-two-requires-2 c κs = search needs
-
 returns-4 : tie.Need-returns-4
 unfolding lead
 returns-4 c = begins _ _ _ (c .before .before .before .before .before .peek .ensures) (c .before .before .before .before .before .before .before .pre) _ _ (lead-is 237 _ refl _ (c .before .if4 .taken)) (c .last-two2 .ensures _ ED-awaits)
 
-last-two-requires-3 : tie.Need-last-two-requires-3
-last-two-requires-3 c κs = search needs
-
 returns-5 : tie.Need-returns-5
 returns-5 c = begins _ _ _ (c .before .before .before .before .before .before .peek .ensures) (c .before .before .before .before .before .before .before .before .pre) _ _ (lead-two _ (omega arith) (omega arith) (c .before .before .before .if3 .left) (c .before .before .if4 .left)) (c .last-two3 .ensures _ two-awaits)
-
-last-three-requires : tie.Need-last-three-requires
-last-three-requires c κs = search needs
 
 returns-6 : tie.Need-returns-6
 unfolding lead
 returns-6 c = begins _ _ _ (c .before .before .before .before .before .before .before .peek .ensures) (c .before .before .before .before .before .before .before .before .before .pre) _ _ (lead-is 240 _ refl _ (c .before .if6 .taken)) (c .last-three .ensures _ F0-awaits)
 
-last-three-requires-2 : tie.Need-last-three-requires-2
-last-three-requires-2 c κs = search needs
-
 returns-7 : tie.Need-returns-7
 returns-7 c = begins _ _ _ (c .before .before .before .before .before .before .before .before .peek .ensures) (c .before .before .before .before .before .before .before .before .before .before .pre) _ _ (lead-three _ (omega arith) (omega arith)) (c .last-three2 .ensures _ three-awaits)
-
-last-three-requires-3 : tie.Need-last-three-requires-3
-last-three-requires-3 c κs = search needs
 
 returns-8 : tie.Need-returns-8
 unfolding lead
@@ -70,21 +46,21 @@ pub character-spec : {M : Type 1} → statement M
 character-spec =
     tie.close
     (tie.spec
-    peek-requires
+    (λ c κs. search needs)
     add-next
     returns
-    last-one-requires
+    (λ c κs. search needs)
     returns-2
-    last-two-requires
+    (λ c κs. search needs)
     returns-3
-    last-two-requires-2
+    (λ c κs. search needs)
     returns-4
-    last-two-requires-3
+    (λ c κs. search needs)
     returns-5
-    last-three-requires
+    (λ c κs. search needs)
     returns-6
-    last-three-requires-2
+    (λ c κs. search needs)
     returns-7
-    last-three-requires-3
+    (λ c κs. search needs)
     returns-8
     returns-9)

@@ -15,23 +15,8 @@ Inv-loop s i₀ i = (i ≤ length s) × (utf8 s ≡ utf8 (drop i s))
 abbrev μ-loop : tie.MeasureT-loop
 μ-loop s i₀ i = length s - i
 
-loop-holds : tie.Need-loop-holds Inv-loop μ-loop
-loop-holds c = (omega arith, refl)
-
-shared-slice-read-if1 : tie.Need-shared-slice-read-if1 Inv-loop μ-loop
-shared-slice-read-if1 c = search needs
-
-add-i : tie.Need-add-i Inv-loop μ-loop
-add-i c = search needs
-
-loop-less : tie.Need-loop-less Inv-loop μ-loop
-loop-less c = search needs
-
 loop-again : tie.Need-loop-again Inv-loop μ-loop
 loop-again c = (omega arith, c .before .before .before .loop .inv .1 ∙ utf8-next _ _ (c .before .before .loop-test .taken) (c .if1 .taken))
-
-character-requires : tie.Need-character-requires Inv-loop μ-loop
-character-requires c κs = search needs
 
 returns : tie.Need-returns Inv-loop μ-loop
 returns c = sym (c .before .before .before .before .before .loop .inv .1 ∙ utf8-stop _ _ (rw (c .if2 .taken) at (c .before .character .ensures)))
@@ -51,12 +36,12 @@ has-characters-spec =
     (tie.spec
     Inv-loop
     μ-loop
-    loop-holds
-    shared-slice-read-if1
-    add-i
-    loop-less
+    (λ c. (omega arith, refl))
+    (λ c. search needs)
+    (λ c. search needs)
+    (λ c. search needs)
     loop-again
-    character-requires
+    (λ c κs. search needs)
     returns
     loop-less-2
     loop-again-2

@@ -8,17 +8,8 @@ use Rattle.octets.proofs.Classes.{between-true}
 use Rattle.octets.proofs.encoding.last_three.Statement.{statement}
 use Rattle.octets.proofs.encoding.last_three.Tie as tie
 
-peek-requires : tie.Need-peek-requires
-peek-requires c κs = search needs
-
-within-requires : tie.Need-within-requires
-within-requires c κs = search needs
-
 add-last-two : tie.Need-add-last-two
 add-last-two c = omega (arith, seen (c .before .before .before .before .args .s .now) (c .before .before .before .before .args .i) (omega (arith, between-true _ _ _ (ap (between _ _) (sym (c .before .before .peek .ensures)) ∙ sym (c .before .within .ensures) ∙ c .if1 .taken) .0)))
-
-last-two-requires : tie.Need-last-two-requires
-last-two-requires c κs = search needs
 
 returns : tie.Need-returns
 returns c = λ d a. awaited d _ _ _ a _ _ (ap (between _ _) (sym (c .before .before .before .peek .ensures)) ∙ sym (c .before .before .within .ensures) ∙ c .before .if1 .taken) _ (c .last-two .ensures _ two-awaits)
@@ -29,4 +20,4 @@ returns-2 c = λ d a. awaited-not d _ _ _ a _ _ (ap (between _ _) (sym (c .befor
 pub last-three-spec : {M : Type 1} → statement M
 last-three-spec =
     tie.close
-    (tie.spec peek-requires within-requires add-last-two last-two-requires returns returns-2)
+    (tie.spec (λ c κs. search needs) (λ c κs. search needs) add-last-two (λ c κs. search needs) returns returns-2)

@@ -8,17 +8,8 @@ use Rattle.octets.proofs.Classes.{between-true}
 use Rattle.octets.proofs.encoding.last_two.Statement.{statement}
 use Rattle.octets.proofs.encoding.last_two.Tie as tie
 
-peek-requires : tie.Need-peek-requires
-peek-requires c κs = search needs
-
-within-requires : tie.Need-within-requires
-within-requires c κs = search needs
-
 add-last-one : tie.Need-add-last-one
 add-last-one c = omega (arith, seen (c .before .before .before .before .args .s .now) (c .before .before .before .before .args .i) (omega (arith, between-true _ _ _ (ap (between _ _) (sym (c .before .before .peek .ensures)) ∙ sym (c .before .within .ensures) ∙ c .if1 .taken) .0)))
-
-last-one-requires : tie.Need-last-one-requires
-last-one-requires c κs = search needs
 
 returns : tie.Need-returns
 returns c = λ d a. awaited d _ _ _ a _ _ (ap (between _ _) (sym (c .before .before .before .peek .ensures)) ∙ sym (c .before .before .within .ensures) ∙ c .before .if1 .taken) _ (c .last-one .ensures _ one-awaits)
@@ -29,4 +20,4 @@ returns-2 c = λ d a. awaited-not d _ _ _ a _ _ (ap (between _ _) (sym (c .befor
 pub last-two-spec : {M : Type 1} → statement M
 last-two-spec =
     tie.close
-    (tie.spec peek-requires within-requires add-last-one last-one-requires returns returns-2)
+    (tie.spec (λ c κs. search needs) (λ c κs. search needs) add-last-one (λ c κs. search needs) returns returns-2)

@@ -5,16 +5,12 @@ use Rattle.octets.proofs.Classes.{filled-none, filled-some}
 use Rattle.octets.proofs.names.all_digits.Statement.{statement}
 use Rattle.octets.proofs.names.all_digits.Tie as tie
 
-returns : tie.Need-returns
-unfolding digits
-returns c = rw (filled-none _ (c .if1 .taken))
-
-all-in-requires : tie.Need-all-in-requires
-all-in-requires c κs = search needs
-
 returns-2 : tie.Need-returns-2
 unfolding digits
 returns-2 c = rw (filled-some _ (c .before .if1 .left)) (c .all-in .ensures)
 
 pub all-digits-spec : {M : Type 1} → statement M
-all-digits-spec = tie.close (tie.spec returns all-in-requires returns-2)
+all-digits-spec =
+    tie.close
+    (tie.spec
+    (λ c. unfold digits in rw (filled-none _ (c .if1 .taken))) (λ c κs. search needs) returns-2)

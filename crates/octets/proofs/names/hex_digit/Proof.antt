@@ -8,9 +8,6 @@ use Rattle.octets.proofs.Classes.{between-true}
 use Rattle.octets.proofs.names.hex_digit.Statement.{statement}
 use Rattle.octets.proofs.names.hex_digit.Tie as tie
 
-is-digit-requires : tie.Need-is-digit-requires
-is-digit-requires c κs = search needs
-
 sub-result : tie.Need-sub-result
 unfolding isDigit
 sub-result c = omega (arith, between-true (code "0") (code "9") _ (sym (c .before .is-digit .ensures) ∙ c .if1 .taken) .0)
@@ -18,9 +15,6 @@ sub-result c = omega (arith, between-true (code "0") (code "9") _ (sym (c .befor
 returns : tie.Need-returns
 unfolding hexDigit
 returns c = rw (sym (c .before .is-digit .ensures) ∙ c .if1 .taken)
-
-within-requires : tie.Need-within-requires
-within-requires c κs = search needs
 
 sub-result-2 : tie.Need-sub-result-2
 sub-result-2 c = omega (arith, between-true (code "A") (code "F") _ (sym (c .before .within .ensures) ∙ c .if2 .taken) .0)
@@ -31,9 +25,6 @@ add-result c = omega (arith, between-true (code "A") (code "F") _ (sym (c .befor
 returns-2 : tie.Need-returns-2
 unfolding hexDigit
 returns-2 c = rw (sym (c .before .before .before .is-digit .ensures) ∙ c .before .before .if1 .left, sym (c .before .within .ensures) ∙ c .if2 .taken)
-
-within-requires-2 : tie.Need-within-requires-2
-within-requires-2 c κs = search needs
 
 sub-result-3 : tie.Need-sub-result-3
 sub-result-3 c = omega (arith, between-true (code "a") (code "f") _ (sym (c .before .within2 .ensures) ∙ c .if3 .taken) .0)
@@ -53,14 +44,14 @@ pub hex-digit-spec : {M : Type 1} → statement M
 hex-digit-spec =
     tie.close
     (tie.spec
-    is-digit-requires
+    (λ c κs. search needs)
     sub-result
     returns
-    within-requires
+    (λ c κs. search needs)
     sub-result-2
     add-result
     returns-2
-    within-requires-2
+    (λ c κs. search needs)
     sub-result-3
     add-result-2
     returns-3

@@ -5,16 +5,13 @@ use Rattle.octets.proofs.Classes.{filled-none, filled-some}
 use Rattle.octets.proofs.names.is_lower_name.Statement.{statement}
 use Rattle.octets.proofs.names.is_lower_name.Tie as tie
 
-returns : tie.Need-returns
-unfolding isLowerName
-returns c = rw (filled-none _ (c .if1 .taken))
-
-all-in-requires : tie.Need-all-in-requires
-all-in-requires c κs = search needs
-
 returns-2 : tie.Need-returns-2
 unfolding isLowerName
 returns-2 c = rw (filled-some _ (c .before .if1 .left)) (c .all-in .ensures)
 
 pub is-lower-name-spec : {M : Type 1} → statement M
-is-lower-name-spec = tie.close (tie.spec returns all-in-requires returns-2)
+is-lower-name-spec =
+    tie.close
+    (tie.spec
+    (λ c. unfold isLowerName in rw (filled-none _ (c .if1 .taken))) (λ c κs. search needs)
+    returns-2)

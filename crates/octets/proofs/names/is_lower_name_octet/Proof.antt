@@ -5,15 +5,9 @@ use Rattle.octets.specs.Classes.{lowerNameOctet}
 use Rattle.octets.proofs.names.is_lower_name_octet.Statement.{statement}
 use Rattle.octets.proofs.names.is_lower_name_octet.Tie as tie
 
-is-lower-requires : tie.Need-is-lower-requires
-is-lower-requires c κs = search needs
-
 returns : tie.Need-returns
 unfolding lowerNameOctet
 returns c = rw (sym (c .before .is-lower .ensures) ∙ c .if1 .taken)
-
-is-digit-requires : tie.Need-is-digit-requires
-is-digit-requires c κs = search needs
 
 returns-2 : tie.Need-returns-2
 unfolding lowerNameOctet
@@ -25,4 +19,4 @@ returns-3 c = rw (sym (c .before .before .before .is-lower .ensures) ∙ c .befo
 
 pub is-lower-name-octet-spec : {M : Type 1} → statement M
 is-lower-name-octet-spec =
-    tie.close (tie.spec is-lower-requires returns is-digit-requires returns-2 returns-3)
+    tie.close (tie.spec (λ c κs. search needs) returns (λ c κs. search needs) returns-2 returns-3)

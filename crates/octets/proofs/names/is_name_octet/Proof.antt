@@ -5,15 +5,9 @@ use Rattle.octets.specs.Classes.{isLetter, nameOctet, lowerNameOctet}
 use Rattle.octets.proofs.names.is_name_octet.Statement.{statement}
 use Rattle.octets.proofs.names.is_name_octet.Tie as tie
 
-is-upper-requires : tie.Need-is-upper-requires
-is-upper-requires c κs = search needs
-
 returns : tie.Need-returns
 unfolding nameOctet isLetter
 returns c = rw (sym (c .before .is-upper .ensures) ∙ c .if1 .taken)
-
-is-lower-name-octet-requires : tie.Need-is-lower-name-octet-requires
-is-lower-name-octet-requires c κs = search needs
 
 returns-2 : tie.Need-returns-2
 unfolding nameOctet lowerNameOctet isLetter
@@ -21,4 +15,4 @@ returns-2 c = rw (sym (c .before .before .is-upper .ensures) ∙ c .before .if1 
 
 pub is-name-octet-spec : {M : Type 1} → statement M
 is-name-octet-spec =
-    tie.close (tie.spec is-upper-requires returns is-lower-name-octet-requires returns-2)
+    tie.close (tie.spec (λ c κs. search needs) returns (λ c κs. search needs) returns-2)

@@ -5,9 +5,6 @@ use Rattle.octets.specs.Classes.{textOctet}
 use Rattle.octets.proofs.names.is_text_octet.Statement.{statement}
 use Rattle.octets.proofs.names.is_text_octet.Tie as tie
 
-is-plain-octet-requires : tie.Need-is-plain-octet-requires
-is-plain-octet-requires c κs = search needs
-
 returns : tie.Need-returns
 unfolding textOctet
 returns c = rw (sym (c .before .is-plain-octet .ensures) ∙ c .if1 .taken)
@@ -17,4 +14,4 @@ unfolding textOctet
 returns-2 c = rw (sym (c .before .is-plain-octet .ensures) ∙ c .if1 .left)
 
 pub is-text-octet-spec : {M : Type 1} → statement M
-is-text-octet-spec = tie.close (tie.spec is-plain-octet-requires returns returns-2)
+is-text-octet-spec = tie.close (tie.spec (λ c κs. search needs) returns returns-2)

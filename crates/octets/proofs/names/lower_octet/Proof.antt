@@ -8,9 +8,6 @@ use Rattle.octets.proofs.Classes.{between-true}
 use Rattle.octets.proofs.names.lower_octet.Statement.{statement}
 use Rattle.octets.proofs.names.lower_octet.Tie as tie
 
-is-upper-requires : tie.Need-is-upper-requires
-is-upper-requires c κs = search needs
-
 add-result : tie.Need-add-result
 unfolding isUpper
 add-result c = omega (arith, between-true (code "A") (code "Z") _ (sym (c .before .is-upper .ensures) ∙ c .if1 .taken) .1)
@@ -24,4 +21,4 @@ unfolding lowerOctet
 returns-2 c = rw (sym (c .before .is-upper .ensures) ∙ c .if1 .left)
 
 pub lower-octet-spec : {M : Type 1} → statement M
-lower-octet-spec = tie.close (tie.spec is-upper-requires add-result returns returns-2)
+lower-octet-spec = tie.close (tie.spec (λ c κs. search needs) add-result returns returns-2)

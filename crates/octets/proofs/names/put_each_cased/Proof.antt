@@ -18,29 +18,8 @@ Inv-loop out₀ at src case to₀ i₀ out to i = (i ≤ length src) × (length 
 abbrev μ-loop : tie.MeasureT-loop
 μ-loop out₀ at src case to₀ i₀ out to i = length src - i
 
-loop-holds : tie.Need-loop-holds Inv-loop μ-loop
-loop-holds c = (omega arith, refl, leads-start)
-
-shared-slice-read-turn : tie.Need-shared-slice-read-turn Inv-loop μ-loop
-shared-slice-read-turn c = search needs
-
-turn-requires : tie.Need-turn-requires Inv-loop μ-loop
-turn-requires c κs = search needs
-
-put-requires : tie.Need-put-requires Inv-loop μ-loop
-put-requires c κs = search needs
-
-add-i : tie.Need-add-i Inv-loop μ-loop
-add-i c = search needs
-
-loop-less : tie.Need-loop-less Inv-loop μ-loop
-loop-less c = search needs
-
 loop-again : tie.Need-loop-again Inv-loop μ-loop
 loop-again c = (omega arith, omega arith, leads-on (c .before .before .before .before .before .before .before .loop .inv .2) (c .before .before .put .ensures) (rw (here _ _ (c .before .before .before .before .before .before .loop-test .taken), c .before .before .before .turn .ensures)))
-
-same-length : tie.Need-same-length Inv-loop μ-loop
-same-length c = search needs
 
 returns : tie.Need-returns Inv-loop μ-loop
 returns c = leads-end (c .before .loop .inv .2) (rw (ended _ _ (c .loop-test .left)))
@@ -51,12 +30,12 @@ put-each-cased-spec =
     (tie.spec
     Inv-loop
     μ-loop
-    loop-holds
-    shared-slice-read-turn
-    turn-requires
-    put-requires
-    add-i
-    loop-less
+    (λ c. (omega arith, refl, leads-start))
+    (λ c. search needs)
+    (λ c κs. search needs)
+    (λ c κs. search needs)
+    (λ c. search needs)
+    (λ c. search needs)
     loop-again
-    same-length
+    (λ c. search needs)
     returns)

@@ -15,32 +15,8 @@ Inv-loop a b i₀ i = (i ≤ length a) × (length a ≡ length b) × (sameName a
 abbrev μ-loop : tie.MeasureT-loop
 μ-loop a b i₀ i = length a - i
 
-returns : tie.Need-returns Inv-loop μ-loop
-returns c = sym (name-length _ _ (c .if1 .taken))
-
-loop-holds : tie.Need-loop-holds Inv-loop μ-loop
-loop-holds c = (omega arith, omega arith, refl)
-
-shared-slice-read-upper-octet : tie.Need-shared-slice-read-upper-octet Inv-loop μ-loop
-shared-slice-read-upper-octet c = search needs
-
-upper-octet-requires : tie.Need-upper-octet-requires Inv-loop μ-loop
-upper-octet-requires c κs = search needs
-
-shared-slice-read-upper-octet-2 : tie.Need-shared-slice-read-upper-octet-2 Inv-loop μ-loop
-shared-slice-read-upper-octet-2 c = search needs
-
-upper-octet-requires-2 : tie.Need-upper-octet-requires-2 Inv-loop μ-loop
-upper-octet-requires-2 c κs = search needs
-
 returns-2 : tie.Need-returns-2 Inv-loop μ-loop
 returns-2 c = sym (c .before .before .before .before .before .before .loop .inv .2 ∙ name-stop _ _ _ (c .before .before .before .before .before .loop-test .taken) (omega arith) (λ e. c .if2 .taken (c .before .before .before .upper-octet .ensures ∙ e ∙ sym (c .before .upper-octet2 .ensures))))
-
-add-i : tie.Need-add-i Inv-loop μ-loop
-add-i c = search needs
-
-loop-less : tie.Need-loop-less Inv-loop μ-loop
-loop-less c = search needs
 
 loop-again : tie.Need-loop-again Inv-loop μ-loop
 loop-again c = (omega arith, omega arith, c .before .before .before .before .before .before .loop .inv .2 ∙ name-on _ _ _ (c .before .before .before .before .before .loop-test .taken) (omega arith) (sym (c .before .before .before .upper-octet .ensures) ∙ c .if2 .left ∙ c .before .upper-octet2 .ensures))
@@ -54,14 +30,14 @@ same-name-spec =
     (tie.spec
     Inv-loop
     μ-loop
-    returns
-    loop-holds
-    shared-slice-read-upper-octet
-    upper-octet-requires
-    shared-slice-read-upper-octet-2
-    upper-octet-requires-2
+    (λ c. sym (name-length _ _ (c .if1 .taken)))
+    (λ c. (omega arith, omega arith, refl))
+    (λ c. search needs)
+    (λ c κs. search needs)
+    (λ c. search needs)
+    (λ c κs. search needs)
     returns-2
-    add-i
-    loop-less
+    (λ c. search needs)
+    (λ c. search needs)
     loop-again
     returns-3)

@@ -8,9 +8,6 @@ use Rattle.octets.proofs.Classes.{between-true}
 use Rattle.octets.proofs.names.upper_octet.Statement.{statement}
 use Rattle.octets.proofs.names.upper_octet.Tie as tie
 
-is-lower-requires : tie.Need-is-lower-requires
-is-lower-requires c κs = search needs
-
 sub-result : tie.Need-sub-result
 unfolding isLower
 sub-result c = omega (arith, between-true (code "a") (code "z") _ (sym (c .before .is-lower .ensures) ∙ c .if1 .taken) .0)
@@ -24,4 +21,4 @@ unfolding upperOctet
 returns-2 c = rw (sym (c .before .is-lower .ensures) ∙ c .if1 .left)
 
 pub upper-octet-spec : {M : Type 1} → statement M
-upper-octet-spec = tie.close (tie.spec is-lower-requires sub-result returns returns-2)
+upper-octet-spec = tie.close (tie.spec (λ c κs. search needs) sub-result returns returns-2)

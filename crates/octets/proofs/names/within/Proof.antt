@@ -4,13 +4,9 @@ use Rattle.octets.specs.Classes.{between}
 use Rattle.octets.proofs.names.within.Statement.{statement}
 use Rattle.octets.proofs.names.within.Tie as tie
 
-returns : tie.Need-returns
-unfolding between
-returns c = rw (le-leb _ _ (c .if1 .taken))
-
-returns-2 : tie.Need-returns-2
-unfolding between
-returns-2 c = rw (lt-leb _ _ (c .if1 .left))
-
 pub within-spec : {M : Type 1} → statement M
-within-spec = tie.close (tie.spec returns returns-2)
+within-spec =
+    tie.close
+    (tie.spec
+    (λ c. unfold between in rw (le-leb _ _ (c .if1 .taken)))
+    (λ c. unfold between in rw (lt-leb _ _ (c .if1 .left))))

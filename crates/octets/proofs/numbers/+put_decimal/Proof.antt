@@ -28,35 +28,8 @@ put-decimal-below t =
 abbrev claims : ℕ → put-decimal-lts.Claims
 claims t = (put-reads.Asked, put-reads.Learnt, put-decimal-below t, put-decimal.Post)
 
-put-decimal-cast-put : (t : ℕ) → put-decimal-lts.Need-cast-put (claims t) (put-decimal-at t) put-decimal.Post
-put-decimal-cast-put t c = omega arith
-
-put-decimal-add-put : (t : ℕ) → put-decimal-lts.Need-add-put (claims t) (put-decimal-at t) put-decimal.Post
-put-decimal-add-put t c = omega arith
-
-put-decimal-put-requires : (t : ℕ) → put-decimal-lts.Need-put-requires (claims t) (put-decimal-at t) put-decimal.Post
-put-decimal-put-requires t c κs = search needs
-
-put-decimal-same-length : (t : ℕ) → put-decimal-lts.Need-same-length (claims t) (put-decimal-at t) put-decimal.Post
-put-decimal-same-length t c = search needs
-
 put-decimal-returns : (t : ℕ) → put-decimal-lts.Need-returns (claims t) (put-decimal-at t) put-decimal.Post
 put-decimal-returns t c = as-text (c .before .before .put .ensures) (sym (decimal-one _ (omega arith)))
-
-put-decimal-put-decimal-requires : (t : ℕ) → put-decimal-lts.Need-put-decimal-requires (claims t) (put-decimal-at t) put-decimal.Post
-put-decimal-put-decimal-requires t c κs = (omega arith, tt)
-
-put-decimal-cast-put-2 : (t : ℕ) → put-decimal-lts.Need-cast-put-2 (claims t) (put-decimal-at t) put-decimal.Post
-put-decimal-cast-put-2 t c = omega arith
-
-put-decimal-add-put-2 : (t : ℕ) → put-decimal-lts.Need-add-put-2 (claims t) (put-decimal-at t) put-decimal.Post
-put-decimal-add-put-2 t c = omega arith
-
-put-decimal-put-requires-2 : (t : ℕ) → put-decimal-lts.Need-put-requires-2 (claims t) (put-decimal-at t) put-decimal.Post
-put-decimal-put-requires-2 t c κs = search needs
-
-put-decimal-same-length-2 : (t : ℕ) → put-decimal-lts.Need-same-length-2 (claims t) (put-decimal-at t) put-decimal.Post
-put-decimal-same-length-2 t c = search needs
 
 put-decimal-returns-2 : (t : ℕ) → put-decimal-lts.Need-returns-2 (claims t) (put-decimal-at t) put-decimal.Post
 put-decimal-returns-2 t c = as-text (then (c .before .before .before .before .before .before .put-decimal .ensures) (c .before .before .put2 .ensures)) (sym (decimal-last _ (omega arith) (omega arith)))
@@ -65,14 +38,14 @@ pub +put-decimal-spec : {M : Type 1} → statement M
 +put-decimal-spec = close μ-put-decimal λ t. put-decimal-lts.spec (claims t)
     (put-decimal-at t)
     put-decimal.Post
-    (put-decimal-cast-put t)
-    (put-decimal-add-put t)
-    (put-decimal-put-requires t)
-    (put-decimal-same-length t)
+    (λ c. omega arith)
+    (λ c. omega arith)
+    (λ c κs. search needs)
+    (λ c. search needs)
     (put-decimal-returns t)
-    (put-decimal-put-decimal-requires t)
-    (put-decimal-cast-put-2 t)
-    (put-decimal-add-put-2 t)
-    (put-decimal-put-requires-2 t)
-    (put-decimal-same-length-2 t)
+    (λ c κs. (omega arith, tt))
+    (λ c. omega arith)
+    (λ c. omega arith)
+    (λ c κs. search needs)
+    (λ c. search needs)
     (put-decimal-returns-2 t)

@@ -7,27 +7,9 @@ use Rattle.octets.proofs.Positions.{from}
 use Rattle.octets.proofs.numbers.is_negative.Statement.{statement}
 use Rattle.octets.proofs.numbers.is_negative.Tie as tie
 
-peek-requires : tie.Need-peek-requires
-peek-requires c κs = search needs
-
 returns : tie.Need-returns
 unfolding minus
 returns c = rw (← (c .before .peek .ensures), ne-eqb _ _ (c .if1 .taken))
-
-sign-length-requires : tie.Need-sign-length-requires
-sign-length-requires c κs = search needs
-
-sub-value-of : tie.Need-sub-value-of
-sub-value-of c = search needs
-
-part-value-of-start : tie.Need-part-value-of-start
-part-value-of-start c = search needs
-
-part-value-of-end : tie.Need-part-value-of-end
-part-value-of-end c = search needs
-
-value-of-requires : tie.Need-value-of-requires
-value-of-requires c κs = search needs
 
 returns-2 : tie.Need-returns-2
 unfolding minus
@@ -37,11 +19,11 @@ pub is-negative-spec : {M : Type 1} → statement M
 is-negative-spec =
     tie.close
     (tie.spec
-    peek-requires
+    (λ c κs. search needs)
     returns
-    sign-length-requires
-    sub-value-of
-    part-value-of-start
-    part-value-of-end
-    value-of-requires
+    (λ c κs. search needs)
+    (λ c. search needs)
+    (λ c. search needs)
+    (λ c. search needs)
+    (λ c κs. search needs)
     returns-2)

@@ -17,32 +17,11 @@ Inv-loop s i₀ i = (i ≤ length s) × (trim s ≡ trim (drop i s))
 abbrev μ-loop : tie.MeasureT-loop
 μ-loop s i₀ i = length s - i
 
-loop-holds : tie.Need-loop-holds Inv-loop μ-loop
-loop-holds c = (omega arith, refl)
-
-shared-slice-read-if1 : tie.Need-shared-slice-read-if1 Inv-loop μ-loop
-shared-slice-read-if1 c = search needs
-
 returns : tie.Need-returns Inv-loop μ-loop
 returns c = (omega arith, c .before .before .before .loop .inv .1 ∙ trim-other _ _ (c .before .before .loop-test .taken) (c .if1 .taken))
 
-add-peek : tie.Need-add-peek Inv-loop μ-loop
-add-peek c = search needs
-
-peek-requires : tie.Need-peek-requires Inv-loop μ-loop
-peek-requires c κs = search needs
-
-is-digit-requires : tie.Need-is-digit-requires Inv-loop μ-loop
-is-digit-requires c κs = search needs
-
 returns-2 : tie.Need-returns-2 Inv-loop μ-loop
 returns-2 c = (omega arith, c .before .before .before .before .before .before .loop .inv .1 ∙ trim-last _ _ (c .before .before .before .before .before .loop-test .taken) (ap isDigit (sym (c .before .before .peek .ensures)) ∙ sym (c .before .is-digit .ensures) ∙ not-true _ (c .if2 .taken)))
-
-add-i : tie.Need-add-i Inv-loop μ-loop
-add-i c = search needs
-
-loop-less : tie.Need-loop-less Inv-loop μ-loop
-loop-less c = search needs
 
 loop-again : tie.Need-loop-again Inv-loop μ-loop
 loop-again c = (omega arith, c .before .before .before .before .before .before .loop .inv .1 ∙ trim-on _ _ (c .before .before .before .before .before .loop-test .taken) (c .before .before .before .if1 .left) (ap isDigit (sym (c .before .before .peek .ensures)) ∙ sym (c .before .is-digit .ensures) ∙ not-false _ (c .if2 .left)))
@@ -56,14 +35,14 @@ leading-zeros-spec =
     (tie.spec
     Inv-loop
     μ-loop
-    loop-holds
-    shared-slice-read-if1
+    (λ c. (omega arith, refl))
+    (λ c. search needs)
     returns
-    add-peek
-    peek-requires
-    is-digit-requires
+    (λ c. search needs)
+    (λ c κs. search needs)
+    (λ c κs. search needs)
     returns-2
-    add-i
-    loop-less
+    (λ c. search needs)
+    (λ c. search needs)
     loop-again
     returns-3)

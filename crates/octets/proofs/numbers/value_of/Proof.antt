@@ -15,25 +15,6 @@ Inv-loop s most limit value₀ i₀ value i = (i ≤ length s) × (value ≤ lim
 abbrev μ-loop : tie.MeasureT-loop
 μ-loop s most limit value₀ i₀ value i = length s - i
 
-add-limit : tie.Need-add-limit Inv-loop μ-loop
-add-limit c = search needs
-
-loop-holds : tie.Need-loop-holds Inv-loop μ-loop
-unfolding valueOf
-loop-holds c = (omega arith, omega arith, refl, refl)
-
-shared-slice-read-next-value : tie.Need-shared-slice-read-next-value Inv-loop μ-loop
-shared-slice-read-next-value c = search needs
-
-next-value-requires : tie.Need-next-value-requires Inv-loop μ-loop
-next-value-requires c κs = (omega arith, omega arith)
-
-add-i : tie.Need-add-i Inv-loop μ-loop
-add-i c = search needs
-
-loop-less : tie.Need-loop-less Inv-loop μ-loop
-loop-less c = search needs
-
 loop-again : tie.Need-loop-again Inv-loop μ-loop
 loop-again c = (omega arith, omega (arith, c .next-value .ensures), omega arith, rw (c .next-value .ensures) (value-on _ _ (c .before .before .loop-test .taken) _ _ ∙ c .before .before .before .loop .inv .3))
 
@@ -46,11 +27,11 @@ value-of-spec =
     (tie.spec
     Inv-loop
     μ-loop
-    add-limit
-    loop-holds
-    shared-slice-read-next-value
-    next-value-requires
-    add-i
-    loop-less
+    (λ c. search needs)
+    (λ c. unfold valueOf in (omega arith, omega arith, refl, refl))
+    (λ c. search needs)
+    (λ c κs. (omega arith, omega arith))
+    (λ c. search needs)
+    (λ c. search needs)
     loop-again
     returns)

@@ -9,19 +9,13 @@ use Rattle.octets.proofs.settling.finish.Tie as tie
 
 -- `octets::finish` meets its contract.
 
-zero-requires : tie.Need-zero-requires
-zero-requires c κs = search needs
-
 returns : tie.Need-returns
 unfolding outcome finished
 returns c = rw (le-leb (c .before .before .args .at) (length (c .before .before .args .out .now)) (omega arith))
-
-same-length : tie.Need-same-length
-same-length c = search needs
 
 returns-2 : tie.Need-returns-2
 unfolding outcome finished zeroed
 returns-2 c = rw (lt-leb (c .before .before .before .before .before .before .args .at) (length (c .before .before .before .before .before .before .args .out .now)) (omega arith), c .before .before .zero .ensures)
 
 pub finish-spec : {M : Type 1} → statement M
-finish-spec = tie.close (tie.spec zero-requires returns same-length returns-2)
+finish-spec = tie.close (tie.spec (λ c κs. search needs) returns (λ c. search needs) returns-2)

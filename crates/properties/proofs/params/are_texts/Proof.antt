@@ -20,32 +20,8 @@ Inv-loop t at i₀ i = all (all textOctet) (map octetsOf (listAt t i)) ≡ all (
 abbrev μ-loop : tie.MeasureT-loop
 μ-loop t at i₀ i = length t - i
 
-into-array-requires : tie.Need-into-array-requires Inv-loop μ-loop
-into-array-requires c κs = search needs
-
-loop-holds : tie.Need-loop-holds Inv-loop μ-loop
-loop-holds c = refl
-
-tag-requires : tie.Need-tag-requires Inv-loop μ-loop
-tag-requires c κs = search needs
-
 returns : tie.Need-returns Inv-loop μ-loop
 returns c = sym (ap (all (all textOctet)) (values-of _ _ (c .before .before .before .before .before .pre) (c .before .before .before .into-array .ensures)) ∙ sym (c .before .before .loop .inv) ∙ ap (all (all textOctet)) (texts-end _ _ (sym (c .before .tag .ensures) ∙ c .if1 .taken)) ∙ texts-none)
-
-text-at-requires : tie.Need-text-at-requires Inv-loop μ-loop
-text-at-requires c κs = search needs
-
-sub-all-text : tie.Need-sub-all-text Inv-loop μ-loop
-sub-all-text c = search needs
-
-part-all-text-start : tie.Need-part-all-text-start Inv-loop μ-loop
-part-all-text-start c = search needs
-
-part-all-text-end : tie.Need-part-all-text-end Inv-loop μ-loop
-part-all-text-end c = search needs
-
-all-text-requires : tie.Need-all-text-requires Inv-loop μ-loop
-all-text-requires c κs = search needs
 
 returns-2 : tie.Need-returns-2 Inv-loop μ-loop
 returns-2 c = sym (ap (all (all textOctet)) (values-of _ _ (c .before .before .before .before .before .before .before .before .before .pre) (c .before .before .before .before .before .before .before .into-array .ensures)) ∙ sym (c .before .before .before .before .before .before .loop .inv) ∙ ap (all (all textOctet)) (texts-next _ _ (λ e. c .before .before .before .before .if1 .left (c .before .before .before .before .before .tag .ensures ∙ e)) (c .before .before .before .text-at .ensures)) ∙ texts-off _ _ (sym (c .before .all-text .ensures) ∙ not-true _ (c .if2 .taken)))
@@ -62,15 +38,15 @@ are-texts-spec =
     (tie.spec
     Inv-loop
     μ-loop
-    into-array-requires
-    loop-holds
-    tag-requires
+    (λ c κs. search needs)
+    (λ c. refl)
+    (λ c κs. search needs)
     returns
-    text-at-requires
-    sub-all-text
-    part-all-text-start
-    part-all-text-end
-    all-text-requires
+    (λ c κs. search needs)
+    (λ c. search needs)
+    (λ c. search needs)
+    (λ c. search needs)
+    (λ c κs. search needs)
     returns-2
     loop-less
     loop-again)

@@ -17,35 +17,11 @@ Inv-loop t at i₀ i = isEncoded (paramsFrom (membersAt t i)) ≡ isEncoded (par
 abbrev μ-loop : tie.MeasureT-loop
 μ-loop t at i₀ i = length t - i
 
-loop-holds : tie.Need-loop-holds Inv-loop μ-loop
-loop-holds c = refl
-
-tag-requires : tie.Need-tag-requires Inv-loop μ-loop
-tag-requires c κs = search needs
-
 returns : tie.Need-returns Inv-loop μ-loop
 returns c = sym (ap isEncoded (params-end _ _ (sym (c .before .tag .ensures) ∙ c .if1 .taken)) ∙ encoded-none) ∙ c .before .before .loop .inv
 
-text-at-requires : tie.Need-text-at-requires Inv-loop μ-loop
-text-at-requires c κs = search needs
-
-sub-encodes : tie.Need-sub-encodes Inv-loop μ-loop
-sub-encodes c = search needs
-
-part-encodes-start : tie.Need-part-encodes-start Inv-loop μ-loop
-part-encodes-start c = search needs
-
-part-encodes-end : tie.Need-part-encodes-end Inv-loop μ-loop
-part-encodes-end c = search needs
-
-encodes-requires : tie.Need-encodes-requires Inv-loop μ-loop
-encodes-requires c κs = search needs
-
 returns-2 : tie.Need-returns-2 Inv-loop μ-loop
 returns-2 c = sym (ap isEncoded (params-first _ _ (λ e. c .before .before .before .before .if1 .left (c .before .before .before .before .before .tag .ensures ∙ e)) (c .before .before .before .text-at .ensures)) ∙ encoded-here _ _ _ (sym (c .before .encodes .ensures) ∙ c .if2 .taken)) ∙ c .before .before .before .before .before .before .loop .inv
-
-behind-requires : tie.Need-behind-requires Inv-loop μ-loop
-behind-requires c κs = search needs
 
 loop-less : tie.Need-loop-less Inv-loop μ-loop
 loop-less c =
@@ -61,15 +37,15 @@ is-encoded-spec =
     (tie.spec
     Inv-loop
     μ-loop
-    loop-holds
-    tag-requires
+    (λ c. refl)
+    (λ c κs. search needs)
     returns
-    text-at-requires
-    sub-encodes
-    part-encodes-start
-    part-encodes-end
-    encodes-requires
+    (λ c κs. search needs)
+    (λ c. search needs)
+    (λ c. search needs)
+    (λ c. search needs)
+    (λ c κs. search needs)
     returns-2
-    behind-requires
+    (λ c κs. search needs)
     loop-less
     loop-again)

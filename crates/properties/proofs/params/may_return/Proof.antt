@@ -20,53 +20,11 @@ Inv-loop t at i₀ key i = all mayReturn (paramsFrom (membersAt t i)) ≡ all ma
 abbrev μ-loop : tie.MeasureT-loop
 μ-loop t at i₀ key i = length t - i
 
-loop-holds : tie.Need-loop-holds Inv-loop μ-loop
-loop-holds c = refl
-
-tag-requires : tie.Need-tag-requires Inv-loop μ-loop
-tag-requires c κs = search needs
-
 returns : tie.Need-returns Inv-loop μ-loop
 returns c = sym (ap (all mayReturn) (params-end _ _ (sym (c .before .tag .ensures) ∙ c .if1 .taken)) ∙ return-none) ∙ c .before .before .loop .inv
 
-text-at-requires : tie.Need-text-at-requires Inv-loop μ-loop
-text-at-requires c κs = search needs
-
-sub-same : tie.Need-sub-same Inv-loop μ-loop
-sub-same c = search needs
-
-part-same-start : tie.Need-part-same-start Inv-loop μ-loop
-part-same-start c = search needs
-
-part-same-end : tie.Need-part-same-end Inv-loop μ-loop
-part-same-end c = search needs
-
-slice-aggregate-same : tie.Need-slice-aggregate-same Inv-loop μ-loop
-slice-aggregate-same c = search needs
-
-same-requires : tie.Need-same-requires Inv-loop μ-loop
-same-requires c κs = search needs
-
 returns-2 : tie.Need-returns-2 Inv-loop μ-loop
 returns-2 c = sym (ap (all mayReturn) (params-first _ _ (λ e. c .before .before .before .before .before .if1 .left (c .before .before .before .before .before .before .tag .ensures ∙ e)) (c .before .before .before .before .text-at .ensures)) ∙ return-value _ _ _ (sym (c .before .same .ensures) ∙ c .if2 .taken)) ∙ c .before .before .before .before .before .before .before .loop .inv
-
-tag-requires-2 : tie.Need-tag-requires-2 Inv-loop μ-loop
-tag-requires-2 c κs = search needs
-
-text-at-requires-2 : tie.Need-text-at-requires-2 Inv-loop μ-loop
-text-at-requires-2 c κs = search needs
-
-sub-all-text : tie.Need-sub-all-text Inv-loop μ-loop
-sub-all-text c = search needs
-
-part-all-text-start : tie.Need-part-all-text-start Inv-loop μ-loop
-part-all-text-start c = search needs
-
-part-all-text-end : tie.Need-part-all-text-end Inv-loop μ-loop
-part-all-text-end c = search needs
-
-all-text-requires : tie.Need-all-text-requires Inv-loop μ-loop
-all-text-requires c κs = search needs
 
 returns-3 : tie.Need-returns-3 Inv-loop μ-loop
 returns-3 c = sym (ap (all mayReturn) (params-first _ _ (λ e. c .before .before .before .before .before .before .before .before .before .before .before .if1 .left (c .before .before .before .before .before .before .before .before .before .before .before .before .tag .ensures ∙ e)) (c .before .before .before .before .before .before .before .before .before .before .text-at .ensures)) ∙ return-off _ _ _ (sym (c .before .before .before .before .before .before .before .same .ensures) ∙ c .before .before .before .before .before .before .if2 .left) (ap (all (all textOctet)) (value-one _ _ (sym (c .before .before .before .before .before .tag2 .ensures) ∙ c .before .before .before .before .if3 .taken) (c .before .before .before .text-at2 .ensures)) ∙ texts-one _ ∙ sym (c .before .all-text .ensures) ∙ not-true _ (c .if4 .taken))) ∙ c .before .before .before .before .before .before .before .before .before .before .before .before .before .loop .inv
@@ -85,9 +43,6 @@ are-texts-requires c κs = λ e. c .if3 .left (c .before .tag2 .ensures ∙ e)
 returns-4 : tie.Need-returns-4 Inv-loop μ-loop
 returns-4 c = sym (ap (all mayReturn) (params-first _ _ (λ e. c .before .before .before .before .before .before .before .before .before .if1 .left (c .before .before .before .before .before .before .before .before .before .before .tag .ensures ∙ e)) (c .before .before .before .before .before .before .before .before .text-at .ensures)) ∙ return-off _ _ _ (sym (c .before .before .before .before .before .same .ensures) ∙ c .before .before .before .before .if2 .left) (sym (c .before .are-texts .ensures) ∙ not-true _ (c .if5 .taken))) ∙ c .before .before .before .before .before .before .before .before .before .before .before .loop .inv
 
-behind-requires : tie.Need-behind-requires Inv-loop μ-loop
-behind-requires c κs = search needs
-
 loop-less-2 : tie.Need-loop-less-2 Inv-loop μ-loop
 loop-less-2 c =
     let k = c .before .before .before .before .before .before .before .before .before .text-at .ensures .behind in
@@ -102,27 +57,27 @@ may-return-spec =
     (tie.spec
     Inv-loop
     μ-loop
-    loop-holds
-    tag-requires
+    (λ c. refl)
+    (λ c κs. search needs)
     returns
-    text-at-requires
-    sub-same
-    part-same-start
-    part-same-end
-    slice-aggregate-same
-    same-requires
+    (λ c κs. search needs)
+    (λ c. search needs)
+    (λ c. search needs)
+    (λ c. search needs)
+    (λ c. search needs)
+    (λ c κs. search needs)
     returns-2
-    tag-requires-2
-    text-at-requires-2
-    sub-all-text
-    part-all-text-start
-    part-all-text-end
-    all-text-requires
+    (λ c κs. search needs)
+    (λ c κs. search needs)
+    (λ c. search needs)
+    (λ c. search needs)
+    (λ c. search needs)
+    (λ c κs. search needs)
     returns-3
     loop-less
     loop-again
     are-texts-requires
     returns-4
-    behind-requires
+    (λ c κs. search needs)
     loop-less-2
     loop-again-2)

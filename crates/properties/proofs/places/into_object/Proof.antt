@@ -5,12 +5,6 @@ use borrow.Author.Needs.{needs}
 use Rattle.properties.proofs.places.into_object.Statement.{statement}
 use Rattle.properties.proofs.places.into_object.Tie as tie
 
-tag-requires : tie.Need-tag-requires
-tag-requires c κs = search needs
-
-after-requires : tie.Need-after-requires
-after-requires c κs = search needs
-
 returns : tie.Need-returns
 returns c = into-object _ _ (c .after .ensures) (sym (c .before .before .tag .ensures) ∙ c .before .if1 .taken)
 
@@ -21,7 +15,7 @@ pub into-object-spec : {M : Type 1} → statement M
 into-object-spec =
     tie.close
     (tie.spec
-    tag-requires
-    after-requires
+    (λ c κs. search needs)
+    (λ c κs. search needs)
     returns
     returns-2)

@@ -4,12 +4,6 @@ use Rattle.properties.proofs.RowAnswers.{fits-any, fits-binary, fits-ot
 use Rattle.properties.proofs.rulings.encoding_fits.Statement.{statement}
 use Rattle.properties.proofs.rulings.encoding_fits.Tie as tie
 
-returns : tie.Need-returns
-returns c = sym (fits-any _ _ (c .match .keys1))
-
-returns-2 : tie.Need-returns-2
-returns-2 c = sym (fits-binary _ _ (c .match .keys2))
-
 returns-3 : tie.Need-returns-3
 returns-3 c = sym (fits-other _ _ (c .match .rest .0 .1) (c .match .rest .1))
 
@@ -17,6 +11,6 @@ pub encoding-fits-spec : {M : Type 1} → statement M
 encoding-fits-spec =
     tie.close
     (tie.spec
-    returns
-    returns-2
+    (λ c. sym (fits-any _ _ (c .match .keys1)))
+    (λ c. sym (fits-binary _ _ (c .match .keys2)))
     returns-3)

@@ -7,12 +7,6 @@ use borrow.Author.Needs.{needs}
 use Rattle.properties.proofs.rulings.ruling_of.Statement.{statement}
 use Rattle.properties.proofs.rulings.ruling_of.Tie as tie
 
-is-unknown-requires : tie.Need-is-unknown-requires
-is-unknown-requires c κs = search needs
-
-unknown-ruling-requires : tie.Need-unknown-ruling-requires
-unknown-ruling-requires c κs = search needs
-
 returns : tie.Need-returns
 returns c = rules-same (same-is _ _ (sym (c .before .before .is-unknown .ensures) ∙ c .before .if1 .taken)) (c .unknown-ruling .ensures)
 
@@ -20,15 +14,12 @@ stated-ruling-requires : tie.Need-stated-ruling-requires
 unfolding isUnknown
 stated-ruling-requires c κs = sym (c .before .is-unknown .ensures) ∙ c .if1 .left
 
-returns-2 : tie.Need-returns-2
-returns-2 c = c .stated-ruling .ensures
-
 pub ruling-of-spec : {M : Type 1} → statement M
 ruling-of-spec =
     tie.close
     (tie.spec
-    is-unknown-requires
-    unknown-ruling-requires
+    (λ c κs. search needs)
+    (λ c κs. search needs)
     returns
     stated-ruling-requires
-    returns-2)
+    (λ c. c .stated-ruling .ensures))

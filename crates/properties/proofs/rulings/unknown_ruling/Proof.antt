@@ -4,15 +4,6 @@ use borrow.Author.Needs.{needs}
 use Rattle.properties.proofs.rulings.unknown_ruling.Statement.{statement}
 use Rattle.properties.proofs.rulings.unknown_ruling.Tie as tie
 
-find-requires : tie.Need-find-requires
-find-requires c κs = search needs
-
-enum-known-f : tie.Need-enum-known-f
-enum-known-f c = search needs
-
-enum-told : tie.Need-enum-told
-enum-told c = search needs
-
 returns : tie.Need-returns
 returns c = unknown-listed _ (listed (c .before .f .given .1) (c .before .before .before .find .ensures))
 
@@ -23,8 +14,8 @@ pub unknown-ruling-spec : {M : Type 1} → statement M
 unknown-ruling-spec =
     tie.close
     (tie.spec
-    find-requires
-    enum-known-f
-    enum-told
+    (λ c κs. search needs)
+    (λ c. search needs)
+    (λ c. search needs)
     returns
     returns-2)

@@ -20,32 +20,8 @@ Inv-loop out₀ t at q₀ i₀ out q i = (length out ≡ length out₀) × Leads
 abbrev μ-loop : tie.MeasureT-loop
 μ-loop out₀ t at q₀ i₀ out q i = length t - i
 
-loop-holds : tie.Need-loop-holds Inv-loop μ-loop
-loop-holds c = (refl, leads-start)
-
-tag-requires : tie.Need-tag-requires Inv-loop μ-loop
-tag-requires c κs = search needs
-
-same-length : tie.Need-same-length Inv-loop μ-loop
-same-length c = search needs
-
 returns : tie.Need-returns Inv-loop μ-loop
 returns c = leads-end (c .before .before .loop .inv .1) (ap moreValues (texts-end _ _ (sym (c .before .tag .ensures) ∙ c .if1 .taken)) ∙ more-none)
-
-text-at-requires : tie.Need-text-at-requires Inv-loop μ-loop
-text-at-requires c κs = search needs
-
-sub-next-param-value : tie.Need-sub-next-param-value Inv-loop μ-loop
-sub-next-param-value c = search needs
-
-part-next-param-value-start : tie.Need-part-next-param-value-start Inv-loop μ-loop
-part-next-param-value-start c = search needs
-
-part-next-param-value-end : tie.Need-part-next-param-value-end Inv-loop μ-loop
-part-next-param-value-end c = search needs
-
-next-param-value-requires : tie.Need-next-param-value-requires Inv-loop μ-loop
-next-param-value-requires c κs = search needs
 
 loop-less : tie.Need-loop-less Inv-loop μ-loop
 loop-less c = omega (arith, c .before .before .before .before .before .text-at .ensures .behind .more (λ e. c .before .before .before .before .before .before .if1 .left (c .before .before .before .before .before .before .before .tag .ensures ∙ e)), c .before .before .before .before .before .text-at .ensures .behind .high)
@@ -59,14 +35,14 @@ write-more-spec =
     (tie.spec
     Inv-loop
     μ-loop
-    loop-holds
-    tag-requires
-    same-length
+    (λ c. (refl, leads-start))
+    (λ c κs. search needs)
+    (λ c. search needs)
     returns
-    text-at-requires
-    sub-next-param-value
-    part-next-param-value-start
-    part-next-param-value-end
-    next-param-value-requires
+    (λ c κs. search needs)
+    (λ c. search needs)
+    (λ c. search needs)
+    (λ c. search needs)
+    (λ c κs. search needs)
     loop-less
     loop-again)

@@ -20,50 +20,8 @@ Inv-loop out₀ t at q₀ i₀ out q i = (length out ≡ length out₀) × Leads
 abbrev μ-loop : tie.MeasureT-loop
 μ-loop out₀ t at q₀ i₀ out q i = length t - i
 
-loop-holds : tie.Need-loop-holds Inv-loop μ-loop
-loop-holds c = (refl, leads-start)
-
-tag-requires : tie.Need-tag-requires Inv-loop μ-loop
-tag-requires c κs = search needs
-
-same-length : tie.Need-same-length Inv-loop μ-loop
-same-length c = search needs
-
 returns : tie.Need-returns Inv-loop μ-loop
 returns c = leads-end (c .before .before .loop .inv .1) (ap paramsText (params-end _ _ (sym (c .before .tag .ensures) ∙ c .if1 .taken)) ∙ params-none)
-
-text-at-requires : tie.Need-text-at-requires Inv-loop μ-loop
-text-at-requires c κs = search needs
-
-sub-begin-param : tie.Need-sub-begin-param Inv-loop μ-loop
-sub-begin-param c = search needs
-
-part-begin-param-start : tie.Need-part-begin-param-start Inv-loop μ-loop
-part-begin-param-start c = search needs
-
-part-begin-param-end : tie.Need-part-begin-param-end Inv-loop μ-loop
-part-begin-param-end c = search needs
-
-begin-param-requires : tie.Need-begin-param-requires Inv-loop μ-loop
-begin-param-requires c κs = search needs
-
-tag-requires-2 : tie.Need-tag-requires-2 Inv-loop μ-loop
-tag-requires-2 c κs = search needs
-
-text-at-requires-2 : tie.Need-text-at-requires-2 Inv-loop μ-loop
-text-at-requires-2 c κs = search needs
-
-sub-write-param-value : tie.Need-sub-write-param-value Inv-loop μ-loop
-sub-write-param-value c = search needs
-
-part-write-param-value-start : tie.Need-part-write-param-value-start Inv-loop μ-loop
-part-write-param-value-start c = search needs
-
-part-write-param-value-end : tie.Need-part-write-param-value-end Inv-loop μ-loop
-part-write-param-value-end c = search needs
-
-write-param-value-requires : tie.Need-write-param-value-requires Inv-loop μ-loop
-write-param-value-requires c κs = search needs
 
 loop-less : tie.Need-loop-less Inv-loop μ-loop
 loop-less c =
@@ -77,9 +35,6 @@ loop-again c =
 
 write-param-values-requires : tie.Need-write-param-values-requires Inv-loop μ-loop
 write-param-values-requires c κs = λ e. c .before .if2 .left (c .before .before .tag2 .ensures ∙ e)
-
-behind-requires : tie.Need-behind-requires Inv-loop μ-loop
-behind-requires c κs = search needs
 
 loop-less-2 : tie.Need-loop-less-2 Inv-loop μ-loop
 loop-less-2 c =
@@ -97,24 +52,24 @@ write-params-spec =
     (tie.spec
     Inv-loop
     μ-loop
-    loop-holds
-    tag-requires
-    same-length
+    (λ c. (refl, leads-start))
+    (λ c κs. search needs)
+    (λ c. search needs)
     returns
-    text-at-requires
-    sub-begin-param
-    part-begin-param-start
-    part-begin-param-end
-    begin-param-requires
-    tag-requires-2
-    text-at-requires-2
-    sub-write-param-value
-    part-write-param-value-start
-    part-write-param-value-end
-    write-param-value-requires
+    (λ c κs. search needs)
+    (λ c. search needs)
+    (λ c. search needs)
+    (λ c. search needs)
+    (λ c κs. search needs)
+    (λ c κs. search needs)
+    (λ c κs. search needs)
+    (λ c. search needs)
+    (λ c. search needs)
+    (λ c. search needs)
+    (λ c κs. search needs)
     loop-less
     loop-again
     write-param-values-requires
-    behind-requires
+    (λ c κs. search needs)
     loop-less-2
     loop-again-2)

@@ -37,49 +37,16 @@ Inv-loop t at left p i₀ levels₀ i levels = Nesting (left - 1) t i₀ i level
 abbrev μ-loop : lts.MeasureT-loop
 μ-loop t at left p i₀ levels₀ i levels = length t - i
 
-returns : (t : ℕ) → lts.Need-returns (claims t) (here t) self.Post Inv-loop μ-loop
-returns t c = no-levels _ _ (c .if1 .taken)
-
-check-head-requires : (t : ℕ) → lts.Need-check-head-requires (claims t) (here t) self.Post Inv-loop μ-loop
-check-head-requires t c κs = search needs
-
-enum-known-h : (t : ℕ) → lts.Need-enum-known-h (claims t) (here t) self.Post Inv-loop μ-loop
-enum-known-h t c = search needs
-
-enum-told : (t : ℕ) → lts.Need-enum-told (claims t) (here t) self.Post Inv-loop μ-loop
-enum-told t c = search needs
-
 returns-2 : (t : ℕ) → lts.Need-returns-2 (claims t) (here t) self.Post Inv-loop μ-loop
 returns-2 t c = no-head _ _ _ (c .before .before .check-head .ensures) (c .enum-told .given .1) _
 
-tag-requires : (t : ℕ) → lts.Need-tag-requires (claims t) (here t) self.Post Inv-loop μ-loop
-tag-requires t c κs = search needs
-
 returns-3 : (t : ℕ) → lts.Need-returns-3 (claims t) (here t) self.Post Inv-loop μ-loop
 returns-3 t c = subs-not (c .before .before .before .before .before .before .if1 .left) (head-told _ _ _ (c .before .before .before .before .before .check-head .ensures) (c .before .before .before .h .given .1)) (λ e. c .if2 .taken (c .before .tag .ensures ∙ e))
-
-after-requires : (t : ℕ) → lts.Need-after-requires (claims t) (here t) self.Post Inv-loop μ-loop
-after-requires t c κs = search needs
-
-loop-holds : (t : ℕ) → lts.Need-loop-holds (claims t) (here t) self.Post Inv-loop μ-loop
-loop-holds t c = nesting-start _ (c .after .ensures)
-
-tag-requires-2 : (t : ℕ) → lts.Need-tag-requires-2 (claims t) (here t) self.Post Inv-loop μ-loop
-tag-requires-2 t c κs = search needs
-
-after-requires-2 : (t : ℕ) → lts.Need-after-requires-2 (claims t) (here t) self.Post Inv-loop μ-loop
-after-requires-2 t c κs = search needs
-
-tag-requires-3 : (t : ℕ) → lts.Need-tag-requires-3 (claims t) (here t) self.Post Inv-loop μ-loop
-tag-requires-3 t c κs = search needs
 
 returns-4 : (t : ℕ) → lts.Need-returns-4 (claims t) (here t) self.Post Inv-loop μ-loop
 returns-4 t c =
     let h = head-told _ _ _ (c .before .before .before .before .before .before .before .before .before .before .before .before .check-head .ensures) (c .before .before .before .before .before .before .before .before .before .before .h .given .1) in
     subs-more (c .before .before .before .before .before .before .before .before .before .before .before .before .before .if1 .left) h (sym (c .before .before .before .before .before .before .before .before .tag .ensures) ∙ c .before .before .before .before .before .before .before .if2 .left) (c .before .before .before .before .before .before .after .ensures) (c .before .before .before .before .before .loop .inv) (sym (c .before .before .before .before .tag2 .ensures) ∙ c .before .before .before .if3 .taken) (c .before .before .after2 .ensures) (λ e. c .if4 .taken (c .before .tag3 .ensures ∙ e))
-
-after-requires-3 : (t : ℕ) → lts.Need-after-requires-3 (claims t) (here t) self.Post Inv-loop μ-loop
-after-requires-3 t c κs = search needs
 
 add-t33 : (t : ℕ) → lts.Need-add-t33 (claims t) (here t) self.Post Inv-loop μ-loop
 add-t33 t c = omega (arith, c .before .before .before .before .before .before .loop .inv .below)
@@ -89,18 +56,6 @@ returns-5 t c =
     let h = head-told _ _ _ (c .before .before .before .before .before .before .before .before .before .before .before .before .before .check-head .ensures) (c .before .before .before .before .before .before .before .before .before .before .before .h .given .1) in
     subs-whole (c .before .before .before .before .before .before .before .before .before .before .before .before .before .before .if1 .left) h (sym (c .before .before .before .before .before .before .before .before .before .tag .ensures) ∙ c .before .before .before .before .before .before .before .before .if2 .left) (c .before .before .before .before .before .before .before .after .ensures) (c .before .before .before .before .before .before .loop .inv) (sym (c .before .before .before .before .before .tag2 .ensures) ∙ c .before .before .before .before .if3 .taken) (c .before .before .before .after2 .ensures) (sym (c .before .before .tag3 .ensures) ∙ c .before .if4 .left) (c .after3 .ensures)
 
-sub-check-component : (t : ℕ) → lts.Need-sub-check-component (claims t) (here t) self.Post Inv-loop μ-loop
-sub-check-component t c = search needs
-
-check-component-requires : (t : ℕ) → lts.Need-check-component-requires (claims t) (here t) self.Post Inv-loop μ-loop
-check-component-requires t c κs = (omega arith, tt)
-
-enum-known-c : (t : ℕ) → lts.Need-enum-known-c (claims t) (here t) self.Post Inv-loop μ-loop
-enum-known-c t c = search needs
-
-larger-requires : (t : ℕ) → lts.Need-larger-requires (claims t) (here t) self.Post Inv-loop μ-loop
-larger-requires t c κs = search needs
-
 loop-less : (t : ℕ) → lts.Need-loop-less (claims t) (here t) self.Post Inv-loop μ-loop
 loop-less t c =
     let n = nested _ _ _ _ (c .before .before .before .before .check-component .ensures) (c .before .before .c .given .1) .3 in
@@ -108,9 +63,6 @@ loop-less t c =
 
 loop-again : (t : ℕ) → lts.Need-loop-again (claims t) (here t) self.Post Inv-loop μ-loop
 loop-again t c = rw (c .larger .ensures) (nesting-next (c .before .before .before .before .before .before .before .loop .inv) (λ e. c .before .before .before .before .before .if3 .left (c .before .before .before .before .before .before .tag2 .ensures ∙ e)) (nested _ _ _ _ (c .before .before .before .before .check-component .ensures) (c .before .before .c .given .1)))
-
-enum-told-2 : (t : ℕ) → lts.Need-enum-told-2 (claims t) (here t) self.Post Inv-loop μ-loop
-enum-told-2 t c = search needs
 
 returns-6 : (t : ℕ) → lts.Need-returns-6 (claims t) (here t) self.Post Inv-loop μ-loop
 returns-6 t c =
@@ -123,27 +75,27 @@ pub +check-component-spec : {M : Type 1} → statement M
     self.Post
     Inv-loop
     μ-loop
-    (returns t)
-    (check-head-requires t)
-    (enum-known-h t)
-    (enum-told t)
+    (λ c. no-levels _ _ (c .if1 .taken))
+    (λ c κs. search needs)
+    (λ c. search needs)
+    (λ c. search needs)
     (returns-2 t)
-    (tag-requires t)
+    (λ c κs. search needs)
     (returns-3 t)
-    (after-requires t)
-    (loop-holds t)
-    (tag-requires-2 t)
-    (after-requires-2 t)
-    (tag-requires-3 t)
+    (λ c κs. search needs)
+    (λ c. nesting-start _ (c .after .ensures))
+    (λ c κs. search needs)
+    (λ c κs. search needs)
+    (λ c κs. search needs)
     (returns-4 t)
-    (after-requires-3 t)
+    (λ c κs. search needs)
     (add-t33 t)
     (returns-5 t)
-    (sub-check-component t)
-    (check-component-requires t)
-    (enum-known-c t)
-    (larger-requires t)
+    (λ c. search needs)
+    (λ c κs. (omega arith, tt))
+    (λ c. search needs)
+    (λ c κs. search needs)
     (loop-less t)
     (loop-again t)
-    (enum-told-2 t)
+    (λ c. search needs)
     (returns-6 t)

@@ -6,29 +6,11 @@ use borrow.Author.Needs.{needs}
 use Rattle.skeleton.proofs.components.check_head.Statement.{statement}
 use Rattle.skeleton.proofs.components.check_head.Tie as tie
 
-tag-requires : tie.Need-tag-requires
-tag-requires c κs = search needs
-
 returns : tie.Need-returns
 returns c = component-not _ _ (λ e. c .if1 .taken (c .before .tag .ensures ∙ e))
 
-after-requires : tie.Need-after-requires
-after-requires c κs = search needs
-
-check-name-requires : tie.Need-check-name-requires
-check-name-requires c κs = search needs
-
-enum-known-n : tie.Need-enum-known-n
-enum-known-n c = search needs
-
-enum-told : tie.Need-enum-told
-enum-told c = search needs
-
 returns-2 : tie.Need-returns-2
 returns-2 c = component-no-name (c .before .before .before .after .ensures) (sym (c .before .before .before .before .before .tag .ensures) ∙ c .before .before .before .before .if1 .left) (failed _ _ _ _ (c .before .before .check-name .ensures) (c .enum-told .given .1))
-
-check-properties-requires : tie.Need-check-properties-requires
-check-properties-requires c κs = search needs
 
 returns-3 : tie.Need-returns-3
 returns-3 c =
@@ -39,12 +21,12 @@ pub check-head-spec : {M : Type 1} → statement M
 check-head-spec =
     tie.close
     (tie.spec
-    tag-requires
+    (λ c κs. search needs)
     returns
-    after-requires
-    check-name-requires
-    enum-known-n
-    enum-told
+    (λ c κs. search needs)
+    (λ c κs. search needs)
+    (λ c. search needs)
+    (λ c. search needs)
     returns-2
-    check-properties-requires
+    (λ c κs. search needs)
     returns-3)

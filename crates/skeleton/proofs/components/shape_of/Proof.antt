@@ -6,38 +6,8 @@ use borrow.Author.Needs.{needs}
 use Rattle.skeleton.proofs.components.shape_of.Statement.{statement}
 use Rattle.skeleton.proofs.components.shape_of.Tie as tie
 
-check-component-requires : tie.Need-check-component-requires
-check-component-requires c κs = search needs
-
-enum-known-c : tie.Need-enum-known-c
-enum-known-c c = search needs
-
-enum-told : tie.Need-enum-told
-enum-told c = search needs
-
 returns : tie.Need-returns
 returns c = calendar-not _ 32 (sym most-open) (nowhere _ _ _ _ (c .before .before .check-component .ensures) (c .enum-told .given .1))
-
-after-requires : tie.Need-after-requires
-after-requires c κs = search needs
-
-text-at-requires : tie.Need-text-at-requires
-text-at-requires c κs = search needs
-
-sub-same : tie.Need-sub-same
-sub-same c = search needs
-
-part-same-start : tie.Need-part-same-start
-part-same-start c = search needs
-
-part-same-end : tie.Need-part-same-end
-part-same-end c = search needs
-
-slice-aggregate-same : tie.Need-slice-aggregate-same
-slice-aggregate-same c = search needs
-
-same-requires : tie.Need-same-requires
-same-requires c κs = search needs
 
 returns-2 : tie.Need-returns-2
 returns-2 c =
@@ -53,16 +23,16 @@ pub shape-of-spec : {M : Type 1} → statement M
 shape-of-spec =
     tie.close
     (tie.spec
-    check-component-requires
-    enum-known-c
-    enum-told
+    (λ c κs. search needs)
+    (λ c. search needs)
+    (λ c. search needs)
     returns
-    after-requires
-    text-at-requires
-    sub-same
-    part-same-start
-    part-same-end
-    slice-aggregate-same
-    same-requires
+    (λ c κs. search needs)
+    (λ c κs. search needs)
+    (λ c. search needs)
+    (λ c. search needs)
+    (λ c. search needs)
+    (λ c. search needs)
+    (λ c κs. search needs)
     returns-2
     returns-3)

@@ -5,26 +5,11 @@ use borrow.Author.Needs.{needs}
 use Rattle.skeleton.proofs.parameters.check_parameter.Statement.{statement}
 use Rattle.skeleton.proofs.parameters.check_parameter.Tie as tie
 
-tag-requires : tie.Need-tag-requires
-tag-requires c κs = search needs
-
-behind-requires : tie.Need-behind-requires
-behind-requires c κs = search needs
-
 returns : tie.Need-returns
 returns c = (parameter-string _ _ (sym (c .before .before .tag .ensures) ∙ c .before .if1 .taken), c .behind .ensures)
 
-after-requires : tie.Need-after-requires
-after-requires c κs = search needs
-
-tag-requires-2 : tie.Need-tag-requires-2
-tag-requires-2 c κs = search needs
-
 returns-2 : tie.Need-returns-2
 returns-2 c = parameter-empty _ _ (λ e. c .before .before .before .if1 .left (c .before .before .before .before .tag .ensures ∙ e)) (c .before .before .after .ensures) (sym (c .before .tag2 .ensures) ∙ c .if2 .taken)
-
-check-strings-requires : tie.Need-check-strings-requires
-check-strings-requires c κs = search needs
 
 returns-3 : tie.Need-returns-3
 returns-3 c = rw (parameter-array _ _ (λ e. c .before .before .before .before .if1 .left (c .before .before .before .before .before .tag .ensures ∙ e)) (c .before .before .before .after .ensures) (λ e. c .before .if2 .left (c .before .before .tag2 .ensures ∙ e))) (c .check-strings .ensures)
@@ -33,11 +18,11 @@ pub check-parameter-spec : {M : Type 1} → statement M
 check-parameter-spec =
     tie.close
     (tie.spec
-    tag-requires
-    behind-requires
+    (λ c κs. search needs)
+    (λ c κs. search needs)
     returns
-    after-requires
-    tag-requires-2
+    (λ c κs. search needs)
+    (λ c κs. search needs)
     returns-2
-    check-strings-requires
+    (λ c κs. search needs)
     returns-3)

@@ -16,32 +16,17 @@ Inv-loop t at i₀ i = Passing isString t i₀ i
 abbrev μ-loop : tie.MeasureT-loop
 μ-loop t at i₀ i = length t - i
 
-tag-requires : tie.Need-tag-requires Inv-loop μ-loop
-tag-requires c κs = search needs
-
 returns : tie.Need-returns Inv-loop μ-loop
 returns c = list-not isString _ _ (λ e. c .if1 .taken (c .before .tag .ensures ∙ e))
 
-after-requires : tie.Need-after-requires Inv-loop μ-loop
-after-requires c κs = search needs
-
 loop-holds : tie.Need-loop-holds Inv-loop μ-loop
 loop-holds c = passing-start isString (c .after .ensures)
-
-tag-requires-2 : tie.Need-tag-requires-2 Inv-loop μ-loop
-tag-requires-2 c κs = search needs
-
-after-requires-2 : tie.Need-after-requires-2 Inv-loop μ-loop
-after-requires-2 c κs = search needs
 
 returns-2 : tie.Need-returns-2 Inv-loop μ-loop
 returns-2 c = passing-end (c .before .before .before .loop .inv) (c .before .before .before .before .after .ensures) (sym (c .before .before .before .before .before .before .tag .ensures) ∙ c .before .before .before .before .before .if1 .left) (sym (c .before .before .tag2 .ensures) ∙ c .before .if2 .taken) (c .after2 .ensures)
 
 returns-3 : tie.Need-returns-3 Inv-loop μ-loop
 returns-3 c = passing-off (c .before .before .before .loop .inv) (c .before .before .before .before .after .ensures) (sym (c .before .before .before .before .before .before .tag .ensures) ∙ c .before .before .before .before .before .if1 .left) (λ e. c .before .if2 .left (c .before .before .tag2 .ensures ∙ e)) (string-not _ _ (λ e. c .if3 .taken (c .before .before .tag2 .ensures ∙ e)))
-
-behind-requires : tie.Need-behind-requires Inv-loop μ-loop
-behind-requires c κs = search needs
 
 loop-less : tie.Need-loop-less Inv-loop μ-loop
 loop-less c = omega (arith, c .behind .ensures .more (λ e. c .before .before .if2 .left (c .before .before .before .tag2 .ensures ∙ e)), c .behind .ensures .high)
@@ -55,14 +40,14 @@ check-strings-spec =
     (tie.spec
     Inv-loop
     μ-loop
-    tag-requires
+    (λ c κs. search needs)
     returns
-    after-requires
+    (λ c κs. search needs)
     loop-holds
-    tag-requires-2
-    after-requires-2
+    (λ c κs. search needs)
+    (λ c κs. search needs)
     returns-2
     returns-3
-    behind-requires
+    (λ c κs. search needs)
     loop-less
     loop-again)

@@ -6,49 +6,16 @@ use borrow.Author.Needs.{needs}
 use Rattle.skeleton.proofs.properties.check_property.Statement.{statement}
 use Rattle.skeleton.proofs.properties.check_property.Tie as tie
 
-tag-requires : tie.Need-tag-requires
-tag-requires c κs = search needs
-
 returns : tie.Need-returns
 returns c = property-not _ _ (λ e. c .if1 .taken (c .before .tag .ensures ∙ e))
 
-after-requires : tie.Need-after-requires
-after-requires c κs = search needs
-
-check-property-name-requires : tie.Need-check-property-name-requires
-check-property-name-requires c κs = search needs
-
-enum-known-n : tie.Need-enum-known-n
-enum-known-n c = search needs
-
-enum-told : tie.Need-enum-told
-enum-told c = search needs
-
 returns-2 : tie.Need-returns-2
 returns-2 c = property-no-name (c .before .before .before .after .ensures) (sym (c .before .before .before .before .before .tag .ensures) ∙ c .before .before .before .before .if1 .left) (failed _ _ _ _ (c .before .before .check-property-name .ensures) (c .enum-told .given .1))
-
-check-parameters-requires : tie.Need-check-parameters-requires
-check-parameters-requires c κs = search needs
-
-enum-known-p : tie.Need-enum-known-p
-enum-known-p c = search needs
-
-enum-told-2 : tie.Need-enum-told-2
-enum-told-2 c = search needs
 
 returns-3 : tie.Need-returns-3
 returns-3 c =
     let n = passed _ _ _ _ (c .before .before .before .before .before .before .check-property-name .ensures) (c .before .before .before .before .n .given .1) in
     property-no-parameters (c .before .before .before .before .before .before .before .after .ensures) (sym (c .before .before .before .before .before .before .before .before .before .tag .ensures) ∙ c .before .before .before .before .before .before .before .before .if1 .left) (n .1) (n .0) (failed _ _ _ _ (c .before .before .check-parameters .ensures) (c .enum-told2 .given .1))
-
-check-name-requires : tie.Need-check-name-requires
-check-name-requires c κs = search needs
-
-enum-known-k : tie.Need-enum-known-k
-enum-known-k c = search needs
-
-enum-told-3 : tie.Need-enum-told-3
-enum-told-3 c = search needs
 
 returns-4 : tie.Need-returns-4
 returns-4 c =
@@ -56,18 +23,12 @@ returns-4 c =
     let p = passed _ _ _ _ (c .before .before .before .before .before .before .check-parameters .ensures) (c .before .before .before .before .p .given .1) in
     property-no-type (c .before .before .before .before .before .before .before .before .before .before .before .after .ensures) (sym (c .before .before .before .before .before .before .before .before .before .before .before .before .before .tag .ensures) ∙ c .before .before .before .before .before .before .before .before .before .before .before .before .if1 .left) (n .1) (n .0) (p .1) (p .0) (failed _ _ _ _ (c .before .before .check-name .ensures) (c .enum-told3 .given .1))
 
-tag-requires-2 : tie.Need-tag-requires-2
-tag-requires-2 c κs = search needs
-
 returns-5 : tie.Need-returns-5
 returns-5 c =
     let n = passed _ _ _ _ (c .before .before .before .before .before .before .before .before .before .before .before .before .before .check-property-name .ensures) (c .before .before .before .before .before .before .before .before .before .before .before .n .given .1) in
     let p = passed _ _ _ _ (c .before .before .before .before .before .before .before .before .before .check-parameters .ensures) (c .before .before .before .before .before .before .before .p .given .1) in
     let k = passed _ _ _ _ (c .before .before .before .before .before .check-name .ensures) (c .before .before .before .k .given .1) in
     property-no-value (c .before .before .before .before .before .before .before .before .before .before .before .before .before .before .after .ensures) (sym (c .before .before .before .before .before .before .before .before .before .before .before .before .before .before .before .before .tag .ensures) ∙ c .before .before .before .before .before .before .before .before .before .before .before .before .before .before .before .if1 .left) (n .1) (n .0) (p .1) (p .0) (k .1) (k .0) (sym (c .before .tag2 .ensures) ∙ c .if2 .taken)
-
-leave-requires : tie.Need-leave-requires
-leave-requires c κs = search needs
 
 returns-6 : tie.Need-returns-6
 returns-6 c =
@@ -80,22 +41,22 @@ pub check-property-spec : {M : Type 1} → statement M
 check-property-spec =
     tie.close
     (tie.spec
-    tag-requires
+    (λ c κs. search needs)
     returns
-    after-requires
-    check-property-name-requires
-    enum-known-n
-    enum-told
+    (λ c κs. search needs)
+    (λ c κs. search needs)
+    (λ c. search needs)
+    (λ c. search needs)
     returns-2
-    check-parameters-requires
-    enum-known-p
-    enum-told-2
+    (λ c κs. search needs)
+    (λ c. search needs)
+    (λ c. search needs)
     returns-3
-    check-name-requires
-    enum-known-k
-    enum-told-3
+    (λ c κs. search needs)
+    (λ c. search needs)
+    (λ c. search needs)
     returns-4
-    tag-requires-2
+    (λ c κs. search needs)
     returns-5
-    leave-requires
+    (λ c κs. search needs)
     returns-6)

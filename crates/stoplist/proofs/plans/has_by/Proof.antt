@@ -3,14 +3,6 @@ use Rattle.stoplist.specs.Stops.{hasBy}
 use Rattle.stoplist.proofs.plans.has_by.Statement.{statement}
 use Rattle.stoplist.proofs.plans.has_by.Tie as tie
 
-returns : tie.Need-returns
-unfolding hasBy
-returns c = rw (c .if1 .taken)
-
-returns-2 : tie.Need-returns-2
-unfolding hasBy
-returns-2 c = rw (c .before .if1 .left, c .if2 .taken)
-
 returns-3 : tie.Need-returns-3
 unfolding hasBy
 returns-3 c = rw (c .before .before .if1 .left, c .before .if2 .left, c .if3 .taken)
@@ -43,8 +35,8 @@ pub has-by-spec : {M : Type 1} → statement M
 has-by-spec =
     tie.close
     (tie.spec
-    returns
-    returns-2
+    (λ c. unfold hasBy in rw (c .if1 .taken))
+    (λ c. unfold hasBy in rw (c .before .if1 .left, c .if2 .taken))
     returns-3
     returns-4
     returns-5

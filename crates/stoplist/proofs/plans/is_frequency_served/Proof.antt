@@ -6,74 +6,26 @@ use Rattle.stoplist.specs.Stops.{frequencyServed}
 use Rattle.stoplist.proofs.plans.is_frequency_served.Statement.{statement}
 use Rattle.stoplist.proofs.plans.is_frequency_served.Tie as tie
 
-enum-told : tie.Need-enum-told
-enum-told c = search needs
-
-enum-told-2 : tie.Need-enum-told-2
-enum-told-2 c = search needs
-
-enum-told-3 : tie.Need-enum-told-3
-enum-told-3 c = search needs
-
-same-kind-requires : tie.Need-same-kind-requires
-same-kind-requires c κs = search needs
-
-enum-told-4 : tie.Need-enum-told-4
-enum-told-4 c = search needs
-
-enum-told-5 : tie.Need-enum-told-5
-enum-told-5 c = search needs
-
-enum-told-6 : tie.Need-enum-told-6
-enum-told-6 c = search needs
-
-enum-told-7 : tie.Need-enum-told-7
-enum-told-7 c = search needs
-
-returns : tie.Need-returns
-unfolding frequencyServed
-returns c = rw (c .enum-told .given .1)
-
-returns-2 : tie.Need-returns-2
-unfolding frequencyServed
-returns-2 c = rw (c .enum-told2 .given .1)
-
 returns-3 : tie.Need-returns-3
 unfolding frequencyServed
 returns-3 c = rw (c .before .enum-told3 .given .1) (ap not (c .same-kind .ensures))
-
-returns-4 : tie.Need-returns-4
-unfolding frequencyServed
-returns-4 c = rw (c .enum-told4 .given .1)
-
-returns-5 : tie.Need-returns-5
-unfolding frequencyServed
-returns-5 c = rw (c .enum-told5 .given .1)
-
-returns-6 : tie.Need-returns-6
-unfolding frequencyServed
-returns-6 c = rw (c .enum-told6 .given .1)
-
-returns-7 : tie.Need-returns-7
-unfolding frequencyServed
-returns-7 c = rw (c .enum-told7 .given .1)
 
 pub is-frequency-served-spec : {M : Type 1} → statement M
 is-frequency-served-spec =
     tie.close
     (tie.spec
-    enum-told
-    enum-told-2
-    enum-told-3
-    same-kind-requires
-    enum-told-4
-    enum-told-5
-    enum-told-6
-    enum-told-7
-    returns
-    returns-2
+    (λ c. search needs)
+    (λ c. search needs)
+    (λ c. search needs)
+    (λ c κs. search needs)
+    (λ c. search needs)
+    (λ c. search needs)
+    (λ c. search needs)
+    (λ c. search needs)
+    (λ c. unfold frequencyServed in rw (c .enum-told .given .1))
+    (λ c. unfold frequencyServed in rw (c .enum-told2 .given .1))
     returns-3
-    returns-4
-    returns-5
-    returns-6
-    returns-7)
+    (λ c. unfold frequencyServed in rw (c .enum-told4 .given .1))
+    (λ c. unfold frequencyServed in rw (c .enum-told5 .given .1))
+    (λ c. unfold frequencyServed in rw (c .enum-told6 .given .1))
+    (λ c. unfold frequencyServed in rw (c .enum-told7 .given .1)))

@@ -8,60 +8,21 @@ use Rattle.stoplist.proofs.Planning.{no-start, at-60, no-rule, not-serv
 use Rattle.stoplist.proofs.plans.make_plan.Statement.{statement}
 use Rattle.stoplist.proofs.plans.make_plan.Tie as tie
 
-read-moment-requires : tie.Need-read-moment-requires
-read-moment-requires c κs = search needs
-
-enum-known-m : tie.Need-enum-known-m
-enum-known-m c = search needs
-
-enum-told : tie.Need-enum-told
-enum-told c = search needs
-
-refused-requires : tie.Need-refused-requires
-refused-requires c κs = search needs
-
 returns : tie.Need-returns
 returns c = c .refused .ensures ∙ no-start _ _ _ (ap momentSaid (sym (c .before .enum-told .given .1)) ∙ c .before .before .before .read-moment .ensures)
-
-refused-requires-2 : tie.Need-refused-requires-2
-refused-requires-2 c κs = search needs
 
 returns-2 : tie.Need-returns-2
 returns-2 c = c .refused2 .ensures ∙ at-60 _ _ _ _ (ap momentSaid (sym (c .before .before .before .before .m .given .1)) ∙ c .before .before .before .before .before .before .read-moment .ensures) (c .before .if1 .taken)
 
-read-rule-requires : tie.Need-read-rule-requires
-read-rule-requires c κs = search needs
-
-enum-known-r : tie.Need-enum-known-r
-enum-known-r c = search needs
-
-enum-told-2 : tie.Need-enum-told-2
-enum-told-2 c = search needs
-
-refused-requires-3 : tie.Need-refused-requires-3
-refused-requires-3 c κs = search needs
-
 returns-3 : tie.Need-returns-3
 unfolding ruleSaid
 returns-3 c = c .refused3 .ensures ∙ no-rule _ _ _ _ (ap momentSaid (sym (c .before .before .before .before .before .before .before .m .given .1)) ∙ c .before .before .before .before .before .before .before .before .before .read-moment .ensures) (c .before .before .before .before .if1 .left) (ap ruleSaid (sym (c .before .enum-told2 .given .1)) ∙ c .before .before .before .read-rule .ensures)
-
-is-served-requires : tie.Need-is-served-requires
-is-served-requires c κs = search needs
-
-refused-requires-4 : tie.Need-refused-requires-4
-refused-requires-4 c κs = search needs
 
 returns-4 : tie.Need-returns-4
 unfolding ruleSaid
 returns-4 c = c .refused4 .ensures
     ∙ not-served _ _ _ _ (ap momentSaid (sym (c .before .before .before .before .before .before .before .before .before .before .m .given .1)) ∙ c .before .before .before .before .before .before .before .before .before .before .before .before .read-moment .ensures) (c .before .before .before .before .before .before .before .if1 .left) _ (ap ruleSaid (sym (c .before .before .before .before .r .given .1)) ∙ c .before .before .before .before .before .before .read-rule .ensures)
     (sym (c .before .before .is-served .ensures) ∙ not-true _ (c .before .if2 .taken))
-
-hours-of-requires : tie.Need-hours-of-requires
-hours-of-requires c κs = search needs
-
-run-at-requires : tie.Need-run-at-requires
-run-at-requires c κs = search needs
 
 returns-5 : tie.Need-returns-5
 unfolding ruleSaid
@@ -73,21 +34,21 @@ pub make-plan-spec : {M : Type 1} → statement M
 make-plan-spec =
     tie.close
     (tie.spec
-    read-moment-requires
-    enum-known-m
-    enum-told
-    refused-requires
+    (λ c κs. search needs)
+    (λ c. search needs)
+    (λ c. search needs)
+    (λ c κs. search needs)
     returns
-    refused-requires-2
+    (λ c κs. search needs)
     returns-2
-    read-rule-requires
-    enum-known-r
-    enum-told-2
-    refused-requires-3
+    (λ c κs. search needs)
+    (λ c. search needs)
+    (λ c. search needs)
+    (λ c κs. search needs)
     returns-3
-    is-served-requires
-    refused-requires-4
+    (λ c κs. search needs)
+    (λ c κs. search needs)
     returns-4
-    hours-of-requires
-    run-at-requires
+    (λ c κs. search needs)
+    (λ c κs. search needs)
     returns-5)

@@ -4,9 +4,5 @@ use Rattle.stoplist.specs.Plans.{idle, refusedFor}
 use Rattle.stoplist.proofs.plans.refused.Statement.{statement}
 use Rattle.stoplist.proofs.plans.refused.Tie as tie
 
-returns : tie.Need-returns
-unfolding refusedFor idle
-returns c = refl
-
 pub refused-spec : {M : Type 1} → statement M
-refused-spec = tie.close (tie.spec returns)
+refused-spec = tie.close (tie.spec (λ c. unfold refusedFor idle in refl))

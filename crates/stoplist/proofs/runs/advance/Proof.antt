@@ -5,16 +5,12 @@ use Rattle.stoplist.specs.Runs.{advanced}
 use Rattle.stoplist.proofs.runs.advance.Statement.{statement}
 use Rattle.stoplist.proofs.runs.advance.Tie as tie
 
-next-requires : tie.Need-next-requires
-next-requires c κs = search needs
-
 returns : tie.Need-returns
 unfolding advanced
 returns c = rw (lt-ltb _ _ (c .before .if1 .taken)) (c .next .ensures)
 
-returns-2 : tie.Need-returns-2
-unfolding advanced
-returns-2 c = rw (le-ltb _ _ (c .if1 .left))
-
 pub advance-spec : {M : Type 1} → statement M
-advance-spec = tie.close (tie.spec next-requires returns returns-2)
+advance-spec =
+    tie.close
+    (tie.spec
+    (λ c κs. search needs) returns (λ c. unfold advanced in rw (le-ltb _ _ (c .if1 .left))))

@@ -6,9 +6,6 @@ use Rattle.stoplist.specs.Runs.{runAt}
 use Rattle.stoplist.proofs.runs.run_at.Statement.{statement}
 use Rattle.stoplist.proofs.runs.run_at.Tie as tie
 
-is-within-requires : tie.Need-is-within-requires
-is-within-requires c κs = search needs
-
 returns : tie.Need-returns
 unfolding runAt
 returns c = rw (lt-ltb (c .before .before .args .at) (c .before .before .args .room) (omega arith), c .is-within .ensures)
@@ -18,4 +15,4 @@ unfolding runAt
 returns-2 c = rw (le-ltb (c .before .args .at) (c .before .args .room) (omega arith))
 
 pub run-at-spec : {M : Type 1} → statement M
-run-at-spec = tie.close (tie.spec is-within-requires returns returns-2)
+run-at-spec = tie.close (tie.spec (λ c κs. search needs) returns returns-2)

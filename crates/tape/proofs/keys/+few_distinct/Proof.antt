@@ -40,41 +40,14 @@ keyed :
     Keyed (b .t .now) (b .at) (c .before .text-at .result) (c .behind .result)
 keyed t c = record { some = λ z. c .before .before .before .if1 .left (c .before .before .before .before .tag .ensures ∙ z); key = c .before .text-at .ensures; next = c .behind .ensures }
 
-few-distinct-tag-requires : (t : ℕ) → few-distinct-lts.Need-tag-requires (claims t) (few-distinct-at t) few-distinct.Post
-few-distinct-tag-requires t c κs = search needs
-
 few-distinct-returns : (t : ℕ) → few-distinct-lts.Need-returns (claims t) (few-distinct-at t) few-distinct.Post
 few-distinct-returns t c = sym (distinct-end _ _ (sym (c .before .tag .ensures) ∙ c .if1 .taken))
 
 few-distinct-many-distinct-requires : (t : ℕ) → few-distinct-lts.Need-many-distinct-requires (claims t) (few-distinct-at t) few-distinct.Post
 few-distinct-many-distinct-requires t c κs = omega (arith, c .before .before .before .before .pre .1)
 
-few-distinct-returns-2 : (t : ℕ) → few-distinct-lts.Need-returns-2 (claims t) (few-distinct-at t) few-distinct.Post
-few-distinct-returns-2 t c = c .many-distinct .ensures
-
-few-distinct-text-at-requires : (t : ℕ) → few-distinct-lts.Need-text-at-requires (claims t) (few-distinct-at t) few-distinct.Post
-few-distinct-text-at-requires t c κs = search needs
-
-few-distinct-behind-requires : (t : ℕ) → few-distinct-lts.Need-behind-requires (claims t) (few-distinct-at t) few-distinct.Post
-few-distinct-behind-requires t c κs = search needs
-
-few-distinct-sub-few-distinct : (t : ℕ) → few-distinct-lts.Need-sub-few-distinct (claims t) (few-distinct-at t) few-distinct.Post
-few-distinct-sub-few-distinct t c = search needs
-
 few-distinct-few-distinct-requires : (t : ℕ) → few-distinct-lts.Need-few-distinct-requires (claims t) (few-distinct-at t) few-distinct.Post
 few-distinct-few-distinct-requires t c κs = (omega (arith, c .before .before .before .before .before .before .pre .0), omega (arith, member-on (keyed t c)))
-
-few-distinct-sub-has-key : (t : ℕ) → few-distinct-lts.Need-sub-has-key (claims t) (few-distinct-at t) few-distinct.Post
-few-distinct-sub-has-key t c = search needs
-
-few-distinct-part-has-key-start : (t : ℕ) → few-distinct-lts.Need-part-has-key-start (claims t) (few-distinct-at t) few-distinct.Post
-few-distinct-part-has-key-start t c = search needs
-
-few-distinct-part-has-key-end : (t : ℕ) → few-distinct-lts.Need-part-has-key-end (claims t) (few-distinct-at t) few-distinct.Post
-few-distinct-part-has-key-end t c = search needs
-
-few-distinct-has-key-requires : (t : ℕ) → few-distinct-lts.Need-has-key-requires (claims t) (few-distinct-at t) few-distinct.Post
-few-distinct-has-key-requires t c κs = search needs
 
 few-distinct-returns-3 : (t : ℕ) → few-distinct-lts.Need-returns-3 (claims t) (few-distinct-at t) few-distinct.Post
 few-distinct-returns-3 t c = ap not (c .has-key .ensures) ∙ sym (key-new (keyed t (c .before .before .before .before)) (sym (c .before .before .before .few-distinct .ensures) ∙ c .before .before .if3 .taken))
@@ -86,17 +59,17 @@ pub +few-distinct-spec : {M : Type 1} → statement M
 +few-distinct-spec = close μ-few-distinct λ t. few-distinct-lts.spec (claims t)
     (few-distinct-at t)
     few-distinct.Post
-    (few-distinct-tag-requires t)
+    (λ c κs. search needs)
     (few-distinct-returns t)
     (few-distinct-many-distinct-requires t)
-    (few-distinct-returns-2 t)
-    (few-distinct-text-at-requires t)
-    (few-distinct-behind-requires t)
-    (few-distinct-sub-few-distinct t)
+    (λ c. c .many-distinct .ensures)
+    (λ c κs. search needs)
+    (λ c κs. search needs)
+    (λ c. search needs)
     (few-distinct-few-distinct-requires t)
-    (few-distinct-sub-has-key t)
-    (few-distinct-part-has-key-start t)
-    (few-distinct-part-has-key-end t)
-    (few-distinct-has-key-requires t)
+    (λ c. search needs)
+    (λ c. search needs)
+    (λ c. search needs)
+    (λ c κs. search needs)
     (few-distinct-returns-3 t)
     (few-distinct-returns-4 t)

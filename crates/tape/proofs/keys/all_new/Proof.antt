@@ -20,20 +20,8 @@ abbrev μ-loop : tie.MeasureT-loop
 loop-holds : tie.Need-loop-holds Inv-loop μ-loop
 loop-holds c = (refl, c .before .before .pre .0, telling-start (c .before .before .pre .1))
 
-tag-requires : tie.Need-tag-requires Inv-loop μ-loop
-tag-requires c κs = search needs
-
-same-length : tie.Need-same-length Inv-loop μ-loop
-same-length c = search needs
-
 returns : tie.Need-returns Inv-loop μ-loop
 returns c = sym (telling-end (c .before .before .loop .inv .2) (sym (c .before .tag .ensures) ∙ c .if1 .taken))
-
-text-at-requires : tie.Need-text-at-requires Inv-loop μ-loop
-text-at-requires c κs = search needs
-
-behind-requires : tie.Need-behind-requires Inv-loop μ-loop
-behind-requires c κs = search needs
 
 -- the member at i
 keyed :
@@ -41,33 +29,12 @@ keyed :
     Keyed (c .before .before .before .before .before .before .before .args .t .now) (c .before .before .before .before .loop .i) (c .before .text-at .result) (c .behind .result)
 keyed c = record { some = λ z. c .before .before .if1 .left (c .before .before .before .tag .ensures ∙ z); key = c .before .text-at .ensures; next = c .behind .ensures }
 
-sub-probe : tie.Need-sub-probe Inv-loop μ-loop
-sub-probe c = search needs
-
-part-probe-start : tie.Need-part-probe-start Inv-loop μ-loop
-part-probe-start c = search needs
-
-part-probe-end : tie.Need-part-probe-end Inv-loop μ-loop
-part-probe-end c = search needs
-
-probe-requires : tie.Need-probe-requires Inv-loop μ-loop
-probe-requires c κs = search needs
-
-enum-known-p : tie.Need-enum-known-p Inv-loop μ-loop
-enum-known-p c = search needs
-
 -- a free slot was found
 found :
     (c : tie.After-known-told Inv-loop μ-loop) →
     let b = c .before .before .before .before .before .before .before in
     Probes (b .before .before .before .before .before .before .args .t .now) (b .before .before .before .loop .table) (part (b .before .before .before .before .before .before .args .t .now) (b .text-at .result)) (Free (c .before .p .given .0 .0))
 found c = rw (c .before .p .given .1) at (c .before .before .before .probe .ensures)
-
-mul-table : tie.Need-mul-table Inv-loop μ-loop
-mul-table c = omega (arith, found c .within)
-
-slice-write-table : tie.Need-slice-write-table Inv-loop μ-loop
-slice-write-table c = found c .within
 
 loop-less : tie.Need-loop-less Inv-loop μ-loop
 loop-less c = omega (arith, member-on (keyed (c .before .before .before .before .before .before)), c .before .before .before .before .before .before .behind .ensures .high)
@@ -78,34 +45,10 @@ loop-again c =
     let m = keyed (c .before .before .before .before .before .before) in
     (rw length-set (l .inv .0), omega (arith, member-on m), telling-free (l .inv .2) m _ (l .inv .1) (found c))
 
-enum-told : tie.Need-enum-told Inv-loop μ-loop
-enum-told c = search needs
-
-same-length-2 : tie.Need-same-length-2 Inv-loop μ-loop
-same-length-2 c = search needs
-
 returns-2 : tie.Need-returns-2 Inv-loop μ-loop
 returns-2 c =
     let b = c .before .before .before .before .before in
     sym (telling-there (b .before .before .before .before .loop .inv .2) (keyed b) _ (rw (c .enum-told .given .1) at (c .before .before .probe .ensures)))
-
-enum-told-2 : tie.Need-enum-told-2 Inv-loop μ-loop
-enum-told-2 c = search needs
-
-sub-has-key : tie.Need-sub-has-key Inv-loop μ-loop
-sub-has-key c = search needs
-
-part-has-key-start : tie.Need-part-has-key-start Inv-loop μ-loop
-part-has-key-start c = search needs
-
-part-has-key-end : tie.Need-part-has-key-end Inv-loop μ-loop
-part-has-key-end c = search needs
-
-has-key-requires : tie.Need-has-key-requires Inv-loop μ-loop
-has-key-requires c κs = search needs
-
-same-length-3 : tie.Need-same-length-3 Inv-loop μ-loop
-same-length-3 c = search needs
 
 returns-3 : tie.Need-returns-3 Inv-loop μ-loop
 returns-3 c =
@@ -131,29 +74,29 @@ all-new-spec =
     Inv-loop
     μ-loop
     loop-holds
-    tag-requires
-    same-length
+    (λ c κs. search needs)
+    (λ c. search needs)
     returns
-    text-at-requires
-    behind-requires
-    sub-probe
-    part-probe-start
-    part-probe-end
-    probe-requires
-    enum-known-p
-    mul-table
-    slice-write-table
+    (λ c κs. search needs)
+    (λ c κs. search needs)
+    (λ c. search needs)
+    (λ c. search needs)
+    (λ c. search needs)
+    (λ c κs. search needs)
+    (λ c. search needs)
+    (λ c. omega (arith, found c .within))
+    (λ c. found c .within)
     loop-less
     loop-again
-    enum-told
-    same-length-2
+    (λ c. search needs)
+    (λ c. search needs)
     returns-2
-    enum-told-2
-    sub-has-key
-    part-has-key-start
-    part-has-key-end
-    has-key-requires
-    same-length-3
+    (λ c. search needs)
+    (λ c. search needs)
+    (λ c. search needs)
+    (λ c. search needs)
+    (λ c κs. search needs)
+    (λ c. search needs)
     returns-3
     loop-less-2
     loop-again-2)

@@ -16,32 +16,8 @@ Inv-loop t at key i₀ i = hasKey key (membersAt t i) ≡ hasKey key (membersAt 
 abbrev μ-loop : tie.MeasureT-loop
 μ-loop t at key i₀ i = length t - i
 
-loop-holds : tie.Need-loop-holds Inv-loop μ-loop
-loop-holds c = refl
-
-tag-requires : tie.Need-tag-requires Inv-loop μ-loop
-tag-requires c κs = search needs
-
 returns : tie.Need-returns Inv-loop μ-loop
 returns c = sym (key-end _ _ (sym (c .before .tag .ensures) ∙ c .if1 .taken) _) ∙ c .before .before .loop .inv
-
-text-at-requires : tie.Need-text-at-requires Inv-loop μ-loop
-text-at-requires c κs = search needs
-
-behind-requires : tie.Need-behind-requires Inv-loop μ-loop
-behind-requires c κs = search needs
-
-sub-same : tie.Need-sub-same Inv-loop μ-loop
-sub-same c = search needs
-
-part-same-start : tie.Need-part-same-start Inv-loop μ-loop
-part-same-start c = search needs
-
-part-same-end : tie.Need-part-same-end Inv-loop μ-loop
-part-same-end c = search needs
-
-same-requires : tie.Need-same-requires Inv-loop μ-loop
-same-requires c κs = search needs
 
 keyed :
     (c : tie.After-behind Inv-loop μ-loop) →
@@ -63,15 +39,15 @@ has-key-spec =
     (tie.spec
     Inv-loop
     μ-loop
-    loop-holds
-    tag-requires
+    (λ c. refl)
+    (λ c κs. search needs)
     returns
-    text-at-requires
-    behind-requires
-    sub-same
-    part-same-start
-    part-same-end
-    same-requires
+    (λ c κs. search needs)
+    (λ c κs. search needs)
+    (λ c. search needs)
+    (λ c. search needs)
+    (λ c. search needs)
+    (λ c κs. search needs)
     returns-2
     loop-less
     loop-again)

@@ -15,26 +15,11 @@ Inv-loop key h₀ i₀ h i = (h < 16381) × (slotFrom h (drop i key) ≡ slotOf 
 abbrev μ-loop : tie.MeasureT-loop
 μ-loop key h₀ i₀ h i = length key - i
 
-loop-holds : tie.Need-loop-holds Inv-loop μ-loop
-loop-holds c = (omega arith, slot-start _)
-
-mul-h : tie.Need-mul-h Inv-loop μ-loop
-mul-h c = omega arith
-
-shared-slice-read-h : tie.Need-shared-slice-read-h Inv-loop μ-loop
-shared-slice-read-h c = search needs
-
 cast-h : tie.Need-cast-h Inv-loop μ-loop
 cast-h c = omega (arith, c .shared-slice-known .given (c .before .before .loop .i))
 
 add-h : tie.Need-add-h Inv-loop μ-loop
 add-h c = omega (arith, c .shared-slice-known .given (c .before .before .loop .i))
-
-add-i : tie.Need-add-i Inv-loop μ-loop
-add-i c = search needs
-
-loop-less : tie.Need-loop-less Inv-loop μ-loop
-loop-less c = search needs
 
 loop-again : tie.Need-loop-again Inv-loop μ-loop
 loop-again c = let l = c .before .before .loop in (omega arith, slot-on _ (l .i) (l .h) (c .before .loop-test .taken) ∙ l .inv .1)
@@ -45,4 +30,6 @@ returns c = let l = c .before .loop in slot-end _ (l .i) (l .h) (c .loop-test .l
 pub slot-of-spec : {M : Type 1} → statement M
 slot-of-spec =
     tie.close
-    (tie.spec Inv-loop μ-loop loop-holds mul-h shared-slice-read-h cast-h add-h add-i loop-less loop-again returns)
+    (tie.spec
+    Inv-loop μ-loop (λ c. (omega arith, slot-start _)) (λ c. omega arith) (λ c. search needs) cast-h
+    add-h (λ c. search needs) (λ c. search needs) loop-again returns)

@@ -17,38 +17,8 @@ Inv-loop t i₀ i = keysFrom t i ≡ keysAlong t
 abbrev μ-loop : tie.MeasureT-loop
 μ-loop t i₀ i = length t - i
 
-next-object-requires : tie.Need-next-object-requires Inv-loop μ-loop
-next-object-requires c κs = search needs
-
 loop-holds : tie.Need-loop-holds Inv-loop μ-loop
 loop-holds c = c .next-object .ensures .1 ∙ keys-start _
-
-returns : tie.Need-returns Inv-loop μ-loop
-returns c = λ e. absurd (false≢true e)
-
-sub-if2 : tie.Need-sub-if2 Inv-loop μ-loop
-sub-if2 c = search needs
-
-shared-slice-read-if2 : tie.Need-shared-slice-read-if2 Inv-loop μ-loop
-shared-slice-read-if2 c = search needs
-
-returns-2 : tie.Need-returns-2 Inv-loop μ-loop
-returns-2 c = λ e. absurd (false≢true e)
-
-add-keys-distinct : tie.Need-add-keys-distinct Inv-loop μ-loop
-add-keys-distinct c = search needs
-
-keys-distinct-requires : tie.Need-keys-distinct-requires Inv-loop μ-loop
-keys-distinct-requires c κs = search needs
-
-returns-3 : tie.Need-returns-3 Inv-loop μ-loop
-returns-3 c = λ e. absurd (false≢true e)
-
-add-next-object : tie.Need-add-next-object Inv-loop μ-loop
-add-next-object c = search needs
-
-next-object-requires-2 : tie.Need-next-object-requires-2 Inv-loop μ-loop
-next-object-requires-2 c κs = search needs
 
 loop-less : tie.Need-loop-less Inv-loop μ-loop
 loop-less c = omega (arith, c .next-object2 .ensures .0, c .before .before .before .before .before .before .loop-test .taken)
@@ -66,17 +36,17 @@ all-distinct-spec =
     (tie.spec
     Inv-loop
     μ-loop
-    next-object-requires
+    (λ c κs. search needs)
     loop-holds
-    returns
-    sub-if2
-    shared-slice-read-if2
-    returns-2
-    add-keys-distinct
-    keys-distinct-requires
-    returns-3
-    add-next-object
-    next-object-requires-2
+    (λ c. λ e. absurd (false≢true e))
+    (λ c. search needs)
+    (λ c. search needs)
+    (λ c. λ e. absurd (false≢true e))
+    (λ c. search needs)
+    (λ c κs. search needs)
+    (λ c. λ e. absurd (false≢true e))
+    (λ c. search needs)
+    (λ c κs. search needs)
     loop-less
     loop-again
     returns-4)

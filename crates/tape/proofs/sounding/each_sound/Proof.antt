@@ -16,15 +16,6 @@ Inv-loop t i₀ i = soundFrom t i ≡ soundTape t
 abbrev μ-loop : tie.MeasureT-loop
 μ-loop t i₀ i = length t - i
 
-loop-holds : tie.Need-loop-holds Inv-loop μ-loop
-loop-holds c = scan-start _
-
-scan-requires : tie.Need-scan-requires Inv-loop μ-loop
-scan-requires c κs = search needs
-
-enum-known-s : tie.Need-enum-known-s Inv-loop μ-loop
-enum-known-s c = search needs
-
 -- what the turn answered
 scanned :
     (c : tie.After-known-told Inv-loop μ-loop) →
@@ -37,9 +28,6 @@ loop-less c = omega (arith, scanned c .1, scanned c .2)
 loop-again : tie.Need-loop-again Inv-loop μ-loop
 loop-again c = sym (scanned c .0) ∙ c .before .before .before .before .before .loop .inv
 
-enum-told : tie.Need-enum-told Inv-loop μ-loop
-enum-told c = search needs
-
 returns : tie.Need-returns Inv-loop μ-loop
 returns c = sym (rw (c .enum-told .given .1) at (c .before .before .scan .ensures)) ∙ c .before .before .before .before .loop .inv
 
@@ -47,4 +35,8 @@ returns-2 : tie.Need-returns-2 Inv-loop μ-loop
 returns-2 c = sym (scan-past _ _ (c .loop-test .left)) ∙ c .before .loop .inv
 
 pub each-sound-spec : {M : Type 1} → statement M
-each-sound-spec = tie.close (tie.spec Inv-loop μ-loop loop-holds scan-requires enum-known-s loop-less loop-again enum-told returns returns-2)
+each-sound-spec =
+    tie.close
+    (tie.spec
+    Inv-loop μ-loop (λ c. scan-start _) (λ c κs. search needs) (λ c. search needs) loop-less
+    loop-again (λ c. search needs) returns returns-2)

@@ -5,33 +5,6 @@ use Rattle.tape.proofs.Scans.{scan-number, scan-string, scan-object, sc
 use Rattle.tape.proofs.sounding.scan.Statement.{statement}
 use Rattle.tape.proofs.sounding.scan.Tie as tie
 
-shared-slice-read-b : tie.Need-shared-slice-read-b
-shared-slice-read-b c = search needs
-
-add-past-string : tie.Need-add-past-string
-add-past-string c = search needs
-
-past-string-requires : tie.Need-past-string-requires
-past-string-requires c κs = search needs
-
-add-past-text : tie.Need-add-past-text
-add-past-text c = search needs
-
-past-text-requires : tie.Need-past-text-requires
-past-text-requires c κs = search needs
-
-add-keys-distinct : tie.Need-add-keys-distinct
-add-keys-distinct c = search needs
-
-keys-distinct-requires : tie.Need-keys-distinct-requires
-keys-distinct-requires c κs = search needs
-
-add-t13 : tie.Need-add-t13
-add-t13 c = search needs
-
-add-t14 : tie.Need-add-t14
-add-t14 c = search needs
-
 returns : tie.Need-returns
 returns c = scan-string (c .before .before .before .before .args .t .now) _ (c .before .before .before .before .pre) (c .before .match .keys1) (c .past-string .result) (c .past-string .ensures)
 
@@ -51,15 +24,15 @@ pub scan-spec : {M : Type 1} → statement M
 scan-spec =
     tie.close
     (tie.spec
-    shared-slice-read-b
-    add-past-string
-    past-string-requires
-    add-past-text
-    past-text-requires
-    add-keys-distinct
-    keys-distinct-requires
-    add-t13
-    add-t14
+    (λ c. search needs)
+    (λ c. search needs)
+    (λ c κs. search needs)
+    (λ c. search needs)
+    (λ c κs. search needs)
+    (λ c. search needs)
+    (λ c κs. search needs)
+    (λ c. search needs)
+    (λ c. search needs)
     returns
     returns-2
     returns-3

@@ -17,21 +17,6 @@ Inv-loop s b free₀ i₀ free i = (i ≤ length s) × ((free and all (λ c. not
 abbrev μ-loop : tie.MeasureT-loop
 μ-loop s b free₀ i₀ free i = length s - i
 
-loop-holds : tie.Need-loop-holds Inv-loop μ-loop
-loop-holds c = (omega arith, refl)
-
-shared-slice-read-still-free : tie.Need-shared-slice-read-still-free Inv-loop μ-loop
-shared-slice-read-still-free c = search needs
-
-still-free-requires : tie.Need-still-free-requires Inv-loop μ-loop
-still-free-requires c κs = search needs
-
-add-i : tie.Need-add-i Inv-loop μ-loop
-add-i c = search needs
-
-loop-less : tie.Need-loop-less Inv-loop μ-loop
-loop-less c = search needs
-
 loop-again : tie.Need-loop-again Inv-loop μ-loop
 loop-again c = (omega arith, rw (c .still-free .ensures) (all-more (λ (x : ℕ). not (eqb x (c .before .before .before .before .before .args .b))) (c .before .before .before .before .before .args .s .now) (c .before .before .before .loop .i) (c .before .before .before .loop .free) (c .before .before .loop-test .taken) ∙ c .before .before .before .loop .inv .1))
 
@@ -44,10 +29,10 @@ is-free-spec =
     (tie.spec
     Inv-loop
     μ-loop
-    loop-holds
-    shared-slice-read-still-free
-    still-free-requires
-    add-i
-    loop-less
+    (λ c. (omega arith, refl))
+    (λ c. search needs)
+    (λ c κs. search needs)
+    (λ c. search needs)
+    (λ c. search needs)
     loop-again
     returns)

@@ -15,23 +15,11 @@ Inv-loop t at e₀ e = e + length (textAt t e) ≡ at + length (textAt t at)
 abbrev μ-loop : tie.MeasureT-loop
 μ-loop t at e₀ e = length t - e
 
-loop-holds : tie.Need-loop-holds Inv-loop μ-loop
-loop-holds c = refl
-
-shared-slice-read-if1 : tie.Need-shared-slice-read-if1 Inv-loop μ-loop
-shared-slice-read-if1 c = search needs
-
 returns : tie.Need-returns Inv-loop μ-loop
 returns c =
     let l = c .before .before .before in
     let h = c .before .before .loop-test .taken in
     omega (arith, ap length (text-here (l .before .args .t .now) (l .loop .e) h (sym (read-tag _ _ h) ∙ c .if1 .taken)))
-
-add-e : tie.Need-add-e Inv-loop μ-loop
-add-e c = search needs
-
-loop-less : tie.Need-loop-less Inv-loop μ-loop
-loop-less c = search needs
 
 loop-again : tie.Need-loop-again Inv-loop μ-loop
 loop-again c =
@@ -43,4 +31,8 @@ returns-2 : tie.Need-returns-2 Inv-loop μ-loop
 returns-2 c = omega (arith, ap length (text-past (c .before .before .args .t .now) (c .before .loop .e) (c .loop-test .left)))
 
 pub last-end-spec : {M : Type 1} → statement M
-last-end-spec = tie.close (tie.spec Inv-loop μ-loop loop-holds shared-slice-read-if1 returns add-e loop-less loop-again returns-2)
+last-end-spec =
+    tie.close
+    (tie.spec
+    Inv-loop μ-loop (λ c. refl) (λ c. search needs) returns (λ c. search needs) (λ c. search needs)
+    loop-again returns-2)

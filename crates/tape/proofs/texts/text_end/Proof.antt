@@ -15,29 +15,11 @@ Inv-loop t at n e₀ e = e + length (textAt t e) ≡ at + length (textAt t at)
 abbrev μ-loop : tie.MeasureT-loop
 μ-loop t at n e₀ e = length t - e
 
-loop-holds : tie.Need-loop-holds Inv-loop μ-loop
-loop-holds c = refl
-
-sub-if1 : tie.Need-sub-if1 Inv-loop μ-loop
-sub-if1 c = search needs
-
-last-end-requires : tie.Need-last-end-requires Inv-loop μ-loop
-last-end-requires c κs = search needs
-
 returns : tie.Need-returns Inv-loop μ-loop
 returns c = c .last-end .ensures ∙ c .before .before .before .loop .inv
 
-in-block-requires : tie.Need-in-block-requires Inv-loop μ-loop
-in-block-requires c κs = search needs
-
-add-if2 : tie.Need-add-if2 Inv-loop μ-loop
-add-if2 c = search needs
-
 returns-2 : tie.Need-returns-2 Inv-loop μ-loop
 returns-2 c = let f = c .before .in-block .ensures in omega (arith, f .is, f .ends (c .if2 .taken))
-
-past-blocks-requires : tie.Need-past-blocks-requires Inv-loop μ-loop
-past-blocks-requires c κs = search needs
 
 loop-less : tie.Need-loop-less Inv-loop μ-loop
 loop-less c = omega (arith, c .past-blocks .ensures .0)
@@ -54,14 +36,14 @@ text-end-spec =
     (tie.spec
     Inv-loop
     μ-loop
-    loop-holds
-    sub-if1
-    last-end-requires
+    (λ c. refl)
+    (λ c. search needs)
+    (λ c κs. search needs)
     returns
-    in-block-requires
-    add-if2
+    (λ c κs. search needs)
+    (λ c. search needs)
     returns-2
-    past-blocks-requires
+    (λ c κs. search needs)
     loop-less
     loop-again
     returns-3)

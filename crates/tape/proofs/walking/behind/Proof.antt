@@ -8,18 +8,6 @@ use Rattle.tape.proofs.Walks.{one-of, none-of, next-past, next-end, nex
 use Rattle.tape.proofs.walking.behind.Statement.{statement}
 use Rattle.tape.proofs.walking.behind.Tie as tie
 
-returns : tie.Need-returns
-returns c = next-past _ _ (c .if1 .taken)
-
-tag-requires : tie.Need-tag-requires
-tag-requires c κs = search needs
-
-add-leave : tie.Need-add-leave
-add-leave c = search needs
-
-leave-requires : tie.Need-leave-requires
-leave-requires c κs = search needs
-
 past-leaf-requires : tie.Need-past-leaf-requires
 past-leaf-requires c κs =
     let b = c .before .before .tag .ensures in
@@ -32,10 +20,9 @@ returns-2 c = next-end _ _ (sym (c .before .tag .ensures) ∙ c .match .keys1) (
 returns-3 : tie.Need-returns-3
 returns-3 c = next-group _ _ _ (rw (c .before .before .before .before .tag .ensures) at (one-of tagArray (c .before .before .if2 .left) (c .before .if3 .taken))) (c .leave .ensures)
 
-returns-4 : tie.Need-returns-4
-returns-4 c = search needs
-
 pub behind-spec : {M : Type 1} → statement M
 behind-spec =
     tie.close
-    (tie.spec returns tag-requires add-leave leave-requires past-leaf-requires returns-2 returns-3 returns-4)
+    (tie.spec
+    (λ c. next-past _ _ (c .if1 .taken)) (λ c κs. search needs) (λ c. search needs)
+    (λ c κs. search needs) past-leaf-requires returns-2 returns-3 (λ c. search needs))

@@ -12,23 +12,8 @@ Inv-loop t at most i₀ n₀ i n = Counting t at most i n
 abbrev μ-loop : tie.MeasureT-loop
 μ-loop t at most i₀ n₀ i n = most - n
 
-loop-holds : tie.Need-loop-holds Inv-loop μ-loop
-loop-holds c = counting-start
-
-tag-requires : tie.Need-tag-requires Inv-loop μ-loop
-tag-requires c κs = search needs
-
 returns : tie.Need-returns Inv-loop μ-loop
 returns c = counting-end (c .before .before .before .loop .inv) (sym (c .before .tag .ensures) ∙ c .if1 .taken)
-
-behind-requires : tie.Need-behind-requires Inv-loop μ-loop
-behind-requires c κs = search needs
-
-add-n : tie.Need-add-n Inv-loop μ-loop
-add-n c = search needs
-
-loop-less : tie.Need-loop-less Inv-loop μ-loop
-loop-less c = search needs
 
 loop-again : tie.Need-loop-again Inv-loop μ-loop
 loop-again c = counting-next (c .before .before .before .before .loop .inv) (λ e. c .before .if1 .left (c .before .before .tag .ensures ∙ e)) (c .behind .ensures) (c .before .before .before .loop-test .taken)
@@ -37,4 +22,8 @@ returns-2 : tie.Need-returns-2 Inv-loop μ-loop
 returns-2 c = counting-full (c .before .loop .inv) (c .loop-test .left)
 
 pub count-spec : {M : Type 1} → statement M
-count-spec = tie.close (tie.spec Inv-loop μ-loop loop-holds tag-requires returns behind-requires add-n loop-less loop-again returns-2)
+count-spec =
+    tie.close
+    (tie.spec
+    Inv-loop μ-loop (λ c. counting-start) (λ c κs. search needs) returns (λ c κs. search needs)
+    (λ c. search needs) (λ c. search needs) loop-again returns-2)

@@ -21,12 +21,6 @@ abbrev μ-loop : tie.MeasureT-loop
 loop-holds : tie.Need-loop-holds Inv-loop μ-loop
 loop-holds c = (omega arith, omega arith, omega arith, pops-one _)
 
-shared-slice-read-b : tie.Need-shared-slice-read-b Inv-loop μ-loop
-shared-slice-read-b c = search needs
-
-add-result : tie.Need-add-result Inv-loop μ-loop
-add-result c = search needs
-
 returns : tie.Need-returns Inv-loop μ-loop
 returns c =
     let h = c .before .before .before .loop-test .taken in
@@ -37,29 +31,11 @@ returns c =
       high = omega arith;
     }
 
-sub-ends : tie.Need-sub-ends Inv-loop μ-loop
-sub-ends c = search needs
-
-add-i : tie.Need-add-i Inv-loop μ-loop
-add-i c = search needs
-
-loop-less : tie.Need-loop-less Inv-loop μ-loop
-loop-less c = search needs
-
 loop-again : tie.Need-loop-again Inv-loop μ-loop
 loop-again c =
     let h = c .before .before .before .loop-test .taken in
     let l = c .before .before .before .before .loop in
     (omega arith, omega arith, omega arith, sym (leave-end _ (l .i) (l .ends) (l .inv .0) (sym (read-tag _ _ h) ∙ c .before .match .keys1)) ∙ l .inv .3)
-
-add-ends : tie.Need-add-ends Inv-loop μ-loop
-add-ends c = search needs
-
-add-i-2 : tie.Need-add-i-2 Inv-loop μ-loop
-add-i-2 c = search needs
-
-loop-less-2 : tie.Need-loop-less-2 Inv-loop μ-loop
-loop-less-2 c = search needs
 
 loop-again-2 : tie.Need-loop-again-2 Inv-loop μ-loop
 loop-again-2 c =
@@ -98,16 +74,16 @@ leave-spec =
     Inv-loop
     μ-loop
     loop-holds
-    shared-slice-read-b
-    add-result
+    (λ c. search needs)
+    (λ c. search needs)
     returns
-    sub-ends
-    add-i
-    loop-less
+    (λ c. search needs)
+    (λ c. search needs)
+    (λ c. search needs)
     loop-again
-    add-ends
-    add-i-2
-    loop-less-2
+    (λ c. search needs)
+    (λ c. search needs)
+    (λ c. search needs)
     loop-again-2
     past-leaf-requires
     loop-less-3

@@ -6,18 +6,6 @@ use Rattle.tape.proofs.Walks.{one-of, none-of, next-text, next-other}
 use Rattle.tape.proofs.walking.past_leaf.Statement.{statement}
 use Rattle.tape.proofs.walking.past_leaf.Tie as tie
 
-tag-requires : tie.Need-tag-requires
-tag-requires c κs = search needs
-
-add-past-text : tie.Need-add-past-text
-add-past-text c = search needs
-
-past-text-requires : tie.Need-past-text-requires
-past-text-requires c κs = search needs
-
-add-result : tie.Need-add-result
-add-result c = search needs
-
 returns : tie.Need-returns
 returns c =
     let d = c .before .before .before in
@@ -29,4 +17,7 @@ returns-2 c =
 
 pub past-leaf-spec : {M : Type 1} → statement M
 past-leaf-spec =
-    tie.close (tie.spec tag-requires add-past-text past-text-requires add-result returns returns-2)
+    tie.close
+    (tie.spec
+    (λ c κs. search needs) (λ c. search needs) (λ c κs. search needs) (λ c. search needs) returns
+    returns-2)

@@ -3,14 +3,8 @@ use borrow.Author.Needs.{needs}
 use Rattle.tape.proofs.walking.past_text.Statement.{statement}
 use Rattle.tape.proofs.walking.past_text.Tie as tie
 
-text-end-requires : tie.Need-text-end-requires
-text-end-requires c κs = search needs
-
-after-requires : tie.Need-after-requires
-after-requires c κs = search needs
-
 returns : tie.Need-returns
 returns c = rw (c .before .text-end .ensures) at (c .after .ensures)
 
 pub past-text-spec : {M : Type 1} → statement M
-past-text-spec = tie.close (tie.spec text-end-requires after-requires returns)
+past-text-spec = tie.close (tie.spec (λ c κs. search needs) (λ c κs. search needs) returns)

@@ -7,26 +7,8 @@ use Rattle.tape.proofs.Walks.{Begins, one-of, none-of, begins-in, text-
 use Rattle.tape.proofs.walking.text_at.Statement.{statement}
 use Rattle.tape.proofs.walking.text_at.Tie as tie
 
-tag-requires : tie.Need-tag-requires
-tag-requires c κs = search needs
-
 begins : (c : tie.Then2) → Begins (c .before .before .before .before .args .t .now) (c .before .before .before .before .args .at)
 begins c = rw (c .before .before .tag .ensures) at (one-of tagNumber (c .before .if1 .left) (c .if2 .taken))
-
-add-text-end : tie.Need-add-text-end
-add-text-end c = omega (arith, begins-in _ _ (begins c))
-
-text-end-requires : tie.Need-text-end-requires
-text-end-requires c κs = omega (arith, begins-in _ _ (begins c))
-
-after-requires : tie.Need-after-requires
-after-requires c κs = search needs
-
-add-t9 : tie.Need-add-t9
-add-t9 c = search needs
-
-behind-requires : tie.Need-behind-requires
-behind-requires c κs = search needs
 
 returns : tie.Need-returns
 returns c = text-found _ _ (begins (c .before .before)) (c .before .text-end .ensures) (c .after .ensures)
@@ -38,4 +20,7 @@ returns-2 c =
 pub text-at-spec : {M : Type 1} → statement M
 text-at-spec =
     tie.close
-    (tie.spec tag-requires add-text-end text-end-requires after-requires add-t9 behind-requires returns returns-2)
+    (tie.spec
+    (λ c κs. search needs) (λ c. omega (arith, begins-in _ _ (begins c)))
+    (λ c κs. omega (arith, begins-in _ _ (begins c))) (λ c κs. search needs) (λ c. search needs)
+    (λ c κs. search needs) returns returns-2)

@@ -7,15 +7,6 @@ use Rattle.types.proofs.Types.{code-found}
 use Rattle.types.proofs.codes.code_named.Statement.{statement}
 use Rattle.types.proofs.codes.code_named.Tie as tie
 
-find-type-requires : tie.Need-find-type-requires
-find-type-requires c κs = search needs
-
-enum-known-code : tie.Need-enum-known-code
-enum-known-code c = search needs
-
-enum-told : tie.Need-enum-told
-enum-told c = search needs
-
 returns : tie.Need-returns
 unfolding rowFound given
 returns c = sym (code-found _ ∙ rw (← c .before .before .before .find-type .ensures, c .before .code .given .1))
@@ -26,4 +17,4 @@ returns-2 c = sym (code-found _ ∙ rw (← c .before .before .find-type .ensure
 
 pub code-named-spec : {M : Type 1} → statement M
 code-named-spec =
-    tie.close (tie.spec find-type-requires enum-known-code enum-told returns returns-2)
+    tie.close (tie.spec (λ c κs. search needs) (λ c. search needs) (λ c. search needs) returns returns-2)

@@ -5,14 +5,8 @@ use Rattle.types.proofs.Types.{unknown-either}
 use Rattle.types.proofs.codes.is_unknown.Statement.{statement}
 use Rattle.types.proofs.codes.is_unknown.Tie as tie
 
-slice-aggregate-is-named : tie.Need-slice-aggregate-is-named
-slice-aggregate-is-named c = search needs
-
-is-named-requires : tie.Need-is-named-requires
-is-named-requires c κs = search needs
-
 returns : tie.Need-returns
 returns c = c .is-named .ensures ∙ sym (unknown-either _)
 
 pub is-unknown-spec : {M : Type 1} → statement M
-is-unknown-spec = tie.close (tie.spec slice-aggregate-is-named is-named-requires returns)
+is-unknown-spec = tie.close (tie.spec (λ c. search needs) (λ c κs. search needs) returns)

@@ -11,18 +11,6 @@ use Rattle.types.proofs.codes.put_slot_name.Tie as tie
 returns : tie.Need-returns
 returns c = as-text nothing (sym (nameless _ (c .if1 .taken)))
 
-mul-from : tie.Need-mul-from
-mul-from c = search needs
-
-add-from : tie.Need-add-from
-add-from c = search needs
-
-sub-end : tie.Need-sub-end
-sub-end c = search needs
-
-array-read-end : tie.Need-array-read-end
-array-read-end c = search needs
-
 cast-end : tie.Need-cast-end
 unfolding slots typeNames
 cast-end c = omega (arith, slot-length _ (c .if1 .left))
@@ -31,21 +19,9 @@ add-end : tie.Need-add-end
 unfolding slots typeNames
 add-end c = omega (arith, slot-length _ (c .if1 .left))
 
-sub-put-all : tie.Need-sub-put-all
-sub-put-all c = search needs
-
-part-put-all-start : tie.Need-part-put-all-start
-part-put-all-start c = search needs
-
 part-put-all-end : tie.Need-part-put-all-end
 unfolding slots typeNames
 part-put-all-end c = omega (arith, slot-length _ (c .before .before .if1 .left))
-
-put-all-requires : tie.Need-put-all-requires
-put-all-requires c κs = search needs
-
-same-length : tie.Need-same-length
-same-length c = search needs
 
 returns-2 : tie.Need-returns-2
 unfolding slots typeNames
@@ -56,15 +32,15 @@ put-slot-name-spec =
     tie.close
     (tie.spec
     returns
-    mul-from
-    add-from
-    sub-end
-    array-read-end
+    (λ c. search needs)
+    (λ c. search needs)
+    (λ c. search needs)
+    (λ c. search needs)
     cast-end
     add-end
-    sub-put-all
-    part-put-all-start
+    (λ c. search needs)
+    (λ c. search needs)
     part-put-all-end
-    put-all-requires
-    same-length
+    (λ c κs. search needs)
+    (λ c. search needs)
     returns-2)

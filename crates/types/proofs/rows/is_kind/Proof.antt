@@ -11,9 +11,6 @@ returns c = rw (below-between 1 14 _ (c .if1 .taken))
 returns-2 : tie.Need-returns-2
 returns-2 c = rw (above-between 1 14 _ (c .if2 .taken))
 
-does-split-requires : tie.Need-does-split-requires
-does-split-requires c κs = search needs
-
 returns-3 : tie.Need-returns-3
 returns-3 c = rw (within-between 1 14 _ (c .before .before .if1 .left) (c .before .if2 .left), c .match .keys1)
 
@@ -25,4 +22,4 @@ returns-5 c = rw (within-between 1 14 _ (c .before .before .if1 .left) (c .befor
 
 pub is-kind-spec : {M : Type 1} → statement M
 is-kind-spec =
-    tie.close (tie.spec returns returns-2 does-split-requires returns-3 returns-4 returns-5)
+    tie.close (tie.spec returns returns-2 (λ c κs. search needs) returns-3 returns-4 returns-5)

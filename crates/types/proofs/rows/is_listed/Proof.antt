@@ -5,15 +5,6 @@ use Rattle.types.specs.Laid.{rowFound}
 use Rattle.types.proofs.rows.is_listed.Statement.{statement}
 use Rattle.types.proofs.rows.is_listed.Tie as tie
 
-find-requires : tie.Need-find-requires
-find-requires c κs = search needs
-
-enum-told : tie.Need-enum-told
-enum-told c = search needs
-
-enum-told-2 : tie.Need-enum-told-2
-enum-told-2 c = search needs
-
 returns : tie.Need-returns
 unfolding rowFound isSome
 returns c = rw (← c .before .before .find .ensures, c .enum-told .given .1)
@@ -23,4 +14,4 @@ unfolding rowFound isSome
 returns-2 c = rw (← c .before .before .find .ensures, c .enum-told2 .given .1)
 
 pub is-listed-spec : {M : Type 1} → statement M
-is-listed-spec = tie.close (tie.spec find-requires enum-told enum-told-2 returns returns-2)
+is-listed-spec = tie.close (tie.spec (λ c κs. search needs) (λ c. search needs) (λ c. search needs) returns returns-2)

@@ -17,23 +17,8 @@ Inv-loop name i₀ i = (i ≤ length name) × (all rowOctet name ≡ all rowOcte
 abbrev μ-loop : tie.MeasureT-loop
 μ-loop name i₀ i = length name - i
 
-loop-holds : tie.Need-loop-holds Inv-loop μ-loop
-loop-holds c = (omega arith, refl)
-
-shared-slice-read-is-row-octet : tie.Need-shared-slice-read-is-row-octet Inv-loop μ-loop
-shared-slice-read-is-row-octet c = search needs
-
-is-row-octet-requires : tie.Need-is-row-octet-requires Inv-loop μ-loop
-is-row-octet-requires c κs = search needs
-
 returns : tie.Need-returns Inv-loop μ-loop
 returns c = sym (c .before .before .before .before .loop .inv .1 ∙ all-stop _ _ _ (c .before .before .before .loop-test .taken) (sym (c .before .is-row-octet .ensures) ∙ not-true _ (c .if1 .taken)))
-
-add-i : tie.Need-add-i Inv-loop μ-loop
-add-i c = search needs
-
-loop-less : tie.Need-loop-less Inv-loop μ-loop
-loop-less c = search needs
 
 loop-again : tie.Need-loop-again Inv-loop μ-loop
 loop-again c = (omega arith, c .before .before .before .before .loop .inv .1 ∙ all-on _ _ _ (c .before .before .before .loop-test .taken) (sym (c .before .is-row-octet .ensures) ∙ not-false _ (c .if1 .left)))
@@ -47,11 +32,11 @@ is-row-name-spec =
     (tie.spec
     Inv-loop
     μ-loop
-    loop-holds
-    shared-slice-read-is-row-octet
-    is-row-octet-requires
+    (λ c. (omega arith, refl))
+    (λ c. search needs)
+    (λ c κs. search needs)
     returns
-    add-i
-    loop-less
+    (λ c. search needs)
+    (λ c. search needs)
     loop-again
     returns-2)

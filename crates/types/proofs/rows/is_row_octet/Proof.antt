@@ -5,15 +5,9 @@ use Rattle.types.specs.Rows.{rowOctet}
 use Rattle.types.proofs.rows.is_row_octet.Statement.{statement}
 use Rattle.types.proofs.rows.is_row_octet.Tie as tie
 
-is-upper-requires : tie.Need-is-upper-requires
-is-upper-requires c κs = search needs
-
 returns : tie.Need-returns
 unfolding rowOctet
 returns c = rw (sym (c .before .is-upper .ensures) ∙ c .if1 .taken)
-
-is-digit-requires : tie.Need-is-digit-requires
-is-digit-requires c κs = search needs
 
 returns-2 : tie.Need-returns-2
 unfolding rowOctet
@@ -25,4 +19,4 @@ returns-3 c = rw (sym (c .before .before .before .is-upper .ensures) ∙ c .befo
 
 pub is-row-octet-spec : {M : Type 1} → statement M
 is-row-octet-spec =
-    tie.close (tie.spec is-upper-requires returns is-digit-requires returns-2 returns-3)
+    tie.close (tie.spec (λ c κs. search needs) returns (λ c κs. search needs) returns-2 returns-3)

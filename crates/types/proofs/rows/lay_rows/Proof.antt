@@ -29,12 +29,6 @@ a-line p =
 one-more : (q : tie.Else2 Inv-loop μ-loop) → q .before .before .before .before .loop .count < mostRows
 one-more q = omega (arith, most-rows, q .before .before .before .before .loop .inv .few)
 
-loop-holds : tie.Need-loop-holds Inv-loop μ-loop
-loop-holds c = begun _ _ (c .before .before .pre)
-
-line-end-requires : tie.Need-line-end-requires Inv-loop μ-loop
-line-end-requires c κs = search needs
-
 same-length : tie.Need-same-length Inv-loop μ-loop
 same-length c = kept (c .before .before .before .loop .inv .written)
 
@@ -51,23 +45,8 @@ returns-2 c =
     let l = c .before .before .before .before .loop in
     refused-file _ _ _ (too-many-rows (l .inv) (c .before .before .before .loop-test .taken) (c .before .before .line-end .result) (c .before .before .line-end .ensures) (a-line (c .before)) (omega (arith, most-rows)))
 
-sub-lay-line : tie.Need-sub-lay-line Inv-loop μ-loop
-sub-lay-line c = search needs
-
-part-lay-line-start : tie.Need-part-lay-line-start Inv-loop μ-loop
-part-lay-line-start c = search needs
-
-part-lay-line-end : tie.Need-part-lay-line-end Inv-loop μ-loop
-part-lay-line-end c = omega (arith, a-line (c .before))
-
 lay-line-requires : tie.Need-lay-line-requires Inv-loop μ-loop
 lay-line-requires c κs = in-room (c .before .before .before .before .before .before .loop .inv)
-
-enum-known-next : tie.Need-enum-known-next Inv-loop μ-loop
-enum-known-next c = search needs
-
-enum-told : tie.Need-enum-told Inv-loop μ-loop
-enum-told c = search needs
 
 same-length-3 : tie.Need-same-length-3 Inv-loop μ-loop
 same-length-3 c =
@@ -101,9 +80,6 @@ loop-again c =
     good-line (l .inv) (p .before .before .loop-test .taken) (p .before .line-end .result) (p .before .line-end .ensures) (a-line p) (one-more (g .before .before .before)) _ _
     (sym (ap (λ r. penBehind r (g .lay-line .last .1 .0)) (c .before .next .given .1)) ∙ g .lay-line .ensures)
 
-same-length-4 : tie.Need-same-length-4 Inv-loop μ-loop
-same-length-4 c = kept (c .before .loop .inv .written)
-
 returns-4 : tie.Need-returns-4 Inv-loop μ-loop
 returns-4 c = all-read (c .before .loop .inv) (c .loop-test .left)
 
@@ -113,23 +89,23 @@ lay-rows-spec =
     (tie.spec
     Inv-loop
     μ-loop
-    loop-holds
-    line-end-requires
+    (λ c. begun _ _ (c .before .before .pre))
+    (λ c κs. search needs)
     same-length
     returns
     same-length-2
     returns-2
-    sub-lay-line
-    part-lay-line-start
-    part-lay-line-end
+    (λ c. search needs)
+    (λ c. search needs)
+    (λ c. omega (arith, a-line (c .before)))
     lay-line-requires
-    enum-known-next
-    enum-told
+    (λ c. search needs)
+    (λ c. search needs)
     same-length-3
     returns-3
     add-from
     add-count
     loop-less
     loop-again
-    same-length-4
+    (λ c. kept (c .before .loop .inv .written))
     returns-4)

@@ -6,18 +6,6 @@ use Rattle.types.proofs.Lookup.{found-default, not-default}
 use Rattle.types.proofs.table.find.Statement.{statement}
 use Rattle.types.proofs.table.find.Tie as tie
 
-find-default-requires : tie.Need-find-default-requires
-find-default-requires c κs = search needs
-
-enum-known-code : tie.Need-enum-known-code
-enum-known-code c = search needs
-
-enum-told : tie.Need-enum-told
-enum-told c = search needs
-
-find-in-requires : tie.Need-find-in-requires
-find-in-requires c κs = search needs
-
 returns : tie.Need-returns
 unfolding rowFound
 returns c = sym (found-default _ _ _ (sym (c .before .before .before .find-default .ensures) ∙ ap rowFound (c .before .code .given .1)))
@@ -29,4 +17,4 @@ returns-2 c = c .find-in .ensures ∙ sym (not-default _ _ (sym (c .before .befo
 pub find-spec : {M : Type 1} → statement M
 find-spec =
     tie.close
-    (tie.spec find-default-requires enum-known-code enum-told find-in-requires returns returns-2)
+    (tie.spec (λ c κs. search needs) (λ c. search needs) (λ c. search needs) (λ c κs. search needs) returns returns-2)

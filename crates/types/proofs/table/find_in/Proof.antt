@@ -19,17 +19,8 @@ Inv-loop rows name at₀ at = (at ≤ length rows) × (find (rowsIn rows) name �
 abbrev μ-loop : tie.MeasureT-loop
 μ-loop rows name at₀ at = length rows - at
 
-loop-holds : tie.Need-loop-holds Inv-loop μ-loop
-loop-holds c = (omega arith, refl)
-
-shared-slice-read-n : tie.Need-shared-slice-read-n Inv-loop μ-loop
-shared-slice-read-n c = search needs
-
 cast-n : tie.Need-cast-n Inv-loop μ-loop
 cast-n c = omega (arith, c .shared-slice-known3 .given (c .before .before .loop .at))
-
-sub-if1 : tie.Need-sub-if1 Inv-loop μ-loop
-sub-if1 c = search needs
 
 add-if1 : tie.Need-add-if1 Inv-loop μ-loop
 add-if1 c = omega (arith, c .shared-slice-known3 .given (c .before .before .loop .at))
@@ -40,45 +31,12 @@ returns c =
     let l = c .before .before .before .loop in
     sym (l .inv .1 ∙ find-cut _ _ (l .at) (c .before .before .loop-test .taken) (c .if1 .taken))
 
-add-start : tie.Need-add-start Inv-loop μ-loop
-add-start c = search needs
-
-add-next : tie.Need-add-next Inv-loop μ-loop
-add-next c = search needs
-
-sub-is-named : tie.Need-sub-is-named Inv-loop μ-loop
-sub-is-named c = search needs
-
-part-is-named-start : tie.Need-part-is-named-start Inv-loop μ-loop
-part-is-named-start c = search needs
-
-part-is-named-end : tie.Need-part-is-named-end Inv-loop μ-loop
-part-is-named-end c = search needs
-
-is-named-requires : tie.Need-is-named-requires Inv-loop μ-loop
-is-named-requires c κs = search needs
-
-add-t17 : tie.Need-add-t17 Inv-loop μ-loop
-add-t17 c = search needs
-
-shared-slice-read-t19 : tie.Need-shared-slice-read-t19 Inv-loop μ-loop
-shared-slice-read-t19 c = search needs
-
-add-t20 : tie.Need-add-t20 Inv-loop μ-loop
-add-t20 c = search needs
-
-shared-slice-read-t22 : tie.Need-shared-slice-read-t22 Inv-loop μ-loop
-shared-slice-read-t22 c = search needs
-
 returns-2 : tie.Need-returns-2 Inv-loop μ-loop
 unfolding rowFound
 returns-2 c =
     let b = c .before .before .before .before .before in
     let l = b .before .before .before .loop in
     sym (l .inv .1 ∙ find-here _ _ (l .at) (b .before .before .loop-test .taken) (b .if1 .left) (sym (c .before .before .before .is-named .ensures) ∙ c .before .before .if2 .taken))
-
-loop-less : tie.Need-loop-less Inv-loop μ-loop
-loop-less c = search needs
 
 loop-again : tie.Need-loop-again Inv-loop μ-loop
 loop-again c =
@@ -96,23 +54,23 @@ find-in-spec =
     (tie.spec
     Inv-loop
     μ-loop
-    loop-holds
-    shared-slice-read-n
+    (λ c. (omega arith, refl))
+    (λ c. search needs)
     cast-n
-    sub-if1
+    (λ c. search needs)
     add-if1
     returns
-    add-start
-    add-next
-    sub-is-named
-    part-is-named-start
-    part-is-named-end
-    is-named-requires
-    add-t17
-    shared-slice-read-t19
-    add-t20
-    shared-slice-read-t22
+    (λ c. search needs)
+    (λ c. search needs)
+    (λ c. search needs)
+    (λ c. search needs)
+    (λ c. search needs)
+    (λ c κs. search needs)
+    (λ c. search needs)
+    (λ c. search needs)
+    (λ c. search needs)
+    (λ c. search needs)
     returns-2
-    loop-less
+    (λ c. search needs)
     loop-again
     returns-3)

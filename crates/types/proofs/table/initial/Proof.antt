@@ -3,14 +3,8 @@ use borrow.Author.Needs.{needs}
 use Rattle.types.proofs.table.initial.Statement.{statement}
 use Rattle.types.proofs.table.initial.Tie as tie
 
-peek-requires : tie.Need-peek-requires
-peek-requires c κs = search needs
-
-upper-octet-requires : tie.Need-upper-octet-requires
-upper-octet-requires c κs = search needs
-
 returns : tie.Need-returns
 returns c = rw (c .upper-octet .ensures, c .before .peek .ensures)
 
 pub initial-spec : {M : Type 1} → statement M
-initial-spec = tie.close (tie.spec peek-requires upper-octet-requires returns)
+initial-spec = tie.close (tie.spec (λ c κs. search needs) (λ c κs. search needs) returns)

@@ -20,27 +20,6 @@ abbrev μ-loop : tie.MeasureT-loop
 returns : tie.Need-returns Inv-loop μ-loop
 returns c = sym (same-length _ _ (λ e. c .if1 .taken (e ∙ upper-length _)))
 
-loop-holds : tie.Need-loop-holds Inv-loop μ-loop
-loop-holds c = (omega arith, omega arith, refl)
-
-shared-slice-read-both : tie.Need-shared-slice-read-both Inv-loop μ-loop
-shared-slice-read-both c = search needs
-
-shared-slice-read-upper-octet : tie.Need-shared-slice-read-upper-octet Inv-loop μ-loop
-shared-slice-read-upper-octet c = search needs
-
-upper-octet-requires : tie.Need-upper-octet-requires Inv-loop μ-loop
-upper-octet-requires c κs = search needs
-
-both-requires : tie.Need-both-requires Inv-loop μ-loop
-both-requires c κs = search needs
-
-add-i : tie.Need-add-i Inv-loop μ-loop
-add-i c = search needs
-
-loop-less : tie.Need-loop-less Inv-loop μ-loop
-loop-less c = search needs
-
 loop-again : tie.Need-loop-again Inv-loop μ-loop
 loop-again c =
     let l = c .before .before .before .before .before .loop in
@@ -56,12 +35,12 @@ is-named-spec =
     Inv-loop
     μ-loop
     returns
-    loop-holds
-    shared-slice-read-both
-    shared-slice-read-upper-octet
-    upper-octet-requires
-    both-requires
-    add-i
-    loop-less
+    (λ c. (omega arith, omega arith, refl))
+    (λ c. search needs)
+    (λ c. search needs)
+    (λ c κs. search needs)
+    (λ c κs. search needs)
+    (λ c. search needs)
+    (λ c. search needs)
     loop-again
     returns-2)

@@ -6,9 +6,6 @@ use Rattle.types.specs.Laid.{rowFound}
 use Rattle.types.proofs.table.named.Statement.{statement}
 use Rattle.types.proofs.table.named.Tie as tie
 
-is-named-requires : tie.Need-is-named-requires
-is-named-requires c κs = search needs
-
 returns : tie.Need-returns
 unfolding rowFound find
 returns c = rw (sym (c .before .is-named .ensures) ∙ c .if1 .taken)
@@ -18,4 +15,4 @@ unfolding rowFound find
 returns-2 c = rw (sym (c .before .is-named .ensures) ∙ c .if1 .left)
 
 pub named-spec : {M : Type 1} → statement M
-named-spec = tie.close (tie.spec is-named-requires returns returns-2)
+named-spec = tie.close (tie.spec (λ c κs. search needs) returns returns-2)

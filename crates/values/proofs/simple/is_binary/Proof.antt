@@ -16,10 +16,6 @@ Inv-loop s g₀ i₀ g i = (i ≤ length s) × (groupAfter (groupSaid g) (drop i
 abbrev μ-loop : tie.MeasureT-loop
 μ-loop s g₀ i₀ g i = length s - i
 
-loop-holds : tie.Need-loop-holds Inv-loop μ-loop
-unfolding groupSaid
-loop-holds c = (omega arith, refl)
-
 loop-again : tie.Need-loop-again Inv-loop μ-loop
 loop-again c = (omega arith, rw (c .next .ensures) (sym (group-on _ _ _ (c .before .before .loop-test .taken)) ∙ c .before .before .before .loop .inv .1))
 
@@ -33,7 +29,7 @@ is-binary-spec =
     (tie.spec
     Inv-loop
     μ-loop
-    loop-holds
+    (λ c. unfold groupSaid in (omega arith, refl))
     (λ c. search needs)
     (λ c κs. search needs)
     (λ c. search needs)

@@ -8,9 +8,6 @@ use Rattle.values.proofs.Halves.{found-le}
 use Rattle.values.proofs.simple.is_float.Statement.{statement}
 use Rattle.values.proofs.simple.is_float.Tie as tie
 
-part-all-digits-end : tie.Need-part-all-digits-end
-part-all-digits-end c = found-le _ _ _ (c .find .ensures)
-
 returns : tie.Need-returns
 returns c = sym (float-wrong _ _ _ (from (c .before .before .before .before .before .before .before .args .s .now) (c .before .before .before .before .before .sign-length .result) ∙ sym (c .before .before .before .before .before .sign-length .ensures .1)) (c .before .before .before .find .ensures) (sym (c .before .all-digits .ensures) ∙ not-true _ (c .if1 .taken)))
 
@@ -31,7 +28,7 @@ is-float-spec =
     (λ c κs. search needs)
     (λ c. search needs)
     (λ c. search needs)
-    part-all-digits-end
+    (λ c. found-le _ _ _ (c .find .ensures))
     (λ c κs. search needs)
     returns
     returns-2

@@ -13,9 +13,6 @@ use Rattle.values.proofs.simple.is_geo.Tie as tie
 returns : tie.Need-returns
 returns c = sym (geo-none _ (sym (c .before .is-pair .ensures) ∙ not-true _ (c .if1 .taken)))
 
-part-is-float-end : tie.Need-part-is-float-end
-part-is-float-end c = found-le _ _ _ (c .find .ensures)
-
 returns-2 : tie.Need-returns-2
 returns-2 c = sym (geo-some _ (sym (c .before .before .before .before .before .is-pair .ensures) ∙ not-false _ (c .before .before .before .before .if1 .left)) ∙ rw (ap (λ (l : List ℕ). isSome (floatOf l)) (sym (first-half _ _ _ (c .before .before .before .find .ensures))) ∙ sym (c .before .is-float .ensures) ∙ not-true _ (c .if2 .taken)))
 
@@ -31,7 +28,7 @@ is-geo-spec =
     (λ c κs. search needs)
     (λ c. search needs)
     (λ c. search needs)
-    part-is-float-end
+    (λ c. found-le _ _ _ (c .find .ensures))
     (λ c κs. search needs)
     returns-2
     (λ c κs. search needs)

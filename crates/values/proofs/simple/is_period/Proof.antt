@@ -15,9 +15,6 @@ use Rattle.values.proofs.simple.is_period.Tie as tie
 returns : tie.Need-returns
 returns c = sym (period-none _ (sym (c .before .is-pair .ensures) ∙ not-true _ (c .if1 .taken)))
 
-part-is-basic-end : tie.Need-part-is-basic-end
-part-is-basic-end c = found-le _ _ _ (c .find .ensures)
-
 returns-2 : tie.Need-returns-2
 returns-2 c = sym (period-some _ (sym (c .before .before .before .before .before .is-pair .ensures) ∙ not-false _ (c .before .before .before .before .if1 .left)) ∙ rw (ap (λ (l : List ℕ). isSome (dateTimeOf (upper l))) (sym (first-half _ _ _ (c .before .before .before .find .ensures))) ∙ sym (c .before .is-basic .ensures) ∙ not-true _ (c .if2 .taken)))
 
@@ -33,7 +30,7 @@ is-period-spec =
     (λ c κs. search needs)
     (λ c. search needs)
     (λ c. search needs)
-    part-is-basic-end
+    (λ c. found-le _ _ _ (c .find .ensures))
     (λ c κs. search needs)
     returns-2
     (λ c κs. search needs)

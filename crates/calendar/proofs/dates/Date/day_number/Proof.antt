@@ -11,9 +11,6 @@ use Rattle.calendar.proofs.Days.{Bounds, bounds, marchYear, fromMarch, 
 use Rattle.calendar.proofs.dates.Date.day_number.Statement.{statement}
 use Rattle.calendar.proofs.dates.Date.day_number.Tie as tie
 
-is-day-requires : tie.Need-is-day-requires
-is-day-requires c κs = search needs
-
 returns : tie.Need-returns
 unfolding when
 returns c = rw (sym (c .before .is-day .ensures) ∙ not-true _ (c .if1 .taken))
@@ -25,14 +22,8 @@ is-one c = sym (c .before .is-day .ensures) ∙ not-false _ (c .if1 .left)
 within : (c : tie.Else1) → let d = c .before .before .args .self in Bounds (d .year) (d .month) (d .day)
 within c = bounds _ _ _ (is-one c)
 
-add-s : tie.Need-add-s
-add-s c = omega (arith, within (c .before))
-
 sub-s : tie.Need-sub-s
 sub-s c = omega (arith, within (c .before .before))
-
-sub-s-2 : tie.Need-sub-s-2
-sub-s-2 c = search needs
 
 add-k : tie.Need-add-k
 add-k c = omega (arith, within (c .before .before .before))
@@ -45,15 +36,6 @@ add-t7 c = omega (arith, within (c .before .before .before))
 
 add-t10 : tie.Need-add-t10
 add-t10 c = omega (arith, within (c .before .before .before))
-
-sub-t12 : tie.Need-sub-t12
-sub-t12 c = search needs
-
-mul-t13 : tie.Need-mul-t13
-mul-t13 c = search needs
-
-add-t14 : tie.Need-add-t14
-add-t14 c = search needs
 
 add-t16 : tie.Need-add-t16
 add-t16 c = omega (arith, within (c .before .before .before))
@@ -77,18 +59,18 @@ pub day-number-spec : {M : Type 1} → statement M
 day-number-spec =
     tie.close
     (tie.spec
-    is-day-requires
+    (λ c κs. search needs)
     returns
-    add-s
+    (λ c. omega (arith, within (c .before)))
     sub-s
-    sub-s-2
+    (λ c. search needs)
     add-k
     mul-t8
     add-t7
     add-t10
-    sub-t12
-    mul-t13
-    add-t14
+    (λ c. search needs)
+    (λ c. search needs)
+    (λ c. search needs)
     add-t16
     add-t17
     sub-t18

@@ -4,8 +4,5 @@ use Rattle.calendar.proofs.Inverse.{first-date}
 use Rattle.calendar.proofs.dates.Date.first.Statement.{statement}
 use Rattle.calendar.proofs.dates.Date.first.Tie as tie
 
-returns : tie.Need-returns
-returns c = (refl, first-date)
-
 pub first-spec : {M : Type 1} → statement M
-first-spec = tie.close (tie.spec returns)
+first-spec = tie.close (tie.spec (λ c. (refl, first-date)))

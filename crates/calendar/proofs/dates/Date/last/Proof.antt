@@ -4,8 +4,5 @@ use Rattle.calendar.proofs.Inverse.{last-date}
 use Rattle.calendar.proofs.dates.Date.last.Statement.{statement}
 use Rattle.calendar.proofs.dates.Date.last.Tie as tie
 
-returns : tie.Need-returns
-returns c = (refl, last-date)
-
 pub last-spec : {M : Type 1} → statement M
-last-spec = tie.close (tie.spec returns)
+last-spec = tie.close (tie.spec (λ c. (refl, last-date)))

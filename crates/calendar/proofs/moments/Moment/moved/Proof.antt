@@ -8,35 +8,11 @@ use Rattle.calendar.proofs.Hours.{no-time, no-day, within, past, never-
 use Rattle.calendar.proofs.moments.Moment.moved.Statement.{statement}
 use Rattle.calendar.proofs.moments.Moment.moved.Tie as tie
 
-is-clock-requires : tie.Need-is-clock-requires
-is-clock-requires c κs = search needs
-
 returns : tie.Need-returns
 returns c = no-time _ _ (sym (c .before .is-clock .ensures) ∙ not-true _ (c .if1 .taken))
 
-day-number-requires : tie.Need-day-number-requires
-day-number-requires c κs = search needs
-
-enum-known-n : tie.Need-enum-known-n
-enum-known-n c = search needs
-
-enum-told : tie.Need-enum-told
-enum-told c = search needs
-
 returns-2 : tie.Need-returns-2
 returns-2 c = no-day _ _ (ap dayNumberSaid (sym (c .enum-told .given .1)) ∙ c .before .before .day-number .ensures)
-
-cast-here : tie.Need-cast-here
-cast-here c = search needs
-
-mul-here : tie.Need-mul-here
-mul-here c = search needs
-
-cast-here-2 : tie.Need-cast-here-2
-cast-here-2 c = search needs
-
-add-here : tie.Need-add-here
-add-here c = search needs
 
 sub-if2 : tie.Need-sub-if2
 sub-if2 c = let w = within (c .before .before .before .before .before .before .before .before .args .self) 0 (c .before .before .n .given .0 .0) (sym (c .before .before .before .before .before .before .is-clock .ensures) ∙ not-false _ (c .before .before .before .before .before .if1 .left)) (ap dayNumberSaid (sym (c .before .before .n .given .1)) ∙ c .before .before .before .before .day-number .ensures) in
@@ -45,28 +21,10 @@ sub-if2 c = let w = within (c .before .before .before .before .before .before .b
 returns-3 : tie.Need-returns-3
 returns-3 c = past _ _ _ (sym (c .before .before .before .before .before .before .before .is-clock .ensures) ∙ not-false _ (c .before .before .before .before .before .before .if1 .left)) (ap dayNumberSaid (sym (c .before .before .before .n .given .1)) ∙ c .before .before .before .before .before .day-number .ensures) (omega arith)
 
-add-there : tie.Need-add-there
-add-there c = search needs
-
-cast-from-day-number : tie.Need-cast-from-day-number
-cast-from-day-number c = search needs
-
-from-day-number-requires : tie.Need-from-day-number-requires
-from-day-number-requires c κs = search needs
-
-enum-known-day : tie.Need-enum-known-day
-enum-known-day c = search needs
-
-enum-told-2 : tie.Need-enum-told-2
-enum-told-2 c = search needs
-
 returns-4 : tie.Need-returns-4
 returns-4 c = absurd
     (never-past (c .before .before .before .before .before .before .before .before .before .before .before .before .args .self) (c .before .before .before .before .before .before .before .before .before .before .before .before .args .hours) _ (sym (c .before .before .before .before .before .before .before .before .before .before .is-clock .ensures) ∙ not-false _ (c .before .before .before .before .before .before .before .before .before .if1 .left)) (ap dayNumberSaid (sym (c .before .before .before .before .before .before .n .given .1)) ∙ c .before .before .before .before .before .before .before .before .day-number .ensures) (omega arith)
     (ap dateSaid (sym (c .enum-told2 .given .1)) ∙ c .before .before .from-day-number .ensures))
-
-cast-t16 : tie.Need-cast-t16
-cast-t16 c = search needs
 
 returns-5 : tie.Need-returns-5
 returns-5 c = arrives _ _ _ (sym (c .before .before .before .before .before .before .before .before .before .before .before .is-clock .ensures) ∙ not-false _ (c .before .before .before .before .before .before .before .before .before .before .if1 .left)) (ap dayNumberSaid (sym (c .before .before .before .before .before .before .before .n .given .1)) ∙ c .before .before .before .before .before .before .before .before .before .day-number .ensures) (omega arith) _
@@ -76,23 +34,23 @@ pub moved-spec : {M : Type 1} → statement M
 moved-spec =
     tie.close
     (tie.spec
-    is-clock-requires
+    (λ c κs. search needs)
     returns
-    day-number-requires
-    enum-known-n
-    enum-told
+    (λ c κs. search needs)
+    (λ c. search needs)
+    (λ c. search needs)
     returns-2
-    cast-here
-    mul-here
-    cast-here-2
-    add-here
+    (λ c. search needs)
+    (λ c. search needs)
+    (λ c. search needs)
+    (λ c. search needs)
     sub-if2
     returns-3
-    add-there
-    cast-from-day-number
-    from-day-number-requires
-    enum-known-day
-    enum-told-2
+    (λ c. search needs)
+    (λ c. search needs)
+    (λ c κs. search needs)
+    (λ c. search needs)
+    (λ c. search needs)
     returns-4
-    cast-t16
+    (λ c. search needs)
     returns-5)

@@ -5,66 +5,6 @@ use Rattle.values.specs.Single.{isText}
 use Rattle.values.proofs.sorts.Sort.is_text.Statement.{statement}
 use Rattle.values.proofs.sorts.Sort.is_text.Tie as tie
 
-returns : tie.Need-returns
-unfolding sortSaid isText
-returns c = rw (c .enum-told .given .1)
-
-returns-2 : tie.Need-returns-2
-unfolding sortSaid isText
-returns-2 c = rw (c .enum-told2 .given .1)
-
-returns-3 : tie.Need-returns-3
-unfolding sortSaid isText
-returns-3 c = rw (c .enum-told3 .given .1)
-
-returns-4 : tie.Need-returns-4
-unfolding sortSaid isText
-returns-4 c = rw (c .enum-told4 .given .1)
-
-returns-5 : tie.Need-returns-5
-unfolding sortSaid isText
-returns-5 c = rw (c .enum-told5 .given .1)
-
-returns-6 : tie.Need-returns-6
-unfolding sortSaid isText
-returns-6 c = rw (c .enum-told6 .given .1)
-
-returns-7 : tie.Need-returns-7
-unfolding sortSaid isText
-returns-7 c = rw (c .enum-told7 .given .1)
-
-returns-8 : tie.Need-returns-8
-unfolding sortSaid isText
-returns-8 c = rw (c .enum-told8 .given .1)
-
-returns-9 : tie.Need-returns-9
-unfolding sortSaid isText
-returns-9 c = rw (c .enum-told9 .given .1)
-
-returns-10 : tie.Need-returns-10
-unfolding sortSaid isText
-returns-10 c = rw (c .enum-told10 .given .1)
-
-returns-11 : tie.Need-returns-11
-unfolding sortSaid isText
-returns-11 c = rw (c .enum-told11 .given .1)
-
-returns-12 : tie.Need-returns-12
-unfolding sortSaid isText
-returns-12 c = rw (c .enum-told12 .given .1)
-
-returns-13 : tie.Need-returns-13
-unfolding sortSaid isText
-returns-13 c = rw (c .enum-told13 .given .1)
-
-returns-14 : tie.Need-returns-14
-unfolding sortSaid isText
-returns-14 c = rw (c .enum-told14 .given .1)
-
-returns-15 : tie.Need-returns-15
-unfolding sortSaid isText
-returns-15 c = rw (c .enum-told15 .given .1)
-
 pub is-text-spec : {M : Type 1} → statement M
 is-text-spec =
     tie.close
@@ -84,18 +24,18 @@ is-text-spec =
     (λ c. search needs)
     (λ c. search needs)
     (λ c. search needs)
-    returns
-    returns-2
-    returns-3
-    returns-4
-    returns-5
-    returns-6
-    returns-7
-    returns-8
-    returns-9
-    returns-10
-    returns-11
-    returns-12
-    returns-13
-    returns-14
-    returns-15)
+    (λ c. unfold sortSaid isText in rw (c .enum-told .given .1))
+    (λ c. unfold sortSaid isText in rw (c .enum-told2 .given .1))
+    (λ c. unfold sortSaid isText in rw (c .enum-told3 .given .1))
+    (λ c. unfold sortSaid isText in rw (c .enum-told4 .given .1))
+    (λ c. unfold sortSaid isText in rw (c .enum-told5 .given .1))
+    (λ c. unfold sortSaid isText in rw (c .enum-told6 .given .1))
+    (λ c. unfold sortSaid isText in rw (c .enum-told7 .given .1))
+    (λ c. unfold sortSaid isText in rw (c .enum-told8 .given .1))
+    (λ c. unfold sortSaid isText in rw (c .enum-told9 .given .1))
+    (λ c. unfold sortSaid isText in rw (c .enum-told10 .given .1))
+    (λ c. unfold sortSaid isText in rw (c .enum-told11 .given .1))
+    (λ c. unfold sortSaid isText in rw (c .enum-told12 .given .1))
+    (λ c. unfold sortSaid isText in rw (c .enum-told13 .given .1))
+    (λ c. unfold sortSaid isText in rw (c .enum-told14 .given .1))
+    (λ c. unfold sortSaid isText in rw (c .enum-told15 .given .1)))
