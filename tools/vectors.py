@@ -27,10 +27,10 @@ use Rattle.octets.specs.Answers.{Answer, refused, accepted}
 use Rattle.calendar.specs.declared.moments.Kind.{Kind}
 use Rattle.calendar.specs.declared.moments.Kind.the-variants.{Day, Local, Utc}
 use Rattle.calendar.specs.declared.moments.Moment.{Moment}
-use Rattle.stoplist.specs.declared.Stop.{Stop}
-use Rattle.stoplist.specs.Stops.{listOf}
-use Rattle.converter.specs.ToJcal.{toJcal}
-use Rattle.converter.specs.ToIcal.{toIcal}
+use Rattle.stop_list.specs.declared.Stop.{Stop}
+use Rattle.stop_list.specs.Stops.{listOf}
+use Rattle.conversion_theory.specs.ToJcal.{toJcal}
+use Rattle.conversion_theory.specs.ToIcal.{toIcal}
 
 abbrev kindNumber : Kind → ℕ
 kindNumber Day = 0
@@ -151,7 +151,7 @@ def needed():
     lines = [l for l in open(os.path.join(ROOT, "crates.txt"), encoding="utf-8") if l.strip()]
     under = {l.split(":")[0].strip(): l.split(":")[1].split() for l in lines}
     wanted = set()
-    todo = ["converter", "stoplist"]
+    todo = ["conversion_theory", "stop_list"]
     while todo:
         crate = todo.pop()
         if crate not in wanted:

@@ -2,10 +2,10 @@
 use octets::Converted;
 ghost use Rattle.octets.specs.Answers.{answer};
 ghost use Rattle.octets.specs.Pen.{pen, Wrote};
-ghost use Rattle.stoplist.specs.Stops.{listOf};
-ghost use Rattle.stopspage.specs.Printing.{answerShown, printed};
-ghost use Rattle.converter.specs.ToJcal.{toJcal};
-ghost use Rattle.converter.specs.ToIcal.{toIcal};
+ghost use Rattle.stop_list.specs.Stops.{listOf};
+ghost use Rattle.stops_page.specs.Printing.{answerShown, printed};
+ghost use Rattle.conversion_theory.specs.ToJcal.{toJcal};
+ghost use Rattle.conversion_theory.specs.ToIcal.{toIcal};
 ghost use Rattle.ffi.specs.Words.{Worded, Returns};
 
 // A conversion's answer as a word.
@@ -39,7 +39,7 @@ pub extern "C" fn putrenski_to_ical(text: &[u8], rows: &[u8], out: &mut [u8]) ->
 pub extern "C" fn putrenski_stops(text: &[u8], out: &mut [u8]) -> usize
     ensures { λ r. ⌜ Wrote (pen (now (out .entry)) 0) (printed (now (text .entry))) (pen (now (out .exit)) r) ⌝ }
 {
-    stopspage::print_page(out, text)
+    stops_page::print_page(out, text)
 }
 
 // Writes the stops of a start and a rule, not more than `most`, with their count in front; answers as `putrenski_stops` does.
@@ -47,5 +47,5 @@ pub extern "C" fn putrenski_stops(text: &[u8], out: &mut [u8]) -> usize
 pub extern "C" fn putrenski_list(start: &[u8], rule: &[u8], most: usize, out: &mut [u8]) -> usize
     ensures { λ r. ⌜ Wrote (pen (now (out .entry)) 0) (answerShown (listOf (now (start .entry)) (now (rule .entry)) most)) (pen (now (out .exit)) r) ⌝ }
 {
-    stopspage::print_list(out, start, rule, most)
+    stops_page::print_list(out, start, rule, most)
 }

@@ -13,9 +13,9 @@ use Rattle.tape.specs.Decode.{tagAt, valueAt, listAt}
 use Rattle.tape.specs.Promise.{After, Next}
 use Rattle.tape.proofs.Values.{list-first, list-next}
 use Rattle.tape.proofs.Walks.{Along, along-start, along-next, along-end, next-inside}
-use Rattle.converter.specs.Skeleton.{isListOf, isProperty, isComponent}
-use Rattle.skeleton.proofs.Lists.{list-of, list-not}
-use Rattle.skeleton.proofs.Parts.{property-not, component-not}
+use Rattle.conversion_theory.specs.Skeleton.{isListOf, isProperty, isComponent}
+use Rattle.ical_skeleton.proofs.Lists.{list-of, list-not}
+use Rattle.ical_skeleton.proofs.Parts.{property-not, component-not}
 
 -- what passes a test that arrays alone pass is an array
 module _ (t : List ℕ) (i : ℕ) where

@@ -19,10 +19,10 @@ use Rattle.tape.specs.Decode.{others, tagAt, valueAt, itemsAt, listAt}
 use Rattle.tape.specs.Promise.{After, Next, Left}
 use Rattle.tape.proofs.Values.{list-end, list-first, list-next}
 use Rattle.tape.proofs.Walks.{along-start, along-next, along-left, elements-inside, next-inside}
-use Rattle.converter.specs.Tree.{Property, component, forestOf, propertiesOf, propertiesIn}
-use Rattle.converter.specs.Skeleton.{isListOf, isProperty, isComponent, propertyFrom, componentFrom}
-use Rattle.converter.specs.ToIcal.{checkedAll}
-use Rattle.skeleton.proofs.Parts.{second-is, third-is}
+use Rattle.conversion_theory.specs.Tree.{Property, component, forestOf, propertiesOf, propertiesIn}
+use Rattle.conversion_theory.specs.Skeleton.{isListOf, isProperty, isComponent, propertyFrom, componentFrom}
+use Rattle.conversion_theory.specs.ToIcal.{checkedAll}
+use Rattle.ical_skeleton.proofs.Parts.{second-is, third-is}
 use Rattle.ical.proofs.Arrays.{list-array, component-array}
 use Rattle.ical.proofs.Judging.{ok, checked-none, both-checked, first-refused}
 

@@ -32,22 +32,22 @@ use Rattle.content.specs.declared.fold.Folder.{Folder}
 use Rattle.values.specs.Sorts.{sortOf}
 use Rattle.values.specs.Coded.{sortSaid}
 use Rattle.values.specs.declared.sorts.Sort.{Sort as SortCode}
-use Rattle.icalrecur.specs.Room.{hasRoom}
-use Rattle.icalrecur.proofs.Room.{room}
+use Rattle.ical_recur.specs.Room.{hasRoom}
+use Rattle.ical_recur.proofs.Room.{room}
 use Rattle.values.specs.Read.{readValues, valuesOf}
 use Rattle.values.specs.Write.{valuesAre}
-use Rattle.icalvalues.specs.Valued.{ValuedAs}
-use Rattle.icalvalues.specs.declared.Valued.{Valued}
-use Rattle.icalvalues.specs.declared.Valued.the-variants.{Wrote, Invalid}
-use Rattle.converter.specs.Tree.{Property}
-use Rattle.converter.specs.Property.{codeOf, manyOf, encodingFits, readAs}
-use Rattle.converter.specs.Skeleton.{areParameters, isPropertyName, isListOf, isProperty, paramsFrom, propertyFrom}
-use Rattle.converter.specs.Return.{isUnknown, statedType, writtenSort, firstOctets, takenBy, checked}
-use Rattle.converter.specs.ToIcal.{checkedAll}
-use Rattle.properties.specs.Standing.{Within, PartsAt}
-use Rattle.properties.specs.declared.Parts.{Parts}
-use Rattle.properties.specs.Ruled.{Rules}
-use Rattle.properties.specs.declared.Ruling.{Ruling}
+use Rattle.ical_values.specs.Valued.{ValuedAs}
+use Rattle.ical_values.specs.declared.Valued.{Valued}
+use Rattle.ical_values.specs.declared.Valued.the-variants.{Wrote, Invalid}
+use Rattle.conversion_theory.specs.Tree.{Property}
+use Rattle.conversion_theory.specs.Property.{codeOf, manyOf, encodingFits, readAs}
+use Rattle.conversion_theory.specs.Skeleton.{areParameters, isPropertyName, isListOf, isProperty, paramsFrom, propertyFrom}
+use Rattle.conversion_theory.specs.Return.{isUnknown, statedType, writtenSort, firstOctets, takenBy, checked}
+use Rattle.conversion_theory.specs.ToIcal.{checkedAll}
+use Rattle.ical_properties.specs.Standing.{Within, PartsAt}
+use Rattle.ical_properties.specs.declared.Parts.{Parts}
+use Rattle.ical_properties.specs.Ruled.{Rules}
+use Rattle.ical_properties.specs.declared.Ruling.{Ruling}
 use Rattle.ical.specs.Writes.{standing, Stands}
 use Rattle.ical.specs.Converts.{checkedIn, Puts, Converts}
 use Rattle.ical.specs.declared.Conversion.{Conversion}

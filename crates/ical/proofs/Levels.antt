@@ -9,8 +9,8 @@ use Rattle.octets.specs.Optional.{holds, given}
 use Rattle.octets.proofs.Cases.{never, both}
 use Rattle.json.specs.Tree.{Json, array?, listOf, elements, element}
 use Rattle.values.proofs.CleanValues.{holds-is}
-use Rattle.converter.specs.Tree.{levels, levelsIn, forestOf}
-use Rattle.converter.specs.Skeleton.{isListOf, isComponent, componentFrom}
+use Rattle.conversion_theory.specs.Tree.{levels, levelsIn, forestOf}
+use Rattle.conversion_theory.specs.Skeleton.{isListOf, isComponent, componentFrom}
 use Rattle.ical.proofs.Composed.{composed}
 
 -- where an array stands, a test of it goes by its elements

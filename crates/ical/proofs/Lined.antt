@@ -24,19 +24,19 @@ use Rattle.content.proofs.ParamText.{param-text, name-text}
 use Rattle.content.proofs.Folding.{text-append}
 use Rattle.values.specs.Coded.{sortSaid}
 use Rattle.values.specs.Write.{valuesText}
-use Rattle.converter.specs.Tree.{Property, forestOf}
-use Rattle.converter.specs.Skeleton.{isListOf, isProperty, isComponent, paramsFrom, propertyFrom, componentFrom}
-use Rattle.converter.specs.Return.{isUnknown, isDefault, shown, withValue, writtenSort, writtenLine}
-use Rattle.converter.specs.ToIcal.{beginLine, endLine, propertyLine, linesOf, linesIn}
-use Rattle.properties.specs.Standing.{PartsAt}
-use Rattle.properties.specs.Ruled.{Rules}
-use Rattle.properties.specs.declared.Parts.{Parts}
-use Rattle.properties.specs.declared.Ruling.{Ruling}
+use Rattle.conversion_theory.specs.Tree.{Property, forestOf}
+use Rattle.conversion_theory.specs.Skeleton.{isListOf, isProperty, isComponent, paramsFrom, propertyFrom, componentFrom}
+use Rattle.conversion_theory.specs.Return.{isUnknown, isDefault, shown, withValue, writtenSort, writtenLine}
+use Rattle.conversion_theory.specs.ToIcal.{beginLine, endLine, propertyLine, linesOf, linesIn}
+use Rattle.ical_properties.specs.Standing.{PartsAt}
+use Rattle.ical_properties.specs.Ruled.{Rules}
+use Rattle.ical_properties.specs.declared.Parts.{Parts}
+use Rattle.ical_properties.specs.declared.Ruling.{Ruling}
 use Rattle.ical.specs.Writes.{valueText, headText}
 use Rattle.ical.proofs.Arrays.{list-array, component-array}
 use Rattle.ical.proofs.Judging.{octetsIn, RuledAt, ruled-there}
 use Rattle.ical.proofs.Composed.{component-is, composed, subs-tag}
-use Rattle.skeleton.proofs.Parts.{first-is, second-is, third-is}
+use Rattle.ical_skeleton.proofs.Parts.{first-is, second-is, third-is}
 
 -- VALUE
 pub hidden-kind : (t : List ℕ) → valueText false t ≡ []

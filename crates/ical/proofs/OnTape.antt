@@ -22,9 +22,9 @@ use Rattle.types.specs.Rows.{tableOf}
 use Rattle.types.specs.Laid.{tableIn, laidOf, roomForRows}
 use Rattle.types.proofs.Reading.{rows-written, rows-refused}
 use Rattle.json.specs.Parse.{mostTape}
-use Rattle.skeleton.specs.Checks.{Shapes}
-use Rattle.skeleton.specs.declared.Shape.{Shape}
-use Rattle.skeleton.specs.declared.Shape.the-variants.{Calendar, Other}
+use Rattle.ical_skeleton.specs.Checks.{Shapes}
+use Rattle.ical_skeleton.specs.declared.Shape.{Shape}
+use Rattle.ical_skeleton.specs.declared.Shape.the-variants.{Calendar, Other}
 use Rattle.json.specs.Tree.{Json, element, octetsOf}
 use Rattle.json.specs.Reads.{Out, deep, bad}
 use Rattle.json.specs.Reader.{parseText}
@@ -35,9 +35,9 @@ use Rattle.tape.specs.Sound.{sound}
 use Rattle.tape.specs.Scan.{soundTape}
 use Rattle.tape.proofs.Back.{tape-back, laid-back, sound-back}
 use Rattle.content.specs.Fold.{textOf}
-use Rattle.converter.specs.Tree.{levels, propertiesOf}
-use Rattle.converter.specs.Skeleton.{isComponent, isCalendar, componentFrom, calendarOf}
-use Rattle.converter.specs.ToIcal.{jsonOf, checkedAll, linesOf, written, toIcal}
+use Rattle.conversion_theory.specs.Tree.{levels, propertiesOf}
+use Rattle.conversion_theory.specs.Skeleton.{isComponent, isCalendar, componentFrom, calendarOf}
+use Rattle.conversion_theory.specs.ToIcal.{jsonOf, checkedAll, linesOf, written, toIcal}
 use Rattle.ical.specs.Stages.{componentOn, judged, tapeText, parsedText}
 use Rattle.ical.proofs.Judging.{ok}
 use Rattle.ical.proofs.Levels.{fewer}

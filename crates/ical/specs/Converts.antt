@@ -7,8 +7,8 @@ use Rattle.octets.specs.Pen.{pen, Wrote, FrontKept}
 use Rattle.types.specs.Table.{Table, find}
 use Rattle.tape.specs.Promise.{Next}
 use Rattle.content.specs.Fold.{textOf}
-use Rattle.converter.specs.Tree.{Property}
-use Rattle.converter.specs.Return.{checked}
+use Rattle.conversion_theory.specs.Tree.{Property}
+use Rattle.conversion_theory.specs.Return.{checked}
 use Rattle.ical.specs.declared.Conversion.{Conversion}
 use Rattle.ical.specs.declared.Conversion.the-variants.{Passed, Refused}
 

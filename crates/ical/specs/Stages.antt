@@ -10,9 +10,9 @@ use Rattle.json.specs.Reader.{parseText}
 use Rattle.tape.specs.Decode.{valueAt}
 use Rattle.tape.specs.Scan.{soundTape}
 use Rattle.content.specs.Fold.{textOf}
-use Rattle.converter.specs.Tree.{Component, levels, propertiesOf}
-use Rattle.converter.specs.Skeleton.{isCalendar, componentFrom, calendarOf}
-use Rattle.converter.specs.ToIcal.{jsonOf, checkedAll, linesOf, written}
+use Rattle.conversion_theory.specs.Tree.{Component, levels, propertiesOf}
+use Rattle.conversion_theory.specs.Skeleton.{isCalendar, componentFrom, calendarOf}
+use Rattle.conversion_theory.specs.ToIcal.{jsonOf, checkedAll, linesOf, written}
 
 -- the component on a tape
 unfoldable pub componentOn : List ℕ → Component

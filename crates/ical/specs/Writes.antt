@@ -16,10 +16,10 @@ use Rattle.content.specs.Folding.{FoldPen, folding, Folded}
 use Rattle.values.specs.Coded.{sortSaid}
 use Rattle.values.specs.Read.{valuesOf}
 use Rattle.values.specs.Write.{valuesAre, valuesText}
-use Rattle.icalvalues.specs.declared.Valued.{Valued}
-use Rattle.icalvalues.specs.declared.Valued.the-variants.{Wrote, Invalid}
-use Rattle.converter.specs.Return.{firstOctets}
-use Rattle.properties.specs.declared.Ruling.{Ruling}
+use Rattle.ical_values.specs.declared.Valued.{Valued}
+use Rattle.ical_values.specs.declared.Valued.the-variants.{Wrote, Invalid}
+use Rattle.conversion_theory.specs.Return.{firstOctets}
+use Rattle.ical_properties.specs.declared.Ruling.{Ruling}
 
 -- VALUE, where it is shown
 unfoldable pub valueText : Bool → List ℕ → List ℕ

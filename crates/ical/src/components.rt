@@ -13,9 +13,9 @@ ghost use Prim.Native.Nat.{_≤_};
 ghost use lib.ListN.{length};
 ghost use Rattle.types.specs.Laid.{tableIn};
 ghost use Rattle.tape.specs.Decode.{valueAt};
-ghost use Rattle.converter.specs.Tree.{propertiesOf};
-ghost use Rattle.converter.specs.Skeleton.{isComponent, componentFrom};
-ghost use Rattle.converter.specs.ToIcal.{checkedAll, linesOf};
+ghost use Rattle.conversion_theory.specs.Tree.{propertiesOf};
+ghost use Rattle.conversion_theory.specs.Skeleton.{isComponent, componentFrom};
+ghost use Rattle.conversion_theory.specs.ToIcal.{checkedAll, linesOf};
 ghost use Rattle.ical.specs.Converts.{Converts};
 
 // Writes the component at `at`, which has at most `left` levels, up to the first property in fault.

@@ -5,7 +5,7 @@ use content::end_line;
 use content::fold_all;
 use content::fold_octet;
 use content::fold_upper;
-use properties::write_params;
+use ical_properties::write_params;
 use tape::Text;
 ghost use mathlib.Core.Path.{_≡_};
 ghost use mathlib.Core.Bool.{true};
@@ -17,7 +17,7 @@ ghost use Rattle.octets.specs.Pen.{pen, Wrote};
 ghost use Rattle.tape.specs.Decode.{membersAt};
 ghost use Rattle.content.specs.Fold.{textOf};
 ghost use Rattle.content.specs.Folding.{folding, Folded};
-ghost use Rattle.converter.specs.Skeleton.{paramsFrom};
+ghost use Rattle.conversion_theory.specs.Skeleton.{paramsFrom};
 ghost use Rattle.ical.specs.Writes.{valueText, headText};
 
 // BEGIN or END, and a name that stands on the tape.

@@ -10,8 +10,8 @@ use Rattle.octets.specs.Basics.{all}
 use Rattle.octets.specs.Answers.{Answer, refused, accepted, then}
 use Rattle.octets.proofs.Cases.{never, both}
 use Rattle.content.specs.Line.{Line}
-use Rattle.converter.specs.Tree.{Property}
-use Rattle.converter.specs.Structure.{Event, begins, ends, holds, stray}
+use Rattle.conversion_theory.specs.Tree.{Property}
+use Rattle.conversion_theory.specs.Structure.{Event, begins, ends, holds, stray}
 use Rattle.jcal.specs.Events.{eventsIn, LineAt, nameFrom, told, Tells}
 use Rattle.jcal.specs.Order.{mayStand, endsHere, orderedFrom}
 use Rattle.jcal.specs.Walk.{isAccepted, reads, eventTested, eachTested, behindEnd, nextOf, levelAt, subsText}

@@ -13,8 +13,8 @@ use Rattle.octets.specs.Limits.{mostLevels}
 use Rattle.octets.specs.Answers.{Answer}
 use Rattle.octets.proofs.Limits.{most-levels}
 use Rattle.content.specs.Line.{Line}
-use Rattle.converter.specs.Tree.{Property, levels, levelsIn}
-use Rattle.converter.specs.Structure.{Event, begins, ends, holds, stray, Nest, fresh, closed, inside, fault, left, nest, nestAfter}
+use Rattle.conversion_theory.specs.Tree.{Property, levels, levelsIn}
+use Rattle.conversion_theory.specs.Structure.{Event, begins, ends, holds, stray, Nest, fresh, closed, inside, fault, left, nest, nestAfter}
 use Rattle.jcal.specs.Walk.{behindEnd, levelAt, componentAt}
 use Rattle.jcal.proofs.Levels.{level-ends, level-left, level-holds, level-passed, level-begins, level-entered}
 

@@ -20,7 +20,7 @@ use Rattle.content.specs.Scan.{untilBare}
 use Rattle.content.specs.Parts.{others}
 use Rattle.content.proofs.Scanning.{bare-le, bare-take, bare-stop}
 use Rattle.content.proofs.Separators.{oneOf, skips, pieces-first}
-use Rattle.converter.specs.Structure.{bounds}
+use Rattle.conversion_theory.specs.Structure.{bounds}
 
 pub not-twice : (b : Bool) → not (not b) ≡ b
 not-twice true = refl

@@ -12,10 +12,10 @@ use Rattle.octets.proofs.Answers.{not-accepted, accepted-same, then-accepted}
 use Rattle.json.specs.Tree.{Json, Items, noItems, item, itemsOf}
 use Rattle.json.specs.Print.{print, firstItem, moreItems}
 use Rattle.content.specs.Line.{Line}
-use Rattle.converter.specs.Tree.{Property, leaf, grow, levels, levelsIn}
-use Rattle.converter.specs.Structure.{Event, begins, ends, holds, stray}
-use Rattle.converter.specs.Growth.{behindEvent, eachProperty, Level, level, innermost, around, withProperty, withComponent, levelsFrom, outermost, treeOf}
-use Rattle.converter.specs.Jcal.{propertyJson, jcalOf, jcalsOf}
+use Rattle.conversion_theory.specs.Tree.{Property, leaf, grow, levels, levelsIn}
+use Rattle.conversion_theory.specs.Structure.{Event, begins, ends, holds, stray}
+use Rattle.conversion_theory.specs.Growth.{behindEvent, eachProperty, Level, level, innermost, around, withProperty, withComponent, levelsFrom, outermost, treeOf}
+use Rattle.conversion_theory.specs.Jcal.{propertyJson, jcalOf, jcalsOf}
 use Rattle.jcal.specs.Walk.{propertyOr, isAccepted, readEvent, reads, behindEnd, outward, levelAt, componentAt, comma, listed, propertiesText, subsText, nameText}
 
 outward-none : (k : ℕ) → outward k [] ≡ []

@@ -9,8 +9,8 @@ use Rattle.octets.specs.Answers.{Answer}
 use Rattle.octets.proofs.Cases.{never, both, and-assoc, and-true-right}
 use Rattle.json.specs.Tree.{itemsOf}
 use Rattle.content.specs.Line.{Line}
-use Rattle.converter.specs.Tree.{Property}
-use Rattle.converter.specs.Structure.{Event, begins, ends, holds, stray}
+use Rattle.conversion_theory.specs.Tree.{Property}
+use Rattle.conversion_theory.specs.Structure.{Event, begins, ends, holds, stray}
 use Rattle.jcal.specs.Events.{eventsIn, LineAt, told, Tells}
 use Rattle.jcal.specs.Order.{mayStand, endsHere, orderedFrom, Keeps, Ends}
 use Rattle.jcal.specs.declared.events.Kind.{Kind}

@@ -23,7 +23,7 @@ use Rattle.content.specs.Buffer.{isLf}
 use Rattle.content.proofs.Scanning.{scan-is}
 use Rattle.content.proofs.Buffer.{line-here, lines-none}
 use Rattle.content.proofs.Walking.{same-lower}
-use Rattle.converter.specs.Structure.{Event, begins, ends, holds, stray, fresh, closed, inside, fault, left, nest, nestAfter, verdict}
+use Rattle.conversion_theory.specs.Structure.{Event, begins, ends, holds, stray, fresh, closed, inside, fault, left, nest, nestAfter, verdict}
 use Rattle.jcal.specs.Events.{eventAt, eventsIn, lineFrom, LineAt, nameFrom, told, Named, Tells}
 use Rattle.jcal.specs.Nesting.{stack, inner, nestOf, aroundOf, NestsBehind, paired, Judged}
 use Rattle.jcal.specs.declared.events.Kind.{Kind}

@@ -30,12 +30,12 @@ use Rattle.content.specs.Reading.{tested, linesTold, LaidWithin, ReadLines}
 use Rattle.content.specs.declared.reading.Lines.{Lines}
 use Rattle.content.specs.declared.reading.Lines.the-variants.{Laid, NotClean, NotFormed, NoRoom}
 use Rattle.content.proofs.Unfolding.{laid-short}
-use Rattle.converter.specs.Tree.{Property, Component, levels}
-use Rattle.converter.specs.Structure.{Event, begins, ends, holds, stray, Nest, fresh, closed, inside, fault, nestAfter, verdict, structured}
-use Rattle.converter.specs.Growth.{behindEvent, eachProperty, treeOf}
-use Rattle.converter.specs.Jcal.{jcalOf}
-use Rattle.converter.specs.Property.{readProperty}
-use Rattle.converter.specs.ToJcal.{readLinesBy, readLines, reading, toJcal}
+use Rattle.conversion_theory.specs.Tree.{Property, Component, levels}
+use Rattle.conversion_theory.specs.Structure.{Event, begins, ends, holds, stray, Nest, fresh, closed, inside, fault, nestAfter, verdict, structured}
+use Rattle.conversion_theory.specs.Growth.{behindEvent, eachProperty, treeOf}
+use Rattle.conversion_theory.specs.Jcal.{jcalOf}
+use Rattle.conversion_theory.specs.Property.{readProperty}
+use Rattle.conversion_theory.specs.ToJcal.{readLinesBy, readLines, reading, toJcal}
 use Rattle.jcal.specs.Events.{eventsIn, lineFrom, LineAt, nameFrom, told, Tells}
 use Rattle.jcal.specs.Walk.{isAccepted, reads, eventTested, eachTested, behindEnd, nextOf, componentAt}
 use Rattle.jcal.specs.Walked.{ready, placeOf, Stands}

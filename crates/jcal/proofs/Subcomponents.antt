@@ -11,9 +11,9 @@ use Rattle.octets.specs.Answers.{Answer, refused, number}
 use Rattle.octets.proofs.Pen.{then, as-text, Leads, leads-start, leads-on, leads-same, leads-last}
 use Rattle.json.specs.Print.{print}
 use Rattle.content.specs.Line.{Line}
-use Rattle.converter.specs.Tree.{Property, Component, levels, levelsIn}
-use Rattle.converter.specs.Structure.{Event, begins, ends}
-use Rattle.converter.specs.Jcal.{jcalOf}
+use Rattle.conversion_theory.specs.Tree.{Property, Component, levels, levelsIn}
+use Rattle.conversion_theory.specs.Structure.{Event, begins, ends}
+use Rattle.conversion_theory.specs.Jcal.{jcalOf}
 use Rattle.jcal.specs.Events.{eventsIn, nameFrom, Named}
 use Rattle.jcal.specs.Order.{mayStand, endsHere, orderedFrom}
 use Rattle.jcal.specs.Walk.{reads, eventTested, eachTested, behindEnd, nextOf, levelAt, componentAt, comma, propertiesText, subsText, nameText}

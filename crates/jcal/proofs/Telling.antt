@@ -12,7 +12,7 @@ use Rattle.content.specs.Line.{lineOf}
 use Rattle.content.specs.Scan.{until}
 use Rattle.content.specs.Buffer.{isLf}
 use Rattle.content.proofs.Scanning.{scan-is, scan-high}
-use Rattle.converter.specs.Structure.{bounds, eventOf}
+use Rattle.conversion_theory.specs.Structure.{bounds, eventOf}
 use Rattle.jcal.specs.Events.{lineFrom, LineAt, nameFrom, told, NameOf, Tells}
 use Rattle.jcal.specs.declared.events.Kind.{Kind}
 use Rattle.jcal.specs.declared.events.Kind.the-variants.{Opens, Closes, Plain, Broken}

@@ -6,12 +6,12 @@ use lib.ListN.{length, drop}
 use Rattle.octets.specs.Answers.{Answer, refused, accepted, then, number}
 use Rattle.octets.specs.declared.Refusal.{Refusal}
 use Rattle.content.specs.Line.{Line, lineOf}
-use Rattle.converter.specs.Tree.{Property}
-use Rattle.converter.specs.Structure.{Event, begins, ends, holds, stray}
-use Rattle.converter.specs.Growth.{behindEvent, eachProperty}
-use Rattle.jcalproperties.specs.Passed.{passed}
-use Rattle.jcalproperties.specs.declared.Tested.{Tested}
-use Rattle.jcalproperties.specs.declared.Tested.the-variants.{Passed, Failed}
+use Rattle.conversion_theory.specs.Tree.{Property}
+use Rattle.conversion_theory.specs.Structure.{Event, begins, ends, holds, stray}
+use Rattle.conversion_theory.specs.Growth.{behindEvent, eachProperty}
+use Rattle.jcal_properties.specs.Passed.{passed}
+use Rattle.jcal_properties.specs.declared.Tested.{Tested}
+use Rattle.jcal_properties.specs.declared.Tested.the-variants.{Passed, Failed}
 use Rattle.jcal.specs.Events.{eventAt, eventsIn, lineFrom, LineAt, told, Tells}
 use Rattle.jcal.specs.Walk.{eventTested, eachTested}
 use Rattle.jcal.specs.declared.events.Kind.the-variants.{Opens, Closes, Plain, Broken}

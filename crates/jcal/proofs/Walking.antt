@@ -12,12 +12,12 @@ use Rattle.octets.proofs.Cases.{never, both}
 use Rattle.octets.proofs.Pen.{then as behind-it, Leads, leads-start, leads-on, leads-same, leads-last}
 use Rattle.types.specs.Table.{Table}
 use Rattle.content.specs.Line.{Line, lineOf}
-use Rattle.converter.specs.Tree.{Property}
-use Rattle.converter.specs.Structure.{Event, begins, ends, holds, stray}
-use Rattle.converter.specs.Property.{readProperty}
-use Rattle.jcalproperties.specs.Placed.{Places as PlacesProperty}
-use Rattle.jcalproperties.specs.declared.Placed.{Placed}
-use Rattle.jcalproperties.specs.declared.Placed.the-variants.{At, Failed}
+use Rattle.conversion_theory.specs.Tree.{Property}
+use Rattle.conversion_theory.specs.Structure.{Event, begins, ends, holds, stray}
+use Rattle.conversion_theory.specs.Property.{readProperty}
+use Rattle.jcal_properties.specs.Placed.{Places as PlacesProperty}
+use Rattle.jcal_properties.specs.declared.Placed.{Placed}
+use Rattle.jcal_properties.specs.declared.Placed.the-variants.{At, Failed}
 use Rattle.jcal.specs.Events.{eventsIn, lineFrom, LineAt, nameFrom, told, Tells}
 use Rattle.jcal.specs.Order.{mayStand, endsHere, orderedFrom}
 use Rattle.jcal.specs.Walk.{propertyOr, isAccepted, reads, eventTested, eachTested, nextOf, comma, propertiesText}

@@ -7,7 +7,7 @@ use Rattle.octets.specs.Classes.{lower}
 use Rattle.content.specs.Line.{Line, lineOf}
 use Rattle.content.specs.Scan.{until}
 use Rattle.content.specs.Buffer.{isLf, linesIn}
-use Rattle.converter.specs.Structure.{Event, begins, ends, holds, stray, eventOf}
+use Rattle.conversion_theory.specs.Structure.{Event, begins, ends, holds, stray, eventOf}
 use Rattle.jcal.specs.declared.events.Kind.{Kind}
 use Rattle.jcal.specs.declared.events.Kind.the-variants.{Opens, Closes, Plain, Broken}
 

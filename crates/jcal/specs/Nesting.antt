@@ -6,7 +6,7 @@ use mathlib.Core.List.{List, [], _∷_}
 use lib.ListN.{length, getD}
 use Rattle.octets.specs.Limits.{mostLevels}
 use Rattle.octets.specs.Answers.{Answer, refused, accepted, number}
-use Rattle.converter.specs.Structure.{Nest, fresh, closed, inside, fault, nest, verdict}
+use Rattle.conversion_theory.specs.Structure.{Nest, fresh, closed, inside, fault, nest, verdict}
 use Rattle.jcal.specs.Events.{nameFrom, told}
 use Rattle.jcal.specs.declared.events.Kind.{Kind}
 use Rattle.jcal.specs.declared.nesting.Nesting.{Nesting}

@@ -4,7 +4,7 @@ use mathlib.Core.Path.{_≡_}
 use mathlib.Core.Bool.{Bool, true, false, not}
 use mathlib.Core.List.{List, [], _∷_}
 use Rattle.octets.specs.Basics.{_and_}
-use Rattle.converter.specs.Structure.{Event, begins, ends, holds, stray}
+use Rattle.conversion_theory.specs.Structure.{Event, begins, ends, holds, stray}
 use Rattle.jcal.specs.Events.{told}
 use Rattle.jcal.specs.declared.events.Kind.{Kind}
 

@@ -4,11 +4,11 @@ use mathlib.Core.List.{List}
 use Rattle.octets.specs.Answers.{Answer, accepted, then}
 use Rattle.json.specs.Print.{print}
 use Rattle.content.specs.Line.{Line}
-use Rattle.converter.specs.Tree.{Property}
-use Rattle.converter.specs.Structure.{Event, structured}
-use Rattle.converter.specs.Growth.{eachProperty, treeOf}
-use Rattle.converter.specs.Jcal.{jcalOf}
-use Rattle.converter.specs.ToJcal.{readLinesBy}
+use Rattle.conversion_theory.specs.Tree.{Property}
+use Rattle.conversion_theory.specs.Structure.{Event, structured}
+use Rattle.conversion_theory.specs.Growth.{eachProperty, treeOf}
+use Rattle.conversion_theory.specs.Jcal.{jcalOf}
+use Rattle.conversion_theory.specs.ToJcal.{readLinesBy}
 
 -- from 7, 8 and 9 on
 unfoldable pub propertiesJcal : (Line → Answer Property) → List (Event Line) → Answer (List ℕ)

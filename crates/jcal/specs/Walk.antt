@@ -7,10 +7,10 @@ use Rattle.octets.specs.Answers.{Answer, refused, accepted, then}
 use Rattle.json.specs.Tree.{Items, itemsOf}
 use Rattle.json.specs.Print.{firstItem, moreItems, printString}
 use Rattle.content.specs.Line.{Line}
-use Rattle.converter.specs.Tree.{Property, property, Component, component}
-use Rattle.converter.specs.Structure.{Event, begins, ends, holds, stray}
-use Rattle.converter.specs.Growth.{eachProperty, Level, innermost, around, levelsFrom}
-use Rattle.converter.specs.Jcal.{propertyJson, jcalsOf}
+use Rattle.conversion_theory.specs.Tree.{Property, property, Component, component}
+use Rattle.conversion_theory.specs.Structure.{Event, begins, ends, holds, stray}
+use Rattle.conversion_theory.specs.Growth.{eachProperty, Level, innermost, around, levelsFrom}
+use Rattle.conversion_theory.specs.Jcal.{propertyJson, jcalsOf}
 
 -- the property that is accepted; of no use where it is refused
 unfoldable pub propertyOr : Answer Property → Property

@@ -9,11 +9,11 @@ use Rattle.octets.specs.Pen.{Pen, pen, Wrote}
 use Rattle.octets.specs.Answers.{Answer, refused, number}
 use Rattle.json.specs.Print.{print}
 use Rattle.content.specs.Line.{Line}
-use Rattle.converter.specs.Tree.{Property}
-use Rattle.converter.specs.Structure.{Event, begins, ends}
-use Rattle.converter.specs.Jcal.{propertyJson}
-use Rattle.jcalproperties.specs.declared.Placed.{Placed}
-use Rattle.jcalproperties.specs.declared.Placed.the-variants.{At, Failed}
+use Rattle.conversion_theory.specs.Tree.{Property}
+use Rattle.conversion_theory.specs.Structure.{Event, begins, ends}
+use Rattle.conversion_theory.specs.Jcal.{propertyJson}
+use Rattle.jcal_properties.specs.declared.Placed.{Placed}
+use Rattle.jcal_properties.specs.declared.Placed.the-variants.{At, Failed}
 use Rattle.jcal.specs.Events.{eventsIn, nameFrom, Named}
 use Rattle.jcal.specs.Order.{orderedFrom}
 use Rattle.jcal.specs.Walk.{propertyOr, isAccepted, reads, eachTested, behindEnd, nextOf, comma}

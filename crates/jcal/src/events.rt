@@ -7,7 +7,7 @@ ghost use Rattle.octets.specs.Basics.{_or_, filled};
 ghost use Rattle.octets.specs.Classes.{isName, sameName};
 ghost use Rattle.content.specs.Line.{lineOf};
 ghost use Rattle.content.specs.Scan.{untilBare};
-ghost use Rattle.converter.specs.Structure.{bounds};
+ghost use Rattle.conversion_theory.specs.Structure.{bounds};
 ghost use Rattle.jcal.specs.Events.{LineAt, Tells};
 use octets::is_name;
 use octets::same_name;

@@ -5,7 +5,7 @@ ghost use lib.ListN.{length};
 ghost use Rattle.octets.specs.Basics.{same};
 ghost use Rattle.octets.specs.Classes.{lower};
 ghost use Rattle.octets.specs.Limits.{mostLevels};
-ghost use Rattle.converter.specs.Structure.{fresh, nestAfter, verdict};
+ghost use Rattle.conversion_theory.specs.Structure.{fresh, nestAfter, verdict};
 ghost use Rattle.jcal.specs.Events.{eventsIn, nameFrom, NameOf};
 ghost use Rattle.jcal.specs.Nesting.{inner, nestOf, aroundOf, NestsBehind, paired, Judged};
 ghost use Rattle.jcal.specs.Order.{ordered, Keeps, Ends};

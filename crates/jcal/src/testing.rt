@@ -2,16 +2,16 @@
 ghost use mathlib.Core.Path.{_≡_};
 ghost use Rattle.octets.specs.Answers.{accepted, then};
 ghost use Rattle.types.specs.Laid.{tableIn};
-ghost use Rattle.converter.specs.Property.{readProperty};
-ghost use Rattle.converter.specs.Growth.{eachProperty};
+ghost use Rattle.conversion_theory.specs.Property.{readProperty};
+ghost use Rattle.conversion_theory.specs.Growth.{eachProperty};
 ghost use Rattle.jcal.specs.Events.{eventAt, eventsIn, lineFrom, LineAt};
-ghost use Rattle.jcalproperties.specs.Passed.{passed};
+ghost use Rattle.jcal_properties.specs.Passed.{passed};
 ghost use Rattle.jcal.specs.Walk.{eventTested};
 use crate::events::Kind;
 use crate::events::kind_at;
 use content::line_end;
-use jcalproperties::Tested;
-use jcalproperties::test_property;
+use jcal_properties::Tested;
+use jcal_properties::test_property;
 
 // Tests 7, 8 and 9 of the line from i to e, if it is a property.
 fn test_line(buf: &[u8], i: usize, e: usize, rows: &[u8]) -> Tested

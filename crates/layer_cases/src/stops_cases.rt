@@ -9,6 +9,6 @@ pub(crate) fn holds(case: &[u8]) -> bool {
     let mut out = [0u8; 4096];
     let n = console::load(before(case, b'\t'), &mut text);
     let m = console::load(behind(case, b'\t'), &mut page);
-    let end = stopspage::print_page(&mut out, &text[0..n]);
+    let end = stops_page::print_page(&mut out, &text[0..n]);
     stands(&out, 0, end, &page[0..m])
 }

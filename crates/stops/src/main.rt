@@ -4,6 +4,6 @@ fn main() {
     let mut text = [0u8; 65537];
     let n = io::read_full(0, &mut text);
     let mut out = [0u8; 4096];
-    let m = stopspage::print_page(&mut out, &text[0..n]);
+    let m = stops_page::print_page(&mut out, &text[0..n]);
     io::write_all(1, &out[0..m]);
 }

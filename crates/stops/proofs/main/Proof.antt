@@ -1,7 +1,7 @@
 -- `stops::main` meets its contract: a page has room in the buffer.
 use native.Mathlib.Omega.{arith}
 use borrow.Author.Needs.{needs}
-use Rattle.stopspage.proofs.Lengths.{page-end}
+use Rattle.stops_page.proofs.Lengths.{page-end}
 use Rattle.stops.proofs.main.Statement.{statement}
 use Rattle.stops.proofs.main.Tie as tie
 

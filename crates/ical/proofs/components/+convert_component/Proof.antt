@@ -14,8 +14,8 @@ use Rattle.tape.proofs.tag.Reads as tag
 use Rattle.tape.proofs.text_at.Reads as text-at
 use Rattle.content.specs.Fold.{textOf}
 use Rattle.content.proofs.Folding.{lines-then}
-use Rattle.converter.specs.Skeleton.{isComponent}
-use Rattle.converter.specs.ToIcal.{checkedAll}
+use Rattle.conversion_theory.specs.Skeleton.{isComponent}
+use Rattle.conversion_theory.specs.ToIcal.{checkedAll}
 use Rattle.ical.proofs.Arrays.{Walking, walking-start, walking-here, walking-next, walking-end}
 use Rattle.ical.proofs.Composed.{composed, subProperties, subs-end, subs-on, subs-off, properties-there, component-refused, subs-there, component-end, component-checked}
 use Rattle.ical.proofs.Judging.{passes, refuses}

@@ -9,8 +9,8 @@ use Rattle.octets.proofs.Pen.{nothing, then, kept, front-behind, Leads, leads-s
 use Rattle.types.specs.Laid.{tableIn}
 use Rattle.tape.specs.Decode.{listAt}
 use Rattle.content.specs.Fold.{textOf}
-use Rattle.converter.specs.Skeleton.{isProperty, propertyFrom}
-use Rattle.converter.specs.ToIcal.{checkedAll, propertyLine}
+use Rattle.conversion_theory.specs.Skeleton.{isProperty, propertyFrom}
+use Rattle.conversion_theory.specs.ToIcal.{checkedAll, propertyLine}
 use Rattle.ical.proofs.Arrays.{Walking, walking-start, walking-here, walking-next, walking-end}
 use Rattle.ical.proofs.Judging.{array-checked, properties-end, properties-on, properties-off, passes, refuses}
 use Rattle.ical.proofs.Lined.{lines-inside, lines-end, lines-on}

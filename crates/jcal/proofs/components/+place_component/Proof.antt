@@ -8,7 +8,7 @@ use borrow.Fn.PlainCycle.{Measures, is, falls, and}
 use lib.ListN.{length, drop}
 use Rattle.octets.proofs.put_all.Reads as put-all-reads
 use Rattle.types.specs.Laid.{tableIn}
-use Rattle.converter.specs.Property.{readProperty}
+use Rattle.conversion_theory.specs.Property.{readProperty}
 use Rattle.jcal.specs.Events.{eventsIn}
 use Rattle.jcal.proofs.Subcomponents.{Going, behindIt, going-start, sub-ready, sub-few, left-some, sub-less, sub-goes, sub-ends}
 use Rattle.jcal.proofs.components.place_component.Reads as place-component

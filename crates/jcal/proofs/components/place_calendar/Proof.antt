@@ -4,7 +4,7 @@ use mathlib.Core.Path.{_∙_}
 use borrow.Author.Needs.{needs}
 use Rattle.octets.proofs.Limits.{most-levels}
 use Rattle.types.specs.Laid.{tableIn}
-use Rattle.converter.specs.Property.{readProperty}
+use Rattle.conversion_theory.specs.Property.{readProperty}
 use Rattle.jcal.specs.Events.{LineAt}
 use Rattle.jcal.specs.declared.components.Next.the-variants.{Sub, End}
 use Rattle.jcal.proofs.Telling.{name-of}

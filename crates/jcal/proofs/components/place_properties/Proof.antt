@@ -6,7 +6,7 @@ use borrow.Author.Needs.{needs}
 use lib.ListN.{length, drop}
 use Rattle.octets.specs.Pen.{pen}
 use Rattle.types.specs.Laid.{tableIn}
-use Rattle.converter.specs.Property.{readProperty}
+use Rattle.conversion_theory.specs.Property.{readProperty}
 use Rattle.jcal.specs.Events.{eventsIn, LineAt}
 use Rattle.jcal.proofs.Telling.{told-as, line-is, line-high}
 use Rattle.jcal.proofs.Walking.{Held, held-start, held-item, held-refused, held-sub, held-over, ends-next, held-ends, held-broken, none-next, held-none}

@@ -9,7 +9,7 @@ use Rattle.octets.specs.Basics.{_and_}
 use Rattle.octets.proofs.Limits.{most-levels}
 use Rattle.content.specs.Buffer.{isLf}
 use Rattle.content.proofs.Scanning.{scan-high}
-use Rattle.converter.specs.Structure.{fresh, nestAfter}
+use Rattle.conversion_theory.specs.Structure.{fresh, nestAfter}
 use Rattle.jcal.specs.Order.{ordered, orderedFrom}
 use Rattle.jcal.specs.Nesting.{nestOf, aroundOf}
 use Rattle.jcal.specs.Events.{eventsIn, LineAt}

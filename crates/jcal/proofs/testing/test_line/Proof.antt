@@ -1,7 +1,7 @@
 -- `jcal::testing::test_line` meets its contract.
 use mathlib.Core.Path.{_∙_}
 use borrow.Author.Needs.{needs}
-use Rattle.jcalproperties.specs.Passed.{passed}
+use Rattle.jcal_properties.specs.Passed.{passed}
 use Rattle.jcal.proofs.Turns.{opens-tested, closes-tested, plain-tested, broken-tested}
 use Rattle.jcal.proofs.Telling.{told-as, line-is, line-high}
 use Rattle.jcal.proofs.testing.test_line.Statement.{statement}

@@ -7,8 +7,8 @@ use lib.ListN.{length, drop}
 use Rattle.types.specs.Laid.{tableIn}
 use Rattle.content.proofs.Scanning.{scan-high}
 use Rattle.content.specs.Buffer.{isLf}
-use Rattle.converter.specs.Property.{readProperty}
-use Rattle.jcalproperties.specs.Passed.{passed}
+use Rattle.conversion_theory.specs.Property.{readProperty}
+use Rattle.jcal_properties.specs.Passed.{passed}
 use Rattle.jcal.specs.Events.{eventsIn}
 use Rattle.jcal.specs.Walk.{eachTested}
 use Rattle.jcal.proofs.Turns.{passed-as, failed-as, turn-none, turn-on, turn-off}

@@ -1,0 +1,78 @@
+-- What a row and a type say, by what was found of them.
+use Prim.Native.Nat.{ℕ}
+use mathlib.Core.Path.{_≡_, refl, sym, ap, _∙_}
+use mathlib.Core.Bool.{Bool, true, false, not}
+use mathlib.Core.List.{List}
+use mathlib.Core.Option.{Option, none, some}
+use borrow.Author.Tests.{ne-eqb}
+use lib.Dec.{eqb}
+use Rattle.octets.specs.Basics.{octets, pick, _or_, same}
+use Rattle.octets.specs.Optional.{isSome}
+use Rattle.types.specs.Codes.{unprocessed, binary, codeNamed}
+use Rattle.types.specs.Table.{Row}
+use Rattle.types.specs.Laid.{rowFound}
+use Rattle.types.specs.declared.Found.{Found}
+use Rattle.types.specs.declared.Found.the-variants.{Listed, Unlisted}
+use Rattle.values.specs.Sorts.{sortOf}
+use Rattle.values.specs.Coded.{sortSaid}
+use Rattle.values.specs.declared.sorts.Sort.{Sort}
+use Rattle.values.specs.declared.sorts.Sort.the-variants.{Plain}
+use Rattle.conversion_theory.specs.Property.{codeOf, manyOf, encodingFits}
+use Rattle.conversion_theory.specs.Return.{isUnknown, statedType, isDefault, shown}
+use Rattle.ical_properties.specs.Ruled.{Rules}
+use Rattle.ical_properties.specs.declared.Ruling.{Ruling}
+
+abbrev row : ℕ → Bool → Row
+row c m = record { code = c; many = m }
+
+-- what was found
+pub listed : {f : Found} {c : ℕ} {m : Bool} {r : Option Row} → f ≡ Listed c m → rowFound f ≡ r → some (row c m) ≡ r
+unfolding rowFound
+listed e q = rw e at q
+
+pub unlisted : {f : Found} {r : Option Row} → f ≡ Unlisted → rowFound f ≡ r → none ≡ r
+unfolding rowFound
+unlisted e q = rw e at q
+
+-- "unknown"
+module _ (n : List ℕ) where
+  pub unknown-listed : {r : Option Row} {c : ℕ} {m : Bool} → some (row c m) ≡ r → Rules r n (octets "unknown") (record { code = c; many = m; sort = Plain; shown = false; taken = true })
+  unfolding same isUnknown statedType codeOf manyOf shown isSome sortSaid
+  unknown-listed e = rw (← e) (record { code = refl; many = refl; sort = refl; shown = refl; taken = refl })
+
+  pub unknown-unlisted : {r : Option Row} → none ≡ r → Rules r n (octets "unknown") (record { code = 0; many = true; sort = Plain; shown = false; taken = false })
+  unfolding same isUnknown statedType codeOf manyOf shown isSome sortSaid
+  unknown-unlisted e = rw (← e) (record { code = refl; many = refl; sort = refl; shown = refl; taken = refl })
+
+shown-by : (t : List ℕ) → isUnknown t ≡ false → (b : Bool) → isSome (pick (isUnknown t or b) none (some t)) ≡ not b
+unfolding isSome
+shown-by t u true = rw u
+shown-by t u false = rw u
+
+-- a type that is stated
+module _ (n t : List ℕ) {c : ℕ} {s : Sort} (u : isUnknown t ≡ false) (k : c ≡ codeNamed t) (o : sortSaid s ≡ sortOf n c) where
+  pub stated-listed : {r : Option Row} {d : ℕ} {m b : Bool} → some (row d m) ≡ r → b ≡ not (eqb d c) → Rules r n t (record { code = c; many = m; sort = s; shown = b; taken = false })
+  unfolding statedType codeOf manyOf shown isDefault
+  stated-listed {r} {d} {m} {b} e f = rw (← e) (record { code = rw u k; many = refl; sort = rw (u, ← k) o; shown = f ∙ ap (λ (x : ℕ). not (eqb d x)) k ∙ sym (shown-by t u (eqb d (codeNamed t))); taken = rw u })
+
+  pub stated-unlisted : {r : Option Row} → none ≡ r → Rules r n t (record { code = c; many = true; sort = s; shown = true; taken = false })
+  unfolding statedType codeOf manyOf shown isDefault
+  stated-unlisted e = rw (← e) (record { code = rw u k; many = refl; sort = rw (u, ← k) o; shown = sym (shown-by t u false); taken = rw u })
+
+-- an answer by the type's text
+pub rules-same : {r : Option Row} {n t u : List ℕ} {g : Ruling} → t ≡ u → Rules r n u g → Rules r n t g
+rules-same e h = rw e h
+
+-- number 8
+module _ (c : ℕ) (b : Bool) where
+  pub fits-any : c ≡ unprocessed → encodingFits c b ≡ true
+  unfolding encodingFits
+  fits-any e = rw e
+
+  pub fits-binary : c ≡ binary → encodingFits c b ≡ b
+  unfolding encodingFits
+  fits-binary e = rw e
+
+  pub fits-other : ((c ≡ unprocessed) → ⊥) → ((c ≡ binary) → ⊥) → encodingFits c b ≡ not b
+  unfolding encodingFits
+  fits-other n m = rw (ne-eqb c unprocessed n, ne-eqb c binary m)

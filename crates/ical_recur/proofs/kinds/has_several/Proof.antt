@@ -1,0 +1,23 @@
+-- `ical_recur::kinds::has_several` meets its contract.
+use borrow.Author.Needs.{needs}
+use Rattle.calendar.specs.Walk.{sortSaid}
+use Rattle.calendar.specs.Recurrence.{several}
+use Rattle.ical_recur.proofs.kinds.has_several.Tie as tie
+use Rattle.ical_recur.proofs.kinds.has_several.Statement.{statement}
+
+pub has-several-spec : {M : Type 1} → statement M
+has-several-spec =
+    tie.close
+    (tie.spec
+    (λ c. search needs)
+    (λ c. search needs)
+    (λ c. search needs)
+    (λ c. search needs)
+    (λ c. search needs)
+    (λ c. search needs)
+    (λ c. unfold sortSaid several in rw (c .enum-told .given .1))
+    (λ c. unfold sortSaid several in rw (c .enum-told2 .given .1))
+    (λ c. unfold sortSaid several in rw (c .enum-told3 .given .1))
+    (λ c. unfold sortSaid several in rw (c .enum-told4 .given .1))
+    (λ c. unfold sortSaid several in rw (c .enum-told5 .given .1))
+    (λ c. unfold sortSaid several in rw (c .enum-told6 .given .1)))

@@ -1,0 +1,86 @@
+// The JSON kinds that the values of a recurrence object take.
+ghost use mathlib.Core.Path.{_≡_};
+ghost use Rattle.octets.specs.Basics.{all};
+ghost use Rattle.calendar.specs.Recurrence.{several};
+ghost use Rattle.calendar.specs.Walk.{sortSaid};
+ghost use Rattle.json.specs.Tree.{num, str};
+ghost use Rattle.values.specs.Recur.{wordOctet};
+ghost use Rattle.ical_recur.specs.Kinds.{itemIs};
+use calendar::parts::ItemSort;
+use calendar::texts::is_extended_moment;
+use octets::is_digit;
+use octets::is_lower;
+use octets::is_sign;
+use octets::is_upper;
+use values::simple::is_integer;
+
+fn is_word_octet(c: u8) -> bool
+    ensures { λ r. ⌜ r ≡ wordOctet c ⌝ }
+{
+    if is_upper(c) {
+        return true;
+    }
+    if is_lower(c) {
+        return true;
+    }
+    if is_digit(c) {
+        return true;
+    }
+    is_sign(c)
+}
+
+// Letters, digits and signs, which separate nothing.
+fn is_word(s: &[u8]) -> bool
+    ensures { λ r. ⌜ r ≡ all wordOctet (now (s .entry)) ⌝ }
+{
+    let mut i = 0;
+    while i < s.len() {
+        if !is_word_octet(s[i]) {
+            return false;
+        }
+        i += 1;
+    }
+    true
+}
+
+// A string is a value of a part.
+pub fn string_is(sort: ItemSort, s: &[u8]) -> bool
+    ensures { λ r. ⌜ r ≡ itemIs (sortSaid sort) (str (now (s .entry))) ⌝ }
+{
+    match sort {
+        ItemSort::Frequency => is_word(s),
+        ItemSort::Moment => is_extended_moment(s),
+        ItemSort::Count => false,
+        ItemSort::Weekday => is_word(s),
+        ItemSort::Ordinal => is_word(s),
+        ItemSort::Numbers(_) => false,
+    }
+}
+
+// A number is a value of a part.
+pub fn number_is(sort: ItemSort, s: &[u8]) -> bool
+    ensures { λ r. ⌜ r ≡ itemIs (sortSaid sort) (num (now (s .entry))) ⌝ }
+{
+    match sort {
+        ItemSort::Frequency => false,
+        ItemSort::Moment => false,
+        ItemSort::Count => is_integer(s),
+        ItemSort::Weekday => false,
+        ItemSort::Ordinal => false,
+        ItemSort::Numbers(_) => is_integer(s),
+    }
+}
+
+// Only BY parts have several values.
+pub fn has_several(sort: ItemSort) -> bool
+    ensures { λ r. ⌜ r ≡ several (sortSaid sort) ⌝ }
+{
+    match sort {
+        ItemSort::Frequency => false,
+        ItemSort::Moment => false,
+        ItemSort::Count => false,
+        ItemSort::Weekday => false,
+        ItemSort::Ordinal => true,
+        ItemSort::Numbers(_) => true,
+    }
+}

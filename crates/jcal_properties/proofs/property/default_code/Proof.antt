@@ -1,0 +1,14 @@
+-- `jcal_properties::property::default_code` meets its contract.
+use borrow.Author.Needs.{needs}
+use Rattle.types.specs.Laid.{rowFound}
+use Rattle.conversion_theory.specs.Property.{codeOf}
+use Rattle.jcal_properties.proofs.property.default_code.Statement.{statement}
+use Rattle.jcal_properties.proofs.property.default_code.Tie as tie
+
+pub default-code-spec : {M : Type 1} → statement M
+default-code-spec =
+    tie.close
+    (tie.spec
+    (λ c. search needs) (λ c. search needs)
+    (λ c. unfold codeOf rowFound in rw (c .before .found .given .1))
+    (λ c. unfold codeOf rowFound in rw (c .enum-told .given .1)))

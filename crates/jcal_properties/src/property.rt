@@ -1,0 +1,224 @@
+// A property of a content line: numbers 7, 8 and 9, and the property as jCal.
+ghost use mathlib.Core.Path.{_≡_};
+ghost use mathlib.Core.List.{[]};
+ghost use mathlib.Core.Option.{none};
+ghost use lib.ListN.{length};
+ghost use Rattle.octets.specs.Classes.{lower};
+ghost use Rattle.octets.specs.Basics.{pick};
+ghost use Rattle.octets.specs.Answers.{refused, accepted, then};
+ghost use Rattle.octets.specs.Pen.{pen, Wrote};
+ghost use Rattle.json.specs.Print.{printString};
+ghost use Rattle.types.specs.Laid.{tableIn, rowFound};
+ghost use Rattle.content.specs.Line.{lineOf};
+ghost use Rattle.content.specs.Parts.{paramsIn};
+ghost use Rattle.content.specs.Parameters.{nameTwice};
+ghost use Rattle.content.specs.Kinds.{kindOf, Bounded};
+ghost use Rattle.values.specs.Read.{valuesOf};
+ghost use Rattle.conversion_theory.specs.Property.{typeOf, codeOf, manyOf, encodingFits, readProperty};
+ghost use Rattle.jcal_properties.specs.Passed.{passed, paramsTested};
+ghost use Rattle.jcal_properties.specs.Placed.{Fronts, PlacesValues, Places};
+ghost use Rattle.jcal_properties.specs.Shown.{namedType, frontText};
+use crate::Placed;
+use crate::Tested;
+use crate::names::put_name;
+use content::ValueType;
+use content::is_encoded;
+use content::name_twice;
+use content::parts_of;
+use content::put_params;
+use content::value_type;
+use jcal_values::put_tested;
+use octets::Refusal;
+use octets::put;
+use octets::put_all;
+use types::Found;
+use types::code_named;
+use types::find;
+use types::put_type_name;
+use values::sort_of;
+use jcal_texts::Attempt;
+
+// The code of the type of a property that is written up to its values, and the place behind; or why it is refused.
+enum Fronted {
+    To(u8, usize),
+    Failed(Refusal),
+}
+
+// The code of a name's default type.
+fn default_code(found: Found) -> u8
+    ensures { λ r. ⌜ r ≡ codeOf (rowFound found) none ⌝ }
+{
+    match found {
+        Found::Listed(code, _) => code,
+        Found::Unlisted => 0,
+    }
+}
+
+// The code of the type: VALUE's, else the name's default.
+fn code_of(found: Found, params: &[u8], kind: ValueType) -> u8
+    requires { ⌜ Bounded (length (now params)) kind ⌝ }
+    ensures { λ r. ⌜ r ≡ codeOf (rowFound found) (namedType (kindOf (now (params .entry)) kind)) ⌝ }
+{
+    match kind {
+        ValueType::Absent => default_code(found),
+        ValueType::Named(from, end) => code_named(&params[from..end]),
+        ValueType::Faulty => default_code(found),
+    }
+}
+
+// One or many belongs to the name; an unlisted one may have many.
+fn is_many(found: Found) -> bool
+    ensures { λ r. ⌜ r ≡ manyOf (rowFound found) ⌝ }
+{
+    match found {
+        Found::Listed(_, many) => many,
+        Found::Unlisted => true,
+    }
+}
+
+// Number 8: binary has ENCODING=BASE64, another of the fourteen types has not.
+fn encoding_fits(code: u8, encoded: bool) -> bool
+    ensures { λ r. ⌜ r ≡ encodingFits code encoded ⌝ }
+{
+    match code {
+        0 => true,
+        1 => encoded,
+        _ => !encoded,
+    }
+}
+
+// Number 7: no parameter name stands twice, and VALUE names a type where it stands.
+fn params_fit(params: &[u8], kind: ValueType) -> bool
+    ensures { λ r. ⌜ pick r (accepted tt) (refused 7) ≡ paramsTested (nameTwice (paramsIn (now (params .entry)))) (kindOf (now (params .entry)) kind) ⌝ }
+{
+    if name_twice(params) {
+        return false;
+    }
+    match kind {
+        ValueType::Absent => true,
+        ValueType::Named(_, _) => true,
+        ValueType::Faulty => false,
+    }
+}
+
+// Writes a property up to its type.
+fn put_front(name: &[u8], params: &[u8], out: &mut [u8], at: usize) -> usize
+    ensures { λ r. ⌜ Wrote (pen (now (out .entry)) at) (frontText (now (name .entry)) (paramsIn (now (params .entry)))) (pen (now (out .exit)) r) ⌝ }
+{
+    let a = put(out, at, b'[');
+    let b = put_name(out, a, &*name);
+    let c = put(out, b, b',');
+    let d = put_params(out, c, &*params);
+    put(out, d, b',')
+}
+
+// Writes the name of a default type.
+fn put_default(found: Found, out: &mut [u8], at: usize) -> usize
+    ensures { λ r. ⌜ Wrote (pen (now (out .entry)) at) (printString (typeOf (rowFound found) none)) (pen (now (out .exit)) r) ⌝ }
+{
+    match found {
+        Found::Listed(code, _) => {
+            let a = put(out, at, b'"');
+            let b = put_type_name(out, a, code);
+            put(out, b, b'"')
+        }
+        Found::Unlisted => put_all(out, at, b"\"unknown\""),
+    }
+}
+
+// Writes the name of the type.
+fn put_type(found: Found, params: &[u8], kind: ValueType, out: &mut [u8], at: usize) -> usize
+    requires { ⌜ Bounded (length (now params)) kind ⌝ }
+    ensures { λ r. ⌜ Wrote (pen (now (out .entry)) at) (printString (typeOf (rowFound found) (namedType (kindOf (now (params .entry)) kind)))) (pen (now (out .exit)) r) ⌝ }
+{
+    match kind {
+        ValueType::Absent => put_default(found, out, at),
+        ValueType::Named(from, end) => put_name(out, at, &params[from..end]),
+        ValueType::Faulty => put_default(found, out, at),
+    }
+}
+
+// Tests the values by 9, writes them, and closes the property.
+fn place_values(
+    found: Found,
+    code: u8,
+    name: &[u8],
+    value: &[u8],
+    out: &mut [u8],
+    at: usize,
+) -> Placed
+    ensures { λ r. ⌜ PlacesValues (valuesOf (lower (now (name .entry))) code (manyOf (rowFound found)) (now (value .entry))) (pen (now (out .entry)) at) (now (out .exit)) r ⌝ }
+{
+    let sort = sort_of(name, code);
+    let many = is_many(found);
+    match put_tested(out, at, sort, many, value) {
+        Attempt::Wrote(q) => Placed::At(put(out, q, b']')),
+        Attempt::Invalid => Placed::Failed(Refusal::BadValue),
+    }
+}
+
+// Tests a property without parameters by 8, and writes it up to its values.
+fn front_plain(found: Found, name: &[u8], out: &mut [u8], at: usize) -> Fronted
+    ensures { λ r. ⌜ Fronts (rowFound found) (now (name .entry)) [] (pen (now (out .entry)) at) (now (out .exit)) r ⌝ }
+{
+    let code = default_code(found);
+    if !encoding_fits(code, false) {
+        return Fronted::Failed(Refusal::BadEncoding);
+    }
+    let a = put(out, at, b'[');
+    let b = put_name(out, a, &*name);
+    let c = put_all(out, b, b",{},");
+    Fronted::To(code, put_default(found, out, c))
+}
+
+// Tests a property with parameters by 7 and 8, and writes it up to its values.
+fn front_given(found: Found, name: &[u8], params: &[u8], out: &mut [u8], at: usize) -> Fronted
+    ensures { λ r. ⌜ Fronts (rowFound found) (now (name .entry)) (paramsIn (now (params .entry))) (pen (now (out .entry)) at) (now (out .exit)) r ⌝ }
+{
+    let kind = value_type(&*params);
+    if !params_fit(&*params, kind) {
+        return Fronted::Failed(Refusal::BadParameter);
+    }
+    let code = code_of(found, &*params, kind);
+    if !encoding_fits(code, is_encoded(&*params)) {
+        return Fronted::Failed(Refusal::BadEncoding);
+    }
+    let a = put_front(&*name, &*params, out, at);
+    Fronted::To(code, put_type(found, &*params, kind, out, a))
+}
+
+// Tests a property by 7 and 8, and writes it up to its values.
+fn front(found: Found, name: &[u8], params: &[u8], out: &mut [u8], at: usize) -> Fronted
+    ensures { λ r. ⌜ Fronts (rowFound found) (now (name .entry)) (paramsIn (now (params .entry))) (pen (now (out .entry)) at) (now (out .exit)) r ⌝ }
+{
+    if params.len() == 0 {
+        return front_plain(found, &*name, out, at);
+    }
+    front_given(found, &*name, &*params, out, at)
+}
+
+// Tests a property by 7, 8 and 9, and writes it.
+pub fn place_property(line: &[u8], rows: &[u8], out: &mut [u8], at: usize) -> Placed
+    ensures { λ r. ⌜ Places (tableIn (now (rows .entry))) (lineOf (now (line .entry))) (pen (now (out .entry)) at) (now (out .exit)) r ⌝ }
+{
+    let parts = parts_of(&*line);
+    let n = parts.name;
+    let colon = parts.colon;
+    let v = parts.value;
+    let found = find(&*rows, &line[0..n]);
+    match front(found, &line[0..n], &line[n..colon], out, at) {
+        Fronted::To(code, b) => place_values(found, code, &line[0..n], &line[v..], out, b),
+        Fronted::Failed(why) => Placed::Failed(why),
+    }
+}
+
+// Tests a property by 7, 8 and 9 alone: it is written where there is no room.
+pub fn test_property(line: &[u8], rows: &[u8]) -> Tested
+    ensures { λ r. ⌜ passed r ≡ then (readProperty (tableIn (now (rows .entry))) (lineOf (now (line .entry)))) (λ _. accepted tt) ⌝ }
+{
+    let mut none = [0u8; 1];
+    match place_property(line, rows, &mut none, 0) {
+        Placed::At(_) => Tested::Passed,
+        Placed::Failed(why) => Tested::Failed(why),
+    }
+}

@@ -1,0 +1,276 @@
+// Text values: escapes, and the separators between texts. Octets that are written as they stand go run by run.
+ghost use mathlib.Core.Path.{_≡_};
+ghost use mathlib.Core.Bool.{false};
+ghost use mathlib.Core.List.{map};
+ghost use Prim.Native.Nat.{_≤_, _<_};
+ghost use lib.ListN.{length};
+ghost use Rattle.octets.specs.Basics.{_and_, _or_, all, single};
+ghost use Rattle.octets.specs.Classes.{upper};
+ghost use Rattle.octets.specs.Optional.{map?, guard};
+ghost use Rattle.octets.specs.Pen.{pen, Wrote};
+ghost use Rattle.json.specs.Tree.{str};
+ghost use Rattle.json.specs.Print.{escaped, printString, print};
+ghost use Rattle.json.specs.Promise.{Run};
+ghost use Rattle.values.specs.Read.{readPlain, readStatus};
+ghost use Rattle.values.specs.Shown.{runOctet, valuesJson};
+ghost use Rattle.values.specs.Texts.{textsFrom, texts};
+ghost use Rattle.jcal_texts.specs.Trying.{Tried, WroteTexts, WrittenAs, StandsFor, StepsAt};
+use octets::is_plain_octet;
+use octets::peek;
+use octets::put;
+use octets::put_all;
+use octets::upper_octet;
+
+// What a writer that tests answers: where the next octet goes, or that the value does not stand.
+pub enum Attempt {
+    Wrote(usize),
+    Invalid,
+}
+
+// What the writer of texts answers: where the next octet goes and how many texts there are, or that one is no text.
+enum Texts {
+    Wrote(usize, usize),
+    Invalid,
+}
+
+// What stands in a text: an octet, with the place behind it; a bare separator; or what is not allowed.
+enum Step {
+    Octet(u8, usize),
+    Separator,
+    Invalid,
+}
+
+// Octets that are looked at together.
+const BLOCK: usize = 16;
+
+// Both, with no branch.
+fn both(a: bool, b: bool) -> bool
+    ensures { λ r. ⌜ r ≡ (a and b) ⌝ }
+{
+    if a { b } else { false }
+}
+
+// Comparisons with no branch between them, so that many octets are looked at together.
+fn is_run_octet(c: u8) -> bool
+    ensures { λ r. ⌜ r ≡ runOctet c ⌝ }
+{
+    let quote = both(32 <= c, c != b'"');
+    let comma = both(quote, c != b',');
+    let semicolon = both(comma, c != b';');
+    let backslash = both(semicolon, c != b'\\');
+    both(backslash, c != 127)
+}
+
+// Each octet may stand in a run. The loop has no way out on the way.
+fn all_run(s: &[u8]) -> bool
+    ensures { λ r. ⌜ r ≡ all runOctet (now (s .entry)) ⌝ }
+{
+    let mut so_far = true;
+    let mut i = 0;
+    while i < s.len() {
+        so_far = both(so_far, is_run_octet(s[i]));
+        i += 1;
+    }
+    so_far
+}
+
+// The end of the run at `at`, octet by octet.
+fn past_octets(s: &[u8], at: usize) -> usize
+    requires { ⌜ at ≤ length (now s) ⌝ }
+    ensures { λ r. ⌜ Run runOctet (now (s .entry)) at r ⌝ }
+{
+    let mut i = at;
+    while i < s.len() {
+        if !is_run_octet(s[i]) {
+            return i;
+        }
+        i += 1;
+    }
+    i
+}
+
+// The end of the run at `at`: whole blocks first.
+fn past_run(s: &[u8], at: usize) -> usize
+    requires { ⌜ at ≤ length (now s) ⌝ }
+    ensures { λ r. ⌜ Run runOctet (now (s .entry)) at r ⌝ }
+{
+    let n = s.len();
+    let mut i = at;
+    while i < n {
+        if n - i < BLOCK {
+            return past_octets(&*s, i);
+        }
+        if !all_run(&s[i..i + BLOCK]) {
+            return past_octets(&*s, i);
+        }
+        i += BLOCK;
+    }
+    i
+}
+
+// The octet that c stands for behind a backslash; 0 where it may not stand there.
+fn unescaped(c: u8) -> u8
+    ensures { λ r. ⌜ StandsFor c r ⌝ }
+{
+    match c {
+        b'\\' => c,
+        b';' => c,
+        b',' => c,
+        b'n' => b'\n',
+        b'N' => b'\n',
+        _ => 0,
+    }
+}
+
+// What stands at i.
+fn step_at(s: &[u8], i: usize, sep: u8, other: u8) -> Step
+    requires { ⌜ i < length (now s) ⌝ }
+    ensures { λ r. ⌜ StepsAt sep other (now (s .entry)) i r ⌝ }
+{
+    let c = s[i];
+    if c == b'\\' {
+        let d = unescaped(peek(s, i + 1));
+        if d == 0 {
+            return Step::Invalid;
+        }
+        return Step::Octet(d, i + 2);
+    }
+    if c == sep {
+        return Step::Separator;
+    }
+    if c == other {
+        return Step::Invalid;
+    }
+    if !is_plain_octet(c) {
+        return Step::Invalid;
+    }
+    Step::Octet(c, i + 1)
+}
+
+// What stands behind a backslash for c in a string; 0 where c stands as it is.
+fn escape_of(c: u8) -> u8
+    ensures { λ r. ⌜ WrittenAs c r ⌝ }
+{
+    match c {
+        b'"' => c,
+        b'\\' => c,
+        b'\n' => b'n',
+        b'\t' => b't',
+        _ => 0,
+    }
+}
+
+// Writes one octet of a string.
+fn put_escaped(out: &mut [u8], at: usize, c: u8) -> usize
+    ensures { λ r. ⌜ Wrote (pen (now (out .entry)) at) (escaped c) (pen (now (out .exit)) r) ⌝ }
+{
+    let e = escape_of(c);
+    if e == 0 {
+        return put(out, at, c);
+    }
+    let q = put(out, at, b'\\');
+    put(out, q, e)
+}
+
+// Tests the texts between bare separators, writes them behind their first quote, as strings with a comma between them, and counts them.
+fn put_between(out: &mut [u8], at: usize, s: &[u8], sep: u8, other: u8) -> Texts
+    requires { ⌜ (runOctet sep ≡ false) × (runOctet other ≡ false) ⌝ }
+    ensures { λ r. ⌜ WroteTexts (textsFrom sep other false (now (s .entry))) (pen (now (out .entry)) at) (now (out .exit)) r ⌝ }
+{
+    let mut p = at;
+    let mut n = 1;
+    let mut i = 0;
+    loop {
+        let e = past_run(&*s, i);
+        let q = put_all(out, p, &s[i..e]);
+        if e == s.len() {
+            return Texts::Wrote(put(out, q, b'"'), n);
+        }
+        match step_at(&*s, e, sep, other) {
+            Step::Octet(c, j) => {
+                p = put_escaped(out, q, c);
+                i = j;
+            }
+            Step::Separator => {
+                p = put_all(out, q, b"\",\"");
+                n += 1;
+                i = e + 1;
+            }
+            Step::Invalid => {
+                return Texts::Invalid;
+            }
+        }
+    }
+}
+
+// Tests the texts between bare commas, one only where there may not be many, and writes each with a comma before it.
+pub fn put_tested_texts(out: &mut [u8], at: usize, s: &[u8], many: bool) -> Attempt
+    ensures { λ r. ⌜ Tried (guard (λ vs. many or single vs) (map? (map str) (texts (now (s .entry))))) valuesJson (pen (now (out .entry)) at) (now (out .exit)) r ⌝ }
+{
+    let first = put_all(out, at, b",\"");
+    match put_between(out, first, &*s, b',', b';') {
+        Texts::Wrote(q, n) => {
+            if many {
+                return Attempt::Wrote(q);
+            }
+            if n == 1 {
+                return Attempt::Wrote(q);
+            }
+            Attempt::Invalid
+        }
+        Texts::Invalid => Attempt::Invalid,
+    }
+}
+
+// Tests the two or three texts of REQUEST-STATUS, between bare semicolons, and writes an array of them.
+pub fn put_tested_status(out: &mut [u8], at: usize, s: &[u8]) -> Attempt
+    ensures { λ r. ⌜ Tried (readStatus (now (s .entry))) print (pen (now (out .entry)) at) (now (out .exit)) r ⌝ }
+{
+    let first = put_all(out, at, b"[\"");
+    match put_between(out, first, &*s, b';', b',') {
+        Texts::Wrote(q, n) => {
+            if n < 2 {
+                return Attempt::Invalid;
+            }
+            if n > 3 {
+                return Attempt::Invalid;
+            }
+            Attempt::Wrote(put(out, q, b']'))
+        }
+        Texts::Invalid => Attempt::Invalid,
+    }
+}
+
+// Tests that no control character but tab stands there, and writes a string.
+pub fn put_tested_plain(out: &mut [u8], at: usize, s: &[u8]) -> Attempt
+    ensures { λ r. ⌜ Tried (readPlain (now (s .entry))) print (pen (now (out .entry)) at) (now (out .exit)) r ⌝ }
+{
+    let mut p = put(out, at, b'"');
+    let mut i = 0;
+    loop {
+        let e = past_run(&*s, i);
+        let q = put_all(out, p, &s[i..e]);
+        if e == s.len() {
+            return Attempt::Wrote(put(out, q, b'"'));
+        }
+        let c = s[e];
+        if !is_plain_octet(c) {
+            return Attempt::Invalid;
+        }
+        p = put_escaped(out, q, c);
+        i = e + 1;
+    }
+}
+
+// Writes a string in uppercase.
+pub fn put_upper_string(out: &mut [u8], at: usize, s: &[u8]) -> usize
+    ensures { λ r. ⌜ Wrote (pen (now (out .entry)) at) (printString (upper (now (s .entry)))) (pen (now (out .exit)) r) ⌝ }
+{
+    let mut p = put(out, at, b'"');
+    let mut i = 0;
+    while i < s.len() {
+        p = put_escaped(out, p, upper_octet(s[i]));
+        i += 1;
+    }
+    put(out, p, b'"')
+}

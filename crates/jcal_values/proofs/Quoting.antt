@@ -1,0 +1,60 @@
+-- Octets that a JSON string holds as they are; and short texts.
+use Prim.Native.Nat.{ℕ, _-_}
+use Prim.Native.Char.{code}
+use mathlib.Core.Path.{_≡_, refl, sym, _∙_}
+use mathlib.Core.Bool.{Bool, true, false}
+use mathlib.Core.List.{List, [], _∷_, _++_}
+use mathlib.Core.Option.{Option, none, some}
+use borrow.Author.Tests.{not-true, eqb-true}
+use lib.Dec.{eqb}
+use Rattle.octets.specs.Basics.{_or_, all}
+use Rattle.octets.specs.Optional.{isSome, given}
+use Rattle.octets.proofs.Cases.{cases, never, both, neither, apart}
+use Rattle.calendar.specs.Texts.{octetsIn, textSaid, Says}
+use Rattle.calendar.specs.declared.texts.Text.{Text}
+use Rattle.json.specs.Print.{escaped, quoted, printString}
+use Rattle.json.specs.Promise.{bareOctet}
+use Rattle.values.specs.Shown.{stringShown}
+pub use Rattle.jcal_texts.proofs.Counts.{items-json}
+
+escaped-bare : (b : ℕ) → bareOctet b ≡ true → escaped b ≡ b ∷ []
+unfolding escaped bareOctet
+escaped-bare b e =
+    let w = neither (eqb b 34) (eqb b 92 or eqb b 10 or eqb b 9) (not-true _ e) in
+    let v = neither (eqb b 92) (eqb b 10 or eqb b 9) (w .1) in
+    let u = neither (eqb b 10) (eqb b 9) (v .1) in
+    rw (w .0, v .0, u .0, u .1)
+
+pub quoted-bare : (xs : List ℕ) → all bareOctet xs ≡ true → quoted xs ≡ xs ++ code "\"" ∷ []
+unfolding all quoted
+quoted-bare [] h = refl
+quoted-bare (x ∷ xs) h =
+    let b = both (bareOctet x) (all bareOctet xs) h in
+    rw (escaped-bare x (b .0), quoted-bare xs (b .1))
+
+-- a class without the octets that are escaped
+pub bare-class : (p : ℕ → Bool) → p 34 ≡ false → p 92 ≡ false → p 10 ≡ false → p 9 ≡ false → (c : ℕ) → p c ≡ true → bareOctet c ≡ true
+unfolding bareOctet
+bare-class p a b d e c h = rw (apart p c 34 h a, apart p c 92 h b, apart p c 10 h d, apart p c 9 h e)
+
+-- a short text that says what was read
+pub short-shown : (t : Text) (o : Option (List ℕ)) → Says t o → printString (octetsIn t) ≡ stringShown o
+unfolding stringShown
+short-shown t o w = cases (eqb (t .len) 0)
+    (λ e. let n = eqb-true (t .len) 0 e in
+    let q : o ≡ none = sym (w .text) ∙ unfold textSaid in rw e in
+    rw (n, q) (unfold given in refl))
+    (λ e. let q : o ≡ some (octetsIn t) = sym (w .text) ∙ unfold textSaid in rw e in
+    rw q (unfold given in refl))
+
+-- the end of a period: a moment, or what stands there in uppercase
+module _ (s : List ℕ) where
+  pub end-moment : (o : Option (List ℕ)) → isSome o ≡ true → stringShown o ≡ printString (given s (λ t. t) o)
+  unfolding stringShown isSome given
+  end-moment none e = never e refl
+  end-moment (some t) e = refl
+
+  pub end-other : (o : Option (List ℕ)) → isSome o ≡ false → printString s ≡ printString (given s (λ t. t) o)
+  unfolding isSome given
+  end-other none e = refl
+  end-other (some t) e = never refl e

@@ -1,0 +1,32 @@
+-- `jcal_values::forms::put_end` meets its contract.
+use mathlib.Core.Path.{sym, _∙_}
+use Rattle.octets.proofs.Pen.{as-text}
+use Rattle.values.specs.Shown.{endShown}
+use Rattle.jcal_values.proofs.Quoting.{end-moment, end-other}
+use borrow.Author.Needs.{needs}
+use Rattle.jcal_values.proofs.forms.put_end.Statement.{statement}
+use Rattle.jcal_values.proofs.forms.put_end.Tie as tie
+
+returns : tie.Need-returns
+unfolding endShown
+returns c =
+    let is-basic = c .before .before .before .before .before .is-basic in
+    as-text (c .before .before .put-form .ensures) (end-moment _ _ (sym (is-basic .ensures) ∙ c .before .before .before .before .if1 .taken))
+
+returns-2 : tie.Need-returns-2
+unfolding endShown
+returns-2 c =
+    let is-basic = c .before .before .before .before .before .is-basic in
+    as-text (c .before .before .put-upper-string .ensures) (end-other _ _ (sym (is-basic .ensures) ∙ c .before .before .before .before .if1 .left))
+
+pub put-end-spec : {M : Type 1} → statement M
+put-end-spec =
+    tie.close
+    (tie.spec
+    (λ c κs. search needs)
+    (λ c κs. search needs)
+    (λ c. search needs)
+    returns
+    (λ c κs. search needs)
+    (λ c. search needs)
+    returns-2)

@@ -1,0 +1,78 @@
+-- 01, Cases to prove together: one table, under one claim.
+use Prim.Native.Nat.{ℕ}
+use mathlib.Core.Path.{_≡_}
+use mathlib.Core.List.{List, [], _∷_, _++_}
+use Rattle.octets.specs.Basics.{octets, All}
+use Rattle.octets.specs.Answers.{refused, accepted}
+use Rattle.conversion_theory.specs.ToJcal.{toJcal}
+use Rattle.conversion_theory.specs.ToIcal.{toIcal}
+use Rattle.stops_page.specs.Printing.{printed}
+
+-- a calendar of one property: as a content line, and as jCal
+abbrev pub calendar : List ℕ → List ℕ
+calendar line = octets "BEGIN:VCALENDAR\r\n" ++ (line ++ octets "\r\nEND:VCALENDAR\r\n")
+
+abbrev pub jcal : List ℕ → List ℕ
+jcal property = octets "[\"vcalendar\",[" ++ (property ++ octets "],[]]")
+
+-- What a case says: under these rows the line has this property in jCal, or is refused; the property has this line in iCalendar; a whole text
+-- and this jCal are written as each other; for this input `stops` prints this page.
+pub data Case : Type 0 where
+  holds : List ℕ → List ℕ → List ℕ → Case
+  refuses : List ℕ → List ℕ → ℕ → Case
+  returns : List ℕ → List ℕ → List ℕ → Case
+  pairs : List ℕ → List ℕ → List ℕ → Case
+  prints : List ℕ → List ℕ → Case
+
+abbrev pub Holds : Case → Type 0
+Holds (holds rows line property) = toJcal rows (calendar line) ≡ accepted (jcal property)
+Holds (refuses rows line number) = toJcal rows (calendar line) ≡ refused number
+Holds (returns rows property line) = toIcal rows (jcal property) ≡ accepted (calendar line)
+Holds (pairs rows text j) = (toJcal rows text ≡ accepted j) × (toIcal rows j ≡ accepted text)
+Holds (prints input page) = printed input ≡ page
+
+abbrev pub none : List ℕ
+none = []
+
+-- X-TROUGH as a date-time, many values
+abbrev pub added : List ℕ
+added = octets "0501582D54524F554748\n"
+
+-- its line as it is sent, and its property in jCal without the row and with it
+abbrev pub sent : List ℕ
+sent = octets "X-TROUGH:20240229T060000Z"
+
+abbrev pub unlisted : List ℕ
+unlisted = octets "[\"x-trough\",{},\"unknown\",\"20240229T060000Z\"]"
+
+abbrev pub listed : List ℕ
+listed = octets "[\"x-trough\",{},\"date-time\",\"2024-02-29T06:00:00Z\"]"
+
+-- the line that says the type, for a table without the row
+abbrev pub stated : List ℕ
+stated = octets "X-TROUGH;VALUE=DATE-TIME:20240229T060000Z"
+
+abbrev pub cases : List Case
+cases =
+    holds none (octets "DTSTART;VALUE=DATE:20240229") (octets "[\"dtstart\",{},\"date\",\"2024-02-29\"]")
+    ∷ holds none (octets "DTSTART;VALUE=DATE:20000229") (octets "[\"dtstart\",{},\"date\",\"2000-02-29\"]")
+    ∷ refuses none (octets "DTSTART;VALUE=DATE:20230229") 9
+    ∷ refuses none (octets "DTSTART;VALUE=DATE:21000229") 9
+    ∷ refuses none (octets "DURATION:PT1H30S") 9
+    ∷ holds none (octets "X-LOAD;VALUE=FLOAT:+007.50") (octets "[\"x-load\",{},\"float\",7.50]")
+    ∷ holds none (octets "X-LOAD;X-NOTE=^^n:1") (octets "[\"x-load\",{\"x-note\":\"^n\"},\"unknown\",\"1\"]")
+    ∷ refuses none (octets "TZOFFSETTO:-0000") 9
+    ∷ refuses none (octets "PRIORITY:2147483648") 9
+    ∷ holds none (octets "PRIORITY:-2147483648") (octets "[\"priority\",{},\"integer\",-2147483648]")
+    ∷ prints (octets "20240228T180000\nFREQ=HOURLY;INTERVAL=12;COUNT=4\n10\n")
+    (octets "stops 4\n1 2024-02-28T18:00:00\n2 2024-02-29T06:00:00\n3 2024-02-29T18:00:00\n4 2024-03-01T06:00:00\n")
+    ∷ prints (octets "20240229\nFREQ=DAILY;INTERVAL=366\n2\n") (octets "stops 2\n1 2024-02-29\n2 2025-03-01\n")
+    ∷ holds none sent unlisted
+    ∷ holds added sent listed
+    ∷ returns none listed stated
+    ∷ pairs none (octets "BEGIN:VCALENDAR\r\nEND:VCALENDAR\r\n") (octets "[\"vcalendar\",[],[]]")
+    ∷ []
+
+-- THE CLAIM
+abbrev pub AllHold : Type 0
+AllHold = All Holds cases

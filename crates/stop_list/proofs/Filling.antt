@@ -1,0 +1,75 @@
+-- A list that is filled from the front: of `all` that is to be stored `rest` is left, and i places are done.
+use Prim.Native.Nat.{ℕ, _+_, _≤_, _<_}
+use mathlib.Core.Path.{_≡_, refl, sym, ap, subst, _∙_}
+use mathlib.Core.Bool.{true, false}
+use mathlib.Core.List.{List, [], _∷_, _++_, append-assoc, append-nil}
+use native.Mathlib.Omega.{arith}
+use native.Mathlib.Numerals.{add-one}
+use lib.ListN.{length, take, drop, set, length-set, take-append-drop}
+use lib.Seq.{take-suc-set, drop-set-lt, length-take-le, drop-drop}
+use Rattle.stop_list.specs.declared.Stop.{Stop}
+use Rattle.stop_list.specs.declared.runs.Run.{Run}
+use Rattle.stop_list.specs.Runs.{nextRun, stopsOf, Sound, Begins, Laid}
+use Rattle.stop_list.proofs.Running.{next-at, next-sound, next-stops, ended-stops}
+
+pub record Filling {A : Type 0} (all rest old new : List A) (i : ℕ) : Type 0 where
+  pub within : i ≤ length old
+  pub long : length new ≡ length old
+  pub front : take i new ++ rest ≡ all
+  pub behind : drop i new ≡ drop i old
+
+module _ {A : Type 0} (all old : List A) where
+  begins : Filling all all old old 0
+  begins = record { within = omega arith; long = refl; front = refl; behind = refl }
+
+  turns : (rest new : List A) (x : A) (i : ℕ) → i < length old → Filling all (x ∷ rest) old new i → Filling all rest old (set new i x) (i + 1)
+  turns rest new x i h f =
+      record {
+        within = omega arith;
+        long = length-set new i x ∙ f .long;
+        front = rw (add-one i, take-suc-set new i x (omega (arith, f .long)), append-assoc (take i new) (x ∷ []) rest) (f .front);
+        behind = rw (drop-set-lt (i + 1) new i x (omega arith)) (sym (drop-drop 1 i new) ∙ ap (drop 1) (f .behind) ∙ drop-drop 1 i old);
+      }
+
+  ends : (rest new : List A) (i : ℕ) → rest ≡ [] → Filling all rest old new i → (i ≡ length all) × (new ≡ all ++ drop i old)
+  ends rest new i e f = (
+    sym (length-take-le i new (rw (f .long) (f .within))) ∙ ap length whole,
+    sym (take-append-drop i new) ∙ ap (λ (l : List A). l ++ drop i new) whole ∙ ap (λ (l : List A). all ++ l) (f .behind),
+  )
+    where
+      whole : take i new ≡ all
+      whole = sym (append-nil (take i new)) ∙ ap (λ (l : List A). take i new ++ l) (sym e) ∙ f .front
+
+-- The loop that lists a run: it is at `run`, and the list is `new`.
+pub record Going (first : Run) (old : List Stop) (run : Run) (new : List Stop) : Type 0 where
+  pub sound : Sound run
+  pub room : run .room ≡ length old
+  pub long : length new ≡ length old
+  pub filling : Filling (stopsOf first) (stopsOf run) old new (run .at)
+
+module _ (first : Run) (old : List Stop) where
+  pub starts : Begins first (length old) → Going first old first old
+  starts b = record { sound = b .sound; room = b .whole; long = refl; filling = subst (λ n. Filling (stopsOf first) (stopsOf first) old old n) (sym (b .front)) (begins (stopsOf first) old) }
+
+  module _ (run : Run) (new : List Stop) (g : Going first old run new) where
+    pub at-place : run .more ≡ true → run .at < length new
+    at-place b = let l = g .sound .fits b in let r = g .room in let n = g .long in omega arith
+
+    pub goes-on : run .more ≡ true → Going first old (nextRun run) (set new (run .at) (run .stop))
+    goes-on b =
+        let a = next-at run (g .sound) b in
+        let l = g .sound .fits b in
+        let r = g .room in
+        record {
+          sound = next-sound run (g .sound) b;
+          room = a .1 ∙ g .room;
+          long = length-set new (run .at) (run .stop) ∙ g .long;
+          filling =
+              subst (λ n. Filling (stopsOf first) (stopsOf (nextRun run)) old (set new (run .at) (run .stop)) n) (sym (a .0))
+              (turns (stopsOf first) old (stopsOf (nextRun run)) new (run .stop) (run .at) (omega arith) (rw (next-stops run (g .sound) b) at (g .filling)));
+        }
+
+    pub stops : run .more ≡ false → Laid (stopsOf first) old new (run .at)
+    stops b =
+        let e = ends (stopsOf first) old (stopsOf run) new (run .at) (ended-stops run b) (g .filling) in
+        record { count = e .0; list = e .1 ∙ ap (λ n. stopsOf first ++ drop n old) (e .0) }

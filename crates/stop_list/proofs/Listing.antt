@@ -1,0 +1,111 @@
+-- What a plan's run lays into the list is the definition's answer.
+use Prim.Native.Nat.{ℕ}
+use mathlib.Core.Path.{_≡_, refl, ap, _∙_}
+use mathlib.Core.Bool.{Bool, true, not, false≢true}
+use mathlib.Core.List.{List, [], map}
+use mathlib.Core.Option.{Option, none, some}
+use native.Mathlib.Omega.{arith}
+use native.Mathlib.Nat.{sub-zero}
+use lib.Dec.{eqb}
+use lib.ListN.{length}
+use Rattle.octets.specs.Optional.{guard}
+use Rattle.octets.specs.Limits.{lastYear}
+use Rattle.octets.specs.Classes.{between}
+use Rattle.octets.specs.Answers.{Answer, accepted, then, orElse, unless}
+use Rattle.octets.specs.declared.Refusal.{Refusal}
+use Rattle.octets.proofs.Cases.{cases}
+use Rattle.octets.proofs.Optional.{guard-is}
+use Rattle.calendar.specs.Gregorian.{leapDay, months, monthDays, isDay}
+use Rattle.calendar.specs.Dates.{isClock}
+use Rattle.calendar.specs.Moments.{readMoment, isMoment}
+use Rattle.calendar.specs.Rules.{readRule}
+use Rattle.calendar.specs.declared.moments.Moment.{Moment}
+use Rattle.calendar.specs.declared.rules.Rule.{Rule}
+use Rattle.calendar.proofs.Real.{read-real}
+use Rattle.stop_list.specs.declared.Stop.{Stop}
+use Rattle.stop_list.specs.declared.Listed.{Listed}
+use Rattle.stop_list.specs.declared.Listed.the-variants.{Stops, Refused}
+use Rattle.stop_list.specs.declared.plans.Plan.{Plan}
+use Rattle.stop_list.specs.Stops.{startOf, hoursOf, served, momentsFrom, stop, listOf, answer, outcome}
+use Rattle.stop_list.specs.Runs.{runAt, stopsOf, realEnd, Begins, Laid}
+use Rattle.stop_list.specs.Plans.{idle, refusedFor, planned, planOf, concluded, told}
+use Rattle.stop_list.proofs.Running.{at-sound, stops-at, ended-stops}
+use Rattle.stop_list.proofs.Ends.{rule-real}
+
+-- a run with no stop
+idle-begins : (room : ℕ) → Begins (idle room) room
+unfolding idle
+idle-begins room =
+    record {
+      sound = record { real = first-real; end = tt; fits = λ e. absurd (false≢true e); allowed = λ e. absurd (false≢true e) };
+      front = refl;
+      whole = refl;
+    }
+  where
+    first-real : isMoment (idle room .stop .moment) ≡ true
+    first-real = unfold idle isMoment isDay isClock between lastYear monthDays months leapDay in refl
+
+idle-stops : (room : ℕ) → stopsOf (idle room) ≡ []
+idle-stops room = ended-stops (idle room) (unfold idle in refl)
+
+run-begins : (room h : ℕ) (m : Moment) (r : Rule) → isMoment m ≡ true → realEnd (r .end) → Begins (runAt 0 room (stop m) h (r .end)) room
+unfolding runAt
+run-begins room h m r a b = record { sound = at-sound 0 room (stop m) h (r .end) a b; front = refl; whole = refl }
+
+abbrev onTime : Moment → Bool
+onTime m = not (eqb (m .second) 60)
+
+module _ (start rule : List ℕ) where
+  planned-begins : (room : ℕ) (o : Option Moment) (q : Option Rule) → guard onTime (readMoment start) ≡ o → readRule rule ≡ q → Begins (planned o q room .run) room
+  unfolding planned refusedFor
+  planned-begins room none q e f = idle-begins room
+  planned-begins room (some m) none e f = idle-begins room
+  planned-begins room (some m) (some r) e f =
+      cases (served r (m .kind))
+      (λ s. rw s (run-begins room (hoursOf (r .frequency) (r .interval)) m r (read-real start m (guard-is onTime (readMoment start) m e .0)) (rule-real rule r f)))
+      (λ s. rw s (idle-begins room))
+
+  pub plan-begins : (room : ℕ) → Begins (planOf start rule room .run) room
+  unfolding planOf
+  plan-begins room = planned-begins room (guard onTime (readMoment start)) (readRule rule) refl refl
+
+  -- what a plan tells is the definition's answer, and a refusal has no stop
+  pub record Tells (p : Plan) (room : ℕ) : Type 0 where
+    pub answer : told (p .listed) (stopsOf (p .run)) ≡ listOf start rule room
+    pub none : (why : Refusal) → p .listed ≡ Refused why → stopsOf (p .run) ≡ []
+
+  served-stops : (m : Moment) (r : Rule) (room : ℕ) → isMoment m ≡ true → realEnd (r .end)
+      → stopsOf (runAt 0 room (stop m) (hoursOf (r .frequency) (r .interval)) (r .end)) ≡ map stop (momentsFrom room (hoursOf (r .frequency) (r .interval)) (r .end) (some m))
+  served-stops m r room a b = rw (sub-zero room) at (stops-at 0 room (stop m) (hoursOf (r .frequency) (r .interval)) (r .end) a b)
+
+  planned-tells : (room : ℕ) (o : Option Moment) (q : Option Rule) → guard onTime (readMoment start) ≡ o → readRule rule ≡ q → Tells (planned o q room) room
+  unfolding planned refusedFor told listOf startOf then orElse unless
+  planned-tells room none q e f = record { answer = rw e; none = λ why g. idle-stops room }
+  planned-tells room (some m) none e f = record { answer = rw (e, f); none = λ why g. idle-stops room }
+  planned-tells room (some m) (some r) e f =
+      cases (served r (m .kind))
+      (λ s.
+      rw s (record {
+        answer = rw (e, f, s) (ap accepted (served-stops m r room (read-real start m (guard-is onTime (readMoment start) m e .0)) (rule-real rule r f)));
+        none = λ why g. absurd (never g);
+      }))
+      (λ s. rw s (record { answer = rw (e, f, s); none = λ why g. idle-stops room }))
+    where
+      never : {why : Refusal} → Stops 0 ≡ Refused why → ⊥
+      never g = let z : _≡_ {A = ℕ} 0 1 = cc in omega arith
+
+  pub plan-tells : (room : ℕ) → Tells (planOf start rule room) room
+  unfolding planOf
+  plan-tells room = planned-tells room (guard onTime (readMoment start)) (readRule rule) refl refl
+
+-- laid into a list, that is what the list holds then
+laid-told : (d : Listed) (ss ys us : List Stop) (n : ℕ) → ((why : Refusal) → d ≡ Refused why → ss ≡ []) → Laid ss ys us n → outcome (concluded d n) us ≡ answer (told d ss) ys
+unfolding told concluded outcome answer
+laid-told (Stops k) ss ys us n h l = cc (l .count, l .list)
+laid-told (Refused why) ss ys us n h l = let e : us ≡ ys = (rw (h why refl) at (l .list)) in rw e
+
+pub plan-lists : (start rule : List ℕ) (ys us : List Stop) (n : ℕ) → Laid (stopsOf (planOf start rule (length ys) .run)) ys us n
+    → outcome (concluded (planOf start rule (length ys) .listed) n) us ≡ answer (listOf start rule (length ys)) ys
+plan-lists start rule ys us n l =
+    let t = plan-tells start rule (length ys) in
+    laid-told _ _ ys us n (t .none) l ∙ ap (λ (a : Answer (List Stop)). answer a ys) (t .answer)

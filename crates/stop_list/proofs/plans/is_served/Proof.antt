@@ -1,0 +1,30 @@
+-- `stop_list::plans::is_served` meets its contract: its tests are the definition's, in their order.
+use mathlib.Core.Path.{sym, _∙_}
+use borrow.Author.Tests.{not-true, not-false}
+use borrow.Author.Needs.{needs}
+use Rattle.stop_list.specs.Stops.{served}
+use Rattle.stop_list.proofs.plans.is_served.Statement.{statement}
+use Rattle.stop_list.proofs.plans.is_served.Tie as tie
+
+returns : tie.Need-returns
+unfolding served
+returns c = rw (sym (c .before .is-frequency-served .ensures) ∙ not-true _ (c .if1 .taken))
+
+returns-2 : tie.Need-returns-2
+unfolding served
+returns-2 c = rw (sym (c .before .before .before .is-frequency-served .ensures) ∙ not-false _ (c .before .before .if1 .left), sym (c .before .has-by .ensures) ∙ c .if2 .taken)
+
+returns-3 : tie.Need-returns-3
+unfolding served
+returns-3 c = rw (sym (c .before .before .before .before .is-frequency-served .ensures) ∙ not-false _ (c .before .before .before .if1 .left), sym (c .before .before .has-by .ensures) ∙ c .before .if2 .left) (c .is-end-served .ensures)
+
+pub is-served-spec : {M : Type 1} → statement M
+is-served-spec =
+    tie.close
+    (tie.spec
+    (λ c κs. search needs)
+    returns
+    (λ c κs. search needs)
+    returns-2
+    (λ c κs. search needs)
+    returns-3)

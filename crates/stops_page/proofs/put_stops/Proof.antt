@@ -1,0 +1,50 @@
+-- `stops_page::put_stops` meets its contract: what is written is followed by the stops ahead.
+use Prim.Native.Nat.{_+_}
+use mathlib.Core.Path.{_≡_, refl}
+use native.Mathlib.Omega.{arith}
+use lib.ListN.{length}
+use Rattle.octets.proofs.Pen.{Leads, leads-start, leads-on, leads-end}
+use Rattle.octets.specs.Pen.{pen}
+use Rattle.stop_list.specs.Runs.{stopsOf, Sound}
+use Rattle.stops_page.proofs.Showing.{on-sound, on-length, on-shown, end-shown}
+use Rattle.stops_page.specs.Printing.{stopsShown}
+use borrow.Author.Needs.{needs}
+use Rattle.stops_page.proofs.put_stops.Statement.{statement}
+use Rattle.stops_page.proofs.put_stops.Tie as tie
+
+abbrev Inv-loop : tie.InvT-loop
+Inv-loop out₀ at to₀ run₀ out to run = Sound run × (length out ≡ length out₀) × Leads (pen out₀ at) (stopsShown (run₀ .at + 1) (stopsOf run₀)) (pen out to) (stopsShown (run .at + 1) (stopsOf run))
+
+abbrev μ-loop : tie.MeasureT-loop
+μ-loop out₀ at to₀ run₀ out to run = length (stopsOf run)
+
+add-put-stop : tie.Need-add-put-stop Inv-loop μ-loop
+add-put-stop c = let f = c .before .before .before .loop .inv .0 .fits (c .before .before .loop-test .taken) in omega arith
+
+loop-less : tie.Need-loop-less Inv-loop μ-loop
+loop-less c = let l = on-length _ _ (c .before .before .before .before .before .before .before .loop .inv .0) (c .before .before .before .before .before .before .loop-test .taken) (c .advance .ensures) in omega (arith, l)
+
+loop-again : tie.Need-loop-again Inv-loop μ-loop
+loop-again c = (
+  on-sound _ _ (c .before .before .before .before .before .before .before .loop .inv .0) (c .before .before .before .before .before .before .loop-test .taken) (c .advance .ensures),
+  omega arith,
+  leads-on (c .before .before .before .before .before .before .before .loop .inv .2) (c .before .before .before .put-stop .ensures) (on-shown _ _ (c .before .before .before .before .before .before .before .loop .inv .0) (c .before .before .before .before .before .before .loop-test .taken) (c .advance .ensures)),
+)
+
+returns : tie.Need-returns Inv-loop μ-loop
+returns c = leads-end (c .before .loop .inv .2) (end-shown _ _ (c .loop-test .left))
+
+pub put-stops-spec : {M : Type 1} → statement M
+put-stops-spec =
+    tie.close
+    (tie.spec
+    Inv-loop
+    μ-loop
+    (λ c. (c .before .pre, refl, leads-start))
+    add-put-stop
+    (λ c κs. search needs)
+    (λ c κs. search needs)
+    loop-less
+    loop-again
+    (λ c. search needs)
+    returns)

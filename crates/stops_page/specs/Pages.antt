@@ -1,0 +1,59 @@
+-- The pieces of what is printed, as the code has them: a moment's front, the last line's number, and the lines.
+use Prim.Native.Nat.{ℕ, _-_, _*_, min}
+use Prim.Native.Char.{code}
+use mathlib.Core.Path.{_≡_}
+use mathlib.Core.Bool.{Bool, true, false}
+use mathlib.Core.List.{List, _∷_}
+use mathlib.Core.Option.{Option, none, some}
+use lib.Dec.{leb}
+use lib.ListN.{take, drop}
+use Rattle.octets.specs.Basics.{_and_}
+use Rattle.octets.specs.Pieces.{split}
+use Rattle.calendar.specs.declared.rules.End.{End}
+use Rattle.calendar.specs.declared.rules.End.the-variants.{Count, Until, Open}
+use Rattle.calendar.specs.declared.moments.Kind.{Kind}
+use Rattle.calendar.specs.declared.moments.Kind.the-variants.{Day, Local, Utc}
+use Rattle.stop_list.specs.declared.Stop.{Stop}
+use Rattle.stop_list.specs.declared.StopMoved.{StopMoved}
+use Rattle.stop_list.specs.declared.StopMoved.the-variants.{At, Past, NoMoment}
+use Rattle.stop_list.specs.Stops.{stopOn, listOf, answer, outcome}
+use Rattle.stops_page.specs.declared.Most.{Most}
+use Rattle.stops_page.specs.declared.Most.the-variants.{Is, NoNumber}
+use Rattle.stops_page.specs.declared.Page.{Page}
+use Rattle.stops_page.specs.Printing.{chop, lines, linesShown}
+
+-- how many octets of a moment as it is shown in UTC are shown for a kind
+unfoldable pub shownLength : Kind → ℕ
+shownLength Day = 10
+shownLength Local = 19
+shownLength Utc = 20
+
+-- how many stops a COUNT and the room leave; 0 where UNTIL ends them
+unfoldable pub allowedBy : End → ℕ → ℕ
+allowedBy (Count n) room = min n room
+allowedBy (Until u) room = 0
+allowedBy Open room = room
+
+-- a stop that is moved on is there
+abbrev pub isThere : StopMoved → Bool
+isThere (At s) = true
+isThere Past = false
+isThere NoMoment = false
+
+-- the last of n stops, h hours apart, is not past the last day; asked of numbers whose product is a word
+unfoldable pub reached : Stop → ℕ → ℕ → Bool
+reached s h n = leb 1 n and leb n 100000000 and leb h 100000000 and isThere (stopOn s ((n - 1) * h))
+
+-- what a read number says
+abbrev pub mostSaid : Most → Option ℕ
+mostSaid (Is n) = some n
+mostSaid NoNumber = none
+
+-- the answer for as many records of a list as are asked for, and the list then: the records behind them are as before
+pub record Lists (list : List Stop) (start rule : List ℕ) (most : ℕ) (p : Page) : Type 0 where
+  pub front : outcome (p .listed) (take most (p .list)) ≡ answer (listOf start rule most) (take most list)
+  pub behind : drop most (p .list) ≡ drop most list
+
+-- two lines, and what stands behind them
+unfoldable pub thirdShown : List ℕ → List ℕ → List ℕ → List ℕ
+thirdShown a b s = linesShown (chop a ∷ chop b ∷ lines (split (code "\n") s))
