@@ -1,6 +1,8 @@
 // The conversion to iCalendar: the tests in the order of their numbers, then the lines.
 use super::Conversion;
 use super::components::convert_component;
+use ical_skeleton::Shape;
+use ical_skeleton::shape_of;
 use json::Parsed;
 use json::parse;
 use octets::Converted;
@@ -10,8 +12,6 @@ use octets::Refusal;
 use octets::finish;
 use octets::is_utf8;
 use octets::refuse;
-use ical_skeleton::Shape;
-use ical_skeleton::shape_of;
 use tape::is_sound;
 use types::ROOM_FOR_ROWS;
 use types::read_rows;

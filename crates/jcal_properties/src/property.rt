@@ -27,6 +27,7 @@ use content::name_twice;
 use content::parts_of;
 use content::put_params;
 use content::value_type;
+use jcal_texts::Attempt;
 use jcal_values::put_tested;
 use octets::Refusal;
 use octets::put;
@@ -36,7 +37,6 @@ use types::code_named;
 use types::find;
 use types::put_type_name;
 use values::sort_of;
-use jcal_texts::Attempt;
 
 // The code of the type of a property that is written up to its values, and the place behind; or why it is refused.
 enum Fronted {

@@ -14,12 +14,12 @@ use calendar::texts::Form;
 use calendar::texts::Text;
 use calendar::texts::extended;
 use calendar::texts::is_basic;
+use jcal_texts::Attempt;
+use jcal_texts::put_upper_string;
 use json::put_string;
 use octets::put;
 use octets::put_all;
 use values::simple::past;
-use jcal_texts::Attempt;
-use jcal_texts::put_upper_string;
 
 // Writes a short text as a string.
 pub(crate) fn put_short(out: &mut [u8], at: usize, t: Text) -> usize

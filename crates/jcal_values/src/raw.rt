@@ -13,10 +13,10 @@ ghost use Rattle.jcal_values.specs.Attempts.{Attempted};
 ghost use Rattle.jcal_values.specs.Parts.{firstEnd, pieces};
 use crate::single::put_tested_one;
 use calendar::parts::find;
-use octets::put;
-use values::Sort;
 use jcal_texts::Attempt;
 use jcal_texts::put_tested_texts;
+use octets::put;
+use values::Sort;
 
 // Where the first value ends: at a comma, where values of the sort split.
 fn value_end(sort: Sort, s: &[u8]) -> usize

@@ -12,6 +12,10 @@ use crate::recur::put_recur;
 use calendar::durations::is_duration;
 use calendar::rules::is_rule;
 use calendar::texts::Form;
+use jcal_texts::Attempt;
+use jcal_texts::put_tested_plain;
+use jcal_texts::put_tested_status;
+use jcal_texts::put_upper_string;
 use json::put_string;
 use octets::put_integer_text;
 use values::Sort;
@@ -24,10 +28,6 @@ use values::simple::is_period;
 use values::simple::put_boolean;
 use values::simple::put_float;
 use values::simple::put_geo;
-use jcal_texts::Attempt;
-use jcal_texts::put_tested_plain;
-use jcal_texts::put_tested_status;
-use jcal_texts::put_upper_string;
 
 // The answer behind what is written up to q, by whether the value stands.
 fn attempt(stands: bool, q: usize) -> Attempt

@@ -2,12 +2,12 @@
 use crate::parts::before;
 use crate::parts::behind;
 use crate::parts::stands;
+use jcal_texts::Attempt;
 use jcal_values::put_tested;
 use octets::same;
 use types::code_named;
 use values::Sort;
 use values::sort_of;
-use jcal_texts::Attempt;
 
 // What is written up to `end` is these values, with a comma before them.
 fn are_values(out: &[u8], end: usize, want: &[u8]) -> bool {
