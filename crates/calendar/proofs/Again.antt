@@ -23,7 +23,7 @@ use Rattle.octets.proofs.Decimal.{DigitFirst, digits-first, trim-first, trim-tw
 use Rattle.octets.proofs.Pieces.{Free, split-last, split-part, list-again}
 use Rattle.octets.proofs.Utf8.{printable-clean}
 use Rattle.calendar.specs.Dates.{momentOf}
-use Rattle.calendar.specs.Recurrence.{Sort, frequency, moment, count, weekday, ordinal, numbers, Key, keys, keyIn, keyNamed, frequencies, weekdays, wordOf, untilOf, countOf, numberOf, ordinalOf, dayOf, itemOf, several, Part, part, keyedPart, partOf, partsOf, partText, partsText}
+use Rattle.calendar.specs.Recurrence.{PartSort, frequency, moment, count, weekday, ordinal, numbers, Key, keys, keyIn, keyNamed, frequencies, weekdays, wordOf, untilOf, countOf, numberOf, ordinalOf, dayOf, itemOf, several, Part, part, keyedPart, partOf, partsOf, partText, partsText}
 use Rattle.octets.proofs.Optional.{when-is, guard-is}
 use Rattle.calendar.proofs.Options.{map-is, then-is}
 use Rattle.calendar.proofs.Octets.{itemOctet, item-octets}
@@ -112,7 +112,7 @@ day-again s v e =
     word-again : (ws : List (List ℕ)) (s v : List ℕ) → wordOf ws s ≡ some v → wordOf ws v ≡ some v
     word-again ws s v e = unfold wordOf in kept-again (λ x. among x ws) s v (unfold wordOf in e)
 
-pub item-again : (sort : Sort) (s v : List ℕ) → itemOf sort s ≡ some v → itemOf sort v ≡ some v
+pub item-again : (sort : PartSort) (s v : List ℕ) → itemOf sort s ≡ some v → itemOf sort v ≡ some v
 unfolding itemOf wordOf untilOf
 item-again frequency s v e = kept-again (λ x. among x frequencies) s v e
 item-again moment s v e = kept-again (λ x. isSome (momentOf x)) s v e
@@ -122,7 +122,7 @@ item-again ordinal s v e = day-again s v e
 item-again (numbers signed most lo hi) s v e = number-again signed most lo hi s v e
 
 -- the octets of a value as it was read
-pub value-octets : (sort : Sort) (s v : List ℕ) → itemOf sort s ≡ some v → all itemOctet v ≡ true
+pub value-octets : (sort : PartSort) (s v : List ℕ) → itemOf sort s ≡ some v → all itemOctet v ≡ true
 value-octets sort s v e = item-octets sort v v (item-again sort s v e)
 
 -- The values of a part, and the part.
@@ -146,10 +146,10 @@ unfolding itemOctet isUpper isDigit isSign between
 no-semicolon = refl
 
 -- no separator stands in a value as it was read
-pub value-free : (sep : ℕ) → itemOctet sep ≡ false → (sort : Sort) (s v : List ℕ) → itemOf sort s ≡ some v → Free sep v
+pub value-free : (sep : ℕ) → itemOctet sep ≡ false → (sort : PartSort) (s v : List ℕ) → itemOf sort s ≡ some v → Free sep v
 value-free sep n sort s v e = free-of sep n v (value-octets sort s v e)
 
-items-again : (sort : Sort) (v : List ℕ) (vs : List (List ℕ)) → each (itemOf sort) (split (code ",") v) ≡ some vs → each (itemOf sort) (split (code ",") (joined (code ",") vs)) ≡ some vs
+items-again : (sort : PartSort) (v : List ℕ) (vs : List (List ℕ)) → each (itemOf sort) (split (code ",") v) ≡ some vs → each (itemOf sort) (split (code ",") (joined (code ",") vs)) ≡ some vs
 items-again sort v vs e =
     rw (map-same vs) at (list-again (code ",") (itemOf sort) (λ l. l)
     (λ s a f d. (item-again sort s a d, value-free (code ",") no-comma sort s a d)) v vs e)

@@ -14,7 +14,7 @@ use Rattle.octets.specs.Classes.{upperOctet, upper}
 use Rattle.octets.proofs.Classes.{map-length}
 use Rattle.calendar.specs.Forms.{Slot, fits, extended, basic, dateForm, clockForm, utc, timeForm, dateTimeForm, offsetForm}
 use Rattle.calendar.specs.Dates.{dateOf, timeOf, dateTimeOf, offsetOf, dateIs, timeIs, dateTimeIs, offsetIs, dateText, timeText, dateTimeText, offsetText}
-use Rattle.calendar.specs.Texts.{formOf, formIs, formText, octetsIn, textSaid, Says, Carries, isAdded, placeAt, slotAt, slots, shape, shaped, numbersIn, taken}
+use Rattle.calendar.specs.Texts.{formOf, formIs, formText, octetsIn, textSaid, Says, Carries, isAdded, placeAt, slotAt, slots, shape, shaped, numbersIn, readForm}
 use Rattle.calendar.specs.declared.texts.Form.{Form}
 use Rattle.calendar.specs.declared.texts.Form.the-variants.{Date, Time, DateTime, Offset}
 use Rattle.calendar.specs.declared.texts.Text.{Text}
@@ -47,8 +47,8 @@ unfolding shaped
 reads-shape true f form s e = whole-text form s ∙ ap (λ g. when (fits g s) s) e
 reads-shape false f form s e = ap (λ g. extended g s) e
 
-pub form-taken : (f : Form) (s : List ℕ) → taken false f s ≡ formOf f s
-unfolding taken shaped shape numbersIn dateOf timeOf dateTimeOf offsetOf
+pub form-taken : (f : Form) (s : List ℕ) → readForm false f s ≡ formOf f s
+unfolding readForm shaped shape numbersIn dateOf timeOf dateTimeOf offsetOf
 form-taken Date s = refl
 form-taken Time s = refl
 form-taken DateTime s = refl
@@ -63,8 +63,8 @@ guard-when p true t = at (p t)
     at true = unfold when isSome in refl
     at false = unfold when isSome in refl
 
-pub form-is : (f : Form) (t : List ℕ) → isSome (taken true f t) ≡ formIs f t
-unfolding taken shaped shape numbersIn dateIs timeIs dateTimeIs offsetIs
+pub form-is : (f : Form) (t : List ℕ) → isSome (readForm true f t) ≡ formIs f t
+unfolding readForm shaped shape numbersIn dateIs timeIs dateTimeIs offsetIs
 form-is Date t = guard-when _ _ t
 form-is Time t = guard-when _ _ t
 form-is DateTime t = guard-when _ _ t
@@ -129,8 +129,8 @@ pub written-by : (b : Bool) (f : Form) (s : List ℕ) → leb (longFrom true f) 
 written-by b f s e i r = rw i (record { octets = r .octets ∙ form-text f (places f b) (upper s) (shape-places true f s b e); room = r .room })
 
 -- a text that is read passes the test of its numbers, or there is none; a text that fails it is taken back
-pub passes : (whole : Bool) (f : Form) (s : List ℕ) (t : Text) → Says t (shaped whole f s) → ((t .len ≡ 0 → ⊥) → numbersIn f (octetsIn t) ≡ true) → Says t (taken whole f s)
-unfolding taken guard when
+pub passes : (whole : Bool) (f : Form) (s : List ℕ) (t : Text) → Says t (shaped whole f s) → ((t .len ≡ 0 → ⊥) → numbersIn f (octetsIn t) ≡ true) → Says t (readForm whole f s)
+unfolding readForm guard when
 passes whole f s t r p = record { text = go (eqb (t .len) 0) refl; room = r .room }
   where
     go : (b : Bool) → eqb (t .len) 0 ≡ b → textSaid t ≡ guard (numbersIn f) (shaped whole f s)
@@ -143,8 +143,8 @@ passes whole f s t r p = record { text = go (eqb (t .len) 0) refl; room = r .roo
         h ∙ sym (ap (guard (numbersIn f)) (sym (r .text) ∙ h) ∙ rw (p n))
 
 pub fails : (whole : Bool) (f : Form) (s o : List ℕ) (t : Text) → Says t (shaped whole f s) → numbersIn f (octetsIn t) ≡ false
-    → Says (record { octets = o; len = 0 }) (taken whole f s)
-unfolding taken guard when
+    → Says (record { octets = o; len = 0 }) (readForm whole f s)
+unfolding readForm guard when
 fails whole f s o t r p = record { text = says-none _ refl ∙ sym (go (eqb (t .len) 0) refl); room = omega arith }
   where
     go : (b : Bool) → eqb (t .len) 0 ≡ b → guard (numbersIn f) (shaped whole f s) ≡ none

@@ -24,7 +24,7 @@ use Rattle.calendar.specs.Moments.{momentFrom, readMoment}
 use Rattle.calendar.specs.Recurrence.{frequency, Key, key, keys, frequencies, weekdays, wordOf, untilOf, countOf, itemOf, several, Part, part, keyedPart, names, isRule}
 use Rattle.calendar.specs.Walk.{keyAt}
 use Rattle.calendar.specs.Rules.{firstOf, valueNamed, frequencyOf, weekdayOf, untilMoment, endOf, byParts, ruleFrom}
-use Rattle.calendar.specs.Reading.{headFrom, counted, lastOf, withValue, barred, bySeen, ruleRead}
+use Rattle.calendar.specs.Reading.{headFrom, counted, lastOf, withPart, barred, bySeen, ruleRead}
 use Rattle.calendar.specs.declared.rules.Frequency.the-variants.{Yearly}
 use Rattle.calendar.specs.declared.rules.Weekday.the-variants.{Monday}
 use Rattle.calendar.specs.declared.rules.End.{End}
@@ -279,8 +279,8 @@ module _ (ps : List Part) (p : Part) (i : ℕ) (v : List ℕ) (h : i < 14) (name
       (λ d. rw d (ap Count (count-value v (firstOf (p .values)) (unfold itemOf in value-at 2 (unfold several in refl) d))))
       (λ d. rw d)))
 
-  head-step : (eqb i 1 ≡ true → among (octets "COUNT") (names ps) ≡ false) → headFrom (ps ++ p ∷ []) ≡ withValue (headFrom ps) i v
-  unfolding headFrom withValue
+  head-step : (eqb i 1 ≡ true → among (octets "COUNT") (names ps) ≡ false) → headFrom (ps ++ p ∷ []) ≡ withPart (headFrom ps) i v
+  unfolding headFrom withPart
   head-step clash = rw (frequency-step, interval-step, end-step clash, wkst-step)
 
 -- The parts that were read of `all`, what is left of it, which keys there were, and what they say.
@@ -359,14 +359,14 @@ module _ {all : Option (List Part)} {seen : List Bool} {head : Head} (left : Opt
       rw (among-part (octets "COUNT") (g .parts) p, among-part (octets "UNTIL") (g .parts) p, named, names-apart i 2 h (omega arith), names-apart i 1 h (omega arith))
       (alone-by _ _ (eqb i 2) (eqb i 1) (g .alone) no-count no-until (λ e. ne-eqb i 1 (λ z. let o = eqb-true i 2 e in omega arith)))
 
-  pub gathered-more : Gathered all left (set seen i true) (withValue head i v)
+  pub gathered-more : Gathered all left (set seen i true) (withPart head i v)
   gathered-more = record {
     parts = g .parts ++ p ∷ [];
     whole = g .whole ∙ longer left;
     once = ap twice (names-one (g .parts) p) ∙ twice-more (names (g .parts)) (p .name) ∙ or-false (g .once) (ap (λ (n : List ℕ). among n (names (g .parts))) named ∙ unseen);
     alone = alone-still;
     marks = ap (λ (l : List Bool). set l i true) (g .marks) ∙ sym (present-more (g .parts) p i h named);
-    says = ap (λ (x : Head). withValue x i v) (g .says) ∙ sym (head-step (g .parts) p i v h named unseen read no-count);
+    says = ap (λ (x : Head). withPart x i v) (g .says) ∙ sym (head-step (g .parts) p i v h named unseen read no-count);
   }
 
 -- nothing can be read behind the parts so far

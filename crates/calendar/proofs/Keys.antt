@@ -16,7 +16,7 @@ use Rattle.octets.proofs.Cases.{cases, never}
 use Rattle.octets.proofs.Classes.{same-length}
 use Rattle.octets.proofs.Positions.{upto}
 use Rattle.calendar.specs.Recurrence.{frequency, Key, key, keys}
-use Rattle.calendar.specs.Walk.{before, wordPlace, placeFrom, keyNames, keyPlace, keyAt, partAt, keyed, partIn, firstPart}
+use Rattle.calendar.specs.Walk.{beforeFirst, wordPlace, wordPlaceFrom, keyNames, keyPlace, keyAt, partAt, keyed, partIn, firstPart}
 use Rattle.calendar.proofs.Pieces.{before-take, upper-length}
 
 pub key-count : length keys ≡ 14
@@ -45,8 +45,8 @@ other-length w n k l q = same-length w n (λ e. never (eq-eqb k (length w) (sym 
 later : (i k : ℕ) → suc i + k ≡ i + suc k
 later i k = omega arith
 
-place-from : (i k : ℕ) (ws : List (List ℕ)) (n : List ℕ) → length n ≡ k → placeFrom i k ws n ≡ i + wordPlace ws n
-unfolding placeFrom wordPlace
+place-from : (i k : ℕ) (ws : List (List ℕ)) (n : List ℕ) → length n ≡ k → wordPlaceFrom i k ws n ≡ i + wordPlace ws n
+unfolding wordPlaceFrom wordPlace
 place-from i k [] n l = omega arith
 place-from i k (w ∷ ws) n l = cases (eqb k (length w))
     (λ q. cases (same w n)
@@ -54,19 +54,19 @@ place-from i k (w ∷ ws) n l = cases (eqb k (length w))
     (λ e. rw (q, e) (place-from (suc i) k ws n l ∙ later i (wordPlace ws n))))
     (λ q. rw (q, other-length w n k l q) (place-from (suc i) k ws n l ∙ later i (wordPlace ws n)))
 
-pub word-by : (ws : List (List ℕ)) (k : ℕ) (n : List ℕ) → length n ≡ k → placeFrom 0 k ws (upper n) ≡ wordPlace ws (upper n)
+pub word-by : (ws : List (List ℕ)) (k : ℕ) (n : List ℕ) → length n ≡ k → wordPlaceFrom 0 k ws (upper n) ≡ wordPlace ws (upper n)
 word-by ws k n l = place-from 0 k ws (upper n) (upper-length n ∙ l) ∙ zero-add (wordPlace ws (upper n))
 
-pub place-by : (k : ℕ) (n : List ℕ) → length n ≡ k → placeFrom 0 k keyNames (upper n) ≡ keyPlace (upper n)
+pub place-by : (k : ℕ) (n : List ℕ) → length n ≡ k → wordPlaceFrom 0 k keyNames (upper n) ≡ keyPlace (upper n)
 unfolding keyPlace
 place-by k n l = word-by keyNames k n l
 
 -- the part that a text begins with: `to` and n are where the scans ended, and k is the name's place
-module _ (s : List ℕ) (to n k : ℕ) (ends : to ≡ length (before (code ";") s)) (named : n ≡ length (before (code "=") (take (to - 0) (drop 0 s)))) where
-  whole : before (code ";") s ≡ take to s
+module _ (s : List ℕ) (to n k : ℕ) (ends : to ≡ length (beforeFirst (code ";") s)) (named : n ≡ length (beforeFirst (code "=") (take (to - 0) (drop 0 s)))) where
+  whole : beforeFirst (code ";") s ≡ take to s
   whole = rw ends (before-take (code ";") s)
 
-  name-length : length (before (code "=") (before (code ";") s)) ≡ n
+  name-length : length (beforeFirst (code "=") (beforeFirst (code ";") s)) ≡ n
   name-length = rw (whole, ← (upto s to)) (sym named)
 
   pub first-keyed : n < to → k ≡ keyPlace (upper (take (n - 0) (drop 0 s))) → partAt k n (n + 1) to ≡ firstPart s

@@ -17,8 +17,8 @@ use Rattle.octets.specs.Classes.{upper}
 use Rattle.octets.proofs.Cases.{cases, never}
 use Rattle.octets.proofs.Pieces.{split-filled}
 use Rattle.octets.proofs.Positions.{from, upto}
-use Rattle.calendar.specs.Recurrence.{Sort, itemOf, several}
-use Rattle.calendar.specs.Walk.{before}
+use Rattle.calendar.specs.Recurrence.{PartSort, itemOf, several}
+use Rattle.calendar.specs.Walk.{beforeFirst}
 use Rattle.calendar.specs.Reading.{valuesStand}
 use Rattle.calendar.proofs.Pieces.{comma-uncased, scanned}
 use Rattle.calendar.proofs.Walk.{each-more, each-last, both-is}
@@ -59,7 +59,7 @@ each-filled f [] n e = n refl
 each-filled f (l ∷ ls) n e = let b = both-is (f l) (each f ls) [] (unfold each in e) in let z : _≡_ {A = ℕ} 0 1 = cc (b .whole) in omega arith
 
 -- a turn, which tests the value at `at`
-module _ (sort : Sort) (v : List ℕ) (at e : ℕ) (b : Bool) (is : e ≡ length (before (code ",") (take (length v - at) (drop at v))))
+module _ (sort : PartSort) (v : List ℕ) (at e : ℕ) (b : Bool) (is : e ≡ length (beforeFirst (code ",") (take (length v - at) (drop at v))))
     (told : b ≡ isSome (itemOf sort (upper (take (e - 0) (drop 0 (take (length v - at) (drop at v))))))) where
   abbrev rest : List ℕ
   rest = drop at v

@@ -18,7 +18,7 @@ use Rattle.calendar.specs.Forms.{Slot, digit, sign, letter, added, kept,
 use Rattle.calendar.specs.Dates.{dateOf, dateTimeOf, momentOf}
 use Rattle.octets.proofs.Optional.{when-is, guard-is}
 use Rattle.calendar.proofs.Options.{map-is, then-is}
-use Rattle.calendar.specs.Recurrence.{Sort, frequency, moment, count, weekday, ordinal, numbers, frequencies, weekdays, wordOf, untilOf, countOf, numberOf, ordinalOf, dayOf, itemOf}
+use Rattle.calendar.specs.Recurrence.{PartSort, frequency, moment, count, weekday, ordinal, numbers, frequencies, weekdays, wordOf, untilOf, countOf, numberOf, ordinalOf, dayOf, itemOf}
 
 unfoldable pub itemOctet : ℕ → Bool
 itemOctet c = isUpper c or isDigit c or isSign c
@@ -136,7 +136,7 @@ moment-octets s v e = by (dateOf s) refl (dateTimeOf s) refl (when-is _ s v e .0
     by (some t) d p m h = unfold dateOf in form-octets dateForm s t date-lettered (guard-is _ _ t d .0)
 
 -- the octets of a value that is taken
-pub item-octets : (sort : Sort) (s v : List ℕ) → itemOf sort s ≡ some v → all itemOctet s ≡ true
+pub item-octets : (sort : PartSort) (s v : List ℕ) → itemOf sort s ≡ some v → all itemOctet s ≡ true
 unfolding itemOf
 item-octets frequency s v e = word-octets frequencies frequency-octets s v e
 item-octets moment s v e = moment-octets s v e

@@ -16,7 +16,7 @@ use Rattle.octets.specs.Pieces.{split, onto, cut}
 use Rattle.octets.proofs.Cases.{cases, apart}
 use Rattle.octets.proofs.Classes.{between-true, within-between, map-length}
 use Rattle.octets.proofs.Positions.{here, ended, from}
-use Rattle.calendar.specs.Walk.{before}
+use Rattle.calendar.specs.Walk.{beforeFirst}
 
 -- the piece before the first separator
 le-by : (b : Bool) (c : ℕ) (l s : List ℕ) → length l ≤ length s → length (pick b [] (c ∷ l)) ≤ suc (length s)
@@ -40,49 +40,49 @@ last-by true c l s ls h ih = absurd (omega arith)
 last-by false c l s ls h ih = rw (ih (omega arith))
 
 module _ (sep : ℕ) where
-  pub before-le : (s : List ℕ) → length (before sep s) ≤ length s
-  unfolding before
+  pub before-le : (s : List ℕ) → length (beforeFirst sep s) ≤ length s
+  unfolding beforeFirst
   before-le [] = omega arith
-  before-le (c ∷ s) = le-by (eqb c sep) c (before sep s) s (before-le s)
+  before-le (c ∷ s) = le-by (eqb c sep) c (beforeFirst sep s) s (before-le s)
 
-  pub before-take : (s : List ℕ) → before sep s ≡ take (length (before sep s)) s
-  unfolding before
+  pub before-take : (s : List ℕ) → beforeFirst sep s ≡ take (length (beforeFirst sep s)) s
+  unfolding beforeFirst
   before-take [] = refl
-  before-take (c ∷ s) = take-by (eqb c sep) c (before sep s) s (before-take s)
+  before-take (c ∷ s) = take-by (eqb c sep) c (beforeFirst sep s) s (before-take s)
 
-  more : (s : List ℕ) → length (before sep s) < length s → split sep s ≡ before sep s ∷ split sep (drop (suc (length (before sep s))) s)
-  unfolding split before
+  more : (s : List ℕ) → length (beforeFirst sep s) < length s → split sep s ≡ beforeFirst sep s ∷ split sep (drop (suc (length (beforeFirst sep s))) s)
+  unfolding split beforeFirst
   more [] h = absurd (omega arith)
-  more (c ∷ s) h = more-by (eqb c sep) c (before sep s) s (split sep) (split sep s) h refl (more s)
+  more (c ∷ s) h = more-by (eqb c sep) c (beforeFirst sep s) s (split sep) (split sep s) h refl (more s)
 
   -- a separator follows, and then other pieces
-  pub split-more : (s : List ℕ) → length (before sep s) < length s → split sep s ≡ before sep s ∷ split sep (drop (length (before sep s) + 1) s)
+  pub split-more : (s : List ℕ) → length (beforeFirst sep s) < length s → split sep s ≡ beforeFirst sep s ∷ split sep (drop (length (beforeFirst sep s) + 1) s)
   split-more s h = rw add-one (more s h)
 
   -- no separator follows
-  pub before-all : (s : List ℕ) → length s ≤ length (before sep s) → before sep s ≡ s
-  before-all s h = before-take s ∙ take-all (length (before sep s)) s h
+  pub before-all : (s : List ℕ) → length s ≤ length (beforeFirst sep s) → beforeFirst sep s ≡ s
+  before-all s h = before-take s ∙ take-all (length (beforeFirst sep s)) s h
 
-  last : (s : List ℕ) → length s ≤ length (before sep s) → split sep s ≡ s ∷ []
-  unfolding split before
+  last : (s : List ℕ) → length s ≤ length (beforeFirst sep s) → split sep s ≡ s ∷ []
+  unfolding split beforeFirst
   last [] h = refl
-  last (c ∷ s) h = last-by (eqb c sep) c (before sep s) s (split sep s) h (last s)
+  last (c ∷ s) h = last-by (eqb c sep) c (beforeFirst sep s) s (split sep s) h (last s)
 
-  pub split-last : (s : List ℕ) → length s ≤ length (before sep s) → split sep s ≡ before sep s ∷ []
+  pub split-last : (s : List ℕ) → length s ≤ length (beforeFirst sep s) → split sep s ≡ beforeFirst sep s ∷ []
   split-last s h = rw (before-all s h) (last s h)
 
   -- for a scan: the separator stands at i; it does not; or the end is reached
   module _ (s : List ℕ) (i : ℕ) where
-    pub before-here : i < length s → getD s i 0 ≡ sep → length (before sep (drop i s)) ≡ 0
-    unfolding before
+    pub before-here : i < length s → getD s i 0 ≡ sep → length (beforeFirst sep (drop i s)) ≡ 0
+    unfolding beforeFirst
     before-here h e = rw (here s i h, eq-eqb (getD s i 0) sep e)
 
-    pub before-on : i < length s → (getD s i 0 ≡ sep → ⊥) → length (before sep (drop i s)) ≡ suc (length (before sep (drop (i + 1) s)))
-    unfolding before
+    pub before-on : i < length s → (getD s i 0 ≡ sep → ⊥) → length (beforeFirst sep (drop i s)) ≡ suc (length (beforeFirst sep (drop (i + 1) s)))
+    unfolding beforeFirst
     before-on h n = rw (here s i h, ne-eqb (getD s i 0) sep n)
 
-    pub before-end : length s ≤ i → length (before sep (drop i s)) ≡ 0
-    unfolding before
+    pub before-end : length s ≤ i → length (beforeFirst sep (drop i s)) ≡ 0
+    unfolding beforeFirst
     before-end h = rw (ended s i h)
 
 -- uppercase neither makes nor takes away a separator
@@ -139,8 +139,8 @@ module _ (sep : ℕ) (u : Uncased sep) where
   split-upper (c ∷ s) = rw (u c, split-upper s) (cut-upper (eqb c sep) c (split sep s))
 
 -- a scan of `&s[at..]`
-module _ (sep : ℕ) (s : List ℕ) (at e : ℕ) (is : e ≡ length (before sep (take (length s - at) (drop at s)))) where
-  pub scanned : e ≡ length (before sep (drop at s))
+module _ (sep : ℕ) (s : List ℕ) (at e : ℕ) (is : e ≡ length (beforeFirst sep (take (length s - at) (drop at s)))) where
+  pub scanned : e ≡ length (beforeFirst sep (drop at s))
   scanned = rw (from s at) at is
 
   pub scanned-le : e ≤ length s - at

@@ -20,7 +20,7 @@ use Rattle.octets.proofs.Decimal.{digit-no-sign}
 use Rattle.calendar.specs.Forms.{Slot, digit, sign, letter, added, takes, fits, kept, extended, keeps, basic, dateForm, clockForm, utc, timeForm, dateTimeForm, offsetForm}
 use Rattle.calendar.specs.Dates.{dateOf, dateTimeOf, dateIs, dateTimeIs, dateText, timeText, dateTimeText, offsetText, momentOf, momentIs, momentText}
 use Rattle.calendar.specs.Durations.{Span, start, wrong, span, spanAfter, mayEnd, durationIs, durationOf, forwardIs, periodEndOf, periodEndIs, periodEndText}
-use Rattle.calendar.specs.Texts.{formOf, formIs, formText, shape, shaped, numbersIn, taken}
+use Rattle.calendar.specs.Texts.{formOf, formIs, formText, shape, shaped, numbersIn, readForm}
 use Rattle.calendar.specs.declared.texts.Form.{Form}
 use Rattle.calendar.specs.declared.texts.Form.the-variants.{Date, Time, DateTime, Offset}
 use Rattle.calendar.proofs.Options.{when-is, guard-is}
@@ -160,7 +160,7 @@ module _ (f : Form) (s t : List ℕ) (e : formOf f s ≡ some t) where
   longer = leb (longFrom false f) (length s)
 
   numbered : (extended (shape false f s) s ≡ some t) × (numbersIn f t ≡ true)
-  unfolding taken shaped
+  unfolding readForm shaped
   numbered = guard-is (numbersIn f) (shaped false f s) t (form-taken f s ∙ e)
 
   pub form-fitted : Fitted (formFor f longer) s t
@@ -170,7 +170,7 @@ module _ (f : Form) (s t : List ℕ) (e : formOf f s ≡ some t) where
   same-shape = shape-form true f t ∙ ap (λ n. formFor f (leb (longFrom true f) n)) (form-fitted .count) ∙ form-length f longer
 
   form-again : formIs f t ≡ true
-  unfolding taken shaped
+  unfolding readForm shaped
   form-again = sym (form-is f t) ∙ rw (same-shape, form-fitted .has) (unfold when guard isSome in rw (numbered .1))
 
   pub form-returned : Returned (formIs f) (formText f) s t

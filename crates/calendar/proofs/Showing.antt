@@ -21,8 +21,8 @@ use Rattle.octets.proofs.Decimal.{digits-first, digits-all, unsigned-digits, mi
 use Rattle.octets.proofs.Pen.{then}
 use Rattle.octets.proofs.Pieces.{split-filled}
 use Rattle.octets.proofs.Positions.{from, upto}
-use Rattle.calendar.specs.Recurrence.{Sort, frequency, moment, count, weekday, ordinal, numbers, weekdays, wordOf, untilOf, countOf, numberOf, ordinalOf, dayOf, itemOf, several, Part, part, keyedPart, partsOf, partText, partsText}
-use Rattle.calendar.specs.Walk.{before, keyPlace, keyAt, keyed, partIn, firstPart, itemShown, valuesShown, partShown, ruleShown}
+use Rattle.calendar.specs.Recurrence.{PartSort, frequency, moment, count, weekday, ordinal, numbers, weekdays, wordOf, untilOf, countOf, numberOf, ordinalOf, dayOf, itemOf, several, Part, part, keyedPart, partsOf, partText, partsText}
+use Rattle.calendar.specs.Walk.{beforeFirst, keyPlace, keyAt, keyed, partIn, firstPart, itemShown, valuesShown, partShown, ruleShown}
 use Rattle.calendar.specs.declared.parts.PartAt.{PartAt}
 use Rattle.octets.proofs.Optional.{when-is, guard-is}
 use Rattle.calendar.proofs.Options.{map-is, then-is}
@@ -92,7 +92,7 @@ day-shown s v e =
 kept-shown : (b : Bool) (s v : List ℕ) → when b s ≡ some v → s ≡ v
 kept-shown b s v e = when-is b s v e .1
 
-pub item-shown : (sort : Sort) (s v : List ℕ) → itemOf sort (upper s) ≡ some v → itemShown sort s ≡ v
+pub item-shown : (sort : PartSort) (s v : List ℕ) → itemOf sort (upper s) ≡ some v → itemShown sort s ≡ v
 unfolding itemOf itemShown wordOf untilOf
 item-shown frequency s v e = kept-shown _ (upper s) v e
 item-shown moment s v e = kept-shown _ (upper s) v e
@@ -102,8 +102,8 @@ item-shown ordinal s v e = day-shown s v e
 item-shown (numbers signed most lo hi) s v e = number-shown signed most lo hi s v e
 
 -- Pieces that are written one after another: e is where the first piece ends.
-module _ (sep : ℕ) (f : List ℕ → List ℕ) (s : List ℕ) (e : ℕ) (is : e ≡ length (before sep s)) where
-  first : before sep s ≡ take e s
+module _ (sep : ℕ) (f : List ℕ → List ℕ) (s : List ℕ) (e : ℕ) (is : e ≡ length (beforeFirst sep s)) where
+  first : beforeFirst sep s ≡ take e s
   first = rw is (before-take sep s)
 
   pub joined-more : e < length s → joined sep (map f (split sep s)) ≡ f (take e s) ++ sep ∷ joined sep (map f (split sep (drop (e + 1) s)))
@@ -118,7 +118,7 @@ module _ (sep : ℕ) (f : List ℕ → List ℕ) (s : List ℕ) (e : ℕ) (is : 
   joined-last h = rw (split-last sep s (rw (← is) h), first)
 
 -- a turn of the loops that write a list: the piece at `at` of s, and the pieces behind it
-module _ (sep : ℕ) (f : List ℕ → List ℕ) (s : List ℕ) (at e : ℕ) (is : e ≡ length (before sep (take (length s - at) (drop at s)))) where
+module _ (sep : ℕ) (f : List ℕ → List ℕ) (s : List ℕ) (at e : ℕ) (is : e ≡ length (beforeFirst sep (take (length s - at) (drop at s)))) where
   pub shown-more : e < length (take (length s - at) (drop at s))
       → joined sep (map f (split sep (drop at s))) ≡ f (take e (take (length s - at) (drop at s))) ++ sep ∷ joined sep (map f (split sep (drop (at + e + 1) s)))
   shown-more h =
@@ -131,10 +131,10 @@ module _ (sep : ℕ) (f : List ℕ → List ℕ) (s : List ℕ) (at e : ℕ) (is
 -- the part that a text begins with, as it is written
 part-name : (p : List ℕ) → (partIn p) .name ≤ length p
 unfolding partIn keyed
-part-name p = cases (ltb (length (before (code "=") p)) (length p)) (λ e. rw e (before-le (code "=") p)) (λ e. rw e (before-le (code "=") p))
+part-name p = cases (ltb (length (beforeFirst (code "=") p)) (length p)) (λ e. rw e (before-le (code "=") p)) (λ e. rw e (before-le (code "=") p))
 
 pub first-named : (s : List ℕ) → (firstPart s) .name ≤ (firstPart s) .to
-first-named s = rw (first-ends s) (unfold firstPart in part-name (before (code ";") s))
+first-named s = rw (first-ends s) (unfold firstPart in part-name (beforeFirst (code ";") s))
 
 same-text : (s : List ℕ) (q : PartAt) → q .name ≤ q .to → partShown q s ≡ partShown q (take (q .to) s)
 unfolding partShown
@@ -146,11 +146,11 @@ first-shown s = same-text s (firstPart s) (first-named s) ∙ ap (λ (r : PartAt
     at-piece : firstPart s ≡ partIn (take ((firstPart s) .to) s)
     at-piece = plain ∙ ap partIn (first-piece s)
       where
-        plain : firstPart s ≡ partIn (before (code ";") s)
+        plain : firstPart s ≡ partIn (beforeFirst (code ";") s)
         plain = unfold firstPart in refl
 
 -- What is written of a rule is the text of its parts.
-items-shown : (sort : Sort) (ls vs : List (List ℕ)) → each (itemOf sort) (map upper ls) ≡ some vs → map (itemShown sort) ls ≡ vs
+items-shown : (sort : PartSort) (ls vs : List (List ℕ)) → each (itemOf sort) (map upper ls) ≡ some vs → map (itemShown sort) ls ≡ vs
 items-shown sort [] vs e = nothing (unfold each in e)
   where
     nothing : some [] ≡ some vs → [] ≡ vs
@@ -160,7 +160,7 @@ items-shown sort (l ∷ ls) vs e =
     ap (λ (v : List ℕ). v ∷ map (itemShown sort) ls) (item-shown sort l (b .head) (b .first))
     ∙ ap (λ (r : List (List ℕ)). b .head ∷ r) (items-shown sort ls (b .tail) (b .rest)) ∙ sym (b .whole)
 
-pub values-shown : (sort : Sort) (v : List ℕ) (vs : List (List ℕ)) → each (itemOf sort) (split (code ",") (upper v)) ≡ some vs → valuesShown sort v ≡ joined (code ",") vs
+pub values-shown : (sort : PartSort) (v : List ℕ) (vs : List (List ℕ)) → each (itemOf sort) (split (code ",") (upper v)) ≡ some vs → valuesShown sort v ≡ joined (code ",") vs
 unfolding valuesShown
 values-shown sort v vs e = ap (joined (code ",")) (items-shown sort (split (code ",") v) vs (rw (split-upper (code ",") comma-uncased v) at e))
 
@@ -197,7 +197,7 @@ rule-shown s ps e =
     ap (joined (code ";")) (parts-shown (split (code ";") s) ps (rw (split-upper (code ";") semicolon-uncased s) at r))
 
 -- writing a part
-pub part-wrote : {p q r t : Pen} (s : List ℕ) (x : PartAt) (sort : Sort) → sort ≡ (keyAt (x .key)) .sort
+pub part-wrote : {p q r t : Pen} (s : List ℕ) (x : PartAt) (sort : PartSort) → sort ≡ (keyAt (x .key)) .sort
     → Wrote p (upper (take (x .name - 0) (drop 0 s))) q → Wrote q (code "=" ∷ []) r → Wrote r (valuesShown sort (take (x .to - x .from) (drop (x .from) s))) t
     → Wrote p (partShown x s) t
 unfolding partShown
@@ -209,7 +209,7 @@ part-places r q is = rw is (omega (arith, first-named r, first-to r), first-from
 
 -- a turn of the loop that writes a rule
 module _ (s : List ℕ) (at : ℕ) (q : PartAt) (is : q ≡ firstPart (take (length s - at) (drop at s))) where
-  stops : q .to ≡ length (before (code ";") (take (length s - at) (drop at s)))
+  stops : q .to ≡ length (beforeFirst (code ";") (take (length s - at) (drop at s)))
   stops = rw is (first-ends (take (length s - at) (drop at s)))
 
   shown : partShown (partIn (take (q .to) (take (length s - at) (drop at s)))) (take (q .to) (take (length s - at) (drop at s))) ≡ partShown q (take (length s - at) (drop at s))

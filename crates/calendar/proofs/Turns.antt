@@ -16,7 +16,7 @@ use Rattle.octets.proofs.Positions.{from}
 use Rattle.calendar.specs.Recurrence.{Key, keys, Part, part, keyedPart, isRule, partsOf}
 use Rattle.calendar.specs.Walk.{keyAt, firstPart}
 use Rattle.calendar.specs.Rules.{ruleFrom, readRule}
-use Rattle.calendar.specs.Reading.{valuesStand, withValue, barred, mayFollow, ruleRead}
+use Rattle.calendar.specs.Reading.{valuesStand, withPart, barred, mayFollow, ruleRead}
 use Rattle.calendar.specs.declared.parts.PartAt.{PartAt}
 use Rattle.calendar.specs.declared.rules.Head.{Head}
 use Rattle.calendar.proofs.Options.{map-is, some-map}
@@ -134,17 +134,17 @@ module _ (s : List ℕ) (at : ℕ) (q : PartAt) (is : q ≡ firstPart (take (len
 
     module _ (ok : mayFollow seen (q .key) value ≡ true) where
       step : (left : Option (List Part)) → readParts (upper (drop at s)) ≡ both? _∷_ (partFound (drop at s) q) left
-          → Gathered (readParts (upper s)) left (set seen (q .key) true) (withValue head (q .key) value)
+          → Gathered (readParts (upper s)) left (set seen (q .key) true) (withPart head (q .key) value)
       step left e =
           let f = follows seen (q .key) value ok in
           let r = some-is (keyedPart (upper value) (keyAt (q .key))) (keyed-stands value (keyAt (q .key)) ∙ f .2) in
           gathered-more left (r .0) (q .key) value (f .0) (rw (e, found (f .0), r .1) at g) (r .1) (f .1)
 
       pub rule-on : q .to < length (take (length s - at) (drop at s))
-          → Gathered (readParts (upper s)) (readParts (upper (drop (at + q .to + 1) s))) (set seen (q .key) true) (withValue head (q .key) value)
+          → Gathered (readParts (upper s)) (readParts (upper (drop (at + q .to + 1) s))) (set seen (q .key) true) (withPart head (q .key) value)
       rule-on l = step _ (more l)
 
-      pub rule-end : length (take (length s - at) (drop at s)) ≤ q .to → ruleRead (withValue head (q .key) value) (set seen (q .key) true) ≡ readRule s
+      pub rule-end : length (take (length s - at) (drop at s)) ≤ q .to → ruleRead (withPart head (q .key) value) (set seen (q .key) true) ≡ readRule s
       rule-end l = sym (gathered-all (step _ (last l))) ∙ the-rule s
 
 -- as the code tests what may follow

@@ -19,8 +19,8 @@ use Rattle.octets.proofs.Cases.{cases, apart, All-append, All-weaker, all-All}
 use Rattle.octets.proofs.Classes.{same-is}
 use Rattle.octets.proofs.Pieces.{Free, split-filled, joined-split}
 use Rattle.octets.proofs.Positions.{from}
-use Rattle.calendar.specs.Recurrence.{Sort, frequency, Key, key, keys, keyIn, keyNamed, itemOf, several, Part, part, keyedPart, partOf, isRule, partsOf}
-use Rattle.calendar.specs.Walk.{before, wordPlace, keyPlace, keyAt, keyed, partIn, firstPart}
+use Rattle.calendar.specs.Recurrence.{PartSort, frequency, Key, key, keys, keyIn, keyNamed, itemOf, several, Part, part, keyedPart, partOf, isRule, partsOf}
+use Rattle.calendar.specs.Walk.{beforeFirst, wordPlace, keyPlace, keyAt, keyed, partIn, firstPart}
 use Rattle.calendar.specs.declared.parts.PartAt.{PartAt}
 use Rattle.octets.proofs.Optional.{guard-is}
 use Rattle.calendar.proofs.Options.{map-is}
@@ -29,17 +29,17 @@ use Rattle.calendar.proofs.Keys.{key-count}
 use Rattle.calendar.proofs.Octets.{itemOctet, item-octets}
 
 -- Lists of pieces, read one after another: e is where the first piece ends.
-module _ {B : Type 0} (sep : ℕ) (u : Uncased sep) (f : List ℕ → Option B) (s : List ℕ) (e : ℕ) (is : e ≡ length (before sep s)) where
+module _ {B : Type 0} (sep : ℕ) (u : Uncased sep) (f : List ℕ → Option B) (s : List ℕ) (e : ℕ) (is : e ≡ length (beforeFirst sep s)) where
   pub each-more : e < length s → each f (split sep (upper s)) ≡ both? _∷_ (f (upper (take e s))) (each f (split sep (upper (drop (e + 1) s))))
   unfolding each
   each-more h =
-      let first : before sep s ≡ take e s = rw is (before-take sep s) in
+      let first : beforeFirst sep s ≡ take e s = rw is (before-take sep s) in
       rw (split-upper sep u s, split-upper sep u (drop (e + 1) s), split-more sep s (rw (← is) h), ← is, first)
 
   pub each-last : length s ≤ e → each f (split sep (upper s)) ≡ both? _∷_ (f (upper (take e s))) (some [])
   unfolding each
   each-last h =
-      let first : before sep s ≡ take e s = rw is (before-take sep s) in
+      let first : beforeFirst sep s ≡ take e s = rw is (before-take sep s) in
       rw (split-upper sep u s, split-last sep s (rw (← is) h), first)
 
 -- what a list that was read tells
@@ -68,14 +68,14 @@ All-joined P sep p [] h = tt
 All-joined P sep p (l ∷ []) h = h .0
 All-joined P sep p (l ∷ m ∷ ls) h = All-append P l (sep ∷ joined sep (m ∷ ls)) (h .0) (p, All-joined P sep p (m ∷ ls) (h .1))
 
-pub items-All : (P : ℕ → Type 0) → ((c : ℕ) → itemOctet c ≡ true → P c) → P (code ",") → (sort : Sort) (v : List ℕ) (vs : List (List ℕ))
+pub items-All : (P : ℕ → Type 0) → ((c : ℕ) → itemOctet c ≡ true → P c) → P (code ",") → (sort : PartSort) (v : List ℕ) (vs : List (List ℕ))
     → each (itemOf sort) (split (code ",") v) ≡ some vs → All P v
 items-All P h k sort v vs e =
     let a = each-All (itemOf sort) (All P) (λ l w d. All-weaker h l (all-All itemOctet l (item-octets sort l w d))) (split (code ",") v) vs e in
     rw (joined-split (code ",") v) at (All-joined P (code ",") k (split (code ",") v) a)
 
-before-free : (sep : ℕ) (s : List ℕ) → Free sep s → before sep s ≡ s
-unfolding before
+before-free : (sep : ℕ) (s : List ℕ) → Free sep s → beforeFirst sep s ≡ s
+unfolding beforeFirst
 before-free sep [] h = refl
 before-free sep (c ∷ s) h = rw (h .0) (ap (λ (l : List ℕ). c ∷ l) (before-free sep s (h .1)))
 
@@ -87,7 +87,7 @@ values-free k v p e =
     let g = guard-is _ (each (itemOf (k .sort)) (split (code ",") v)) (m .0) (m .1) in
     items-All (λ c. eqb c (code "=") ≡ false) (λ c h. apart itemOctet c (code "=") h (unfold itemOctet isUpper isDigit isSign between in refl)) refl (k .sort) v (m .0) (g .0)
 
-no-values : (v : List ℕ) → length (before (code "=") v) < length v → (k : Key) → keyedPart v k ≡ none
+no-values : (v : List ℕ) → length (beforeFirst (code "=") v) < length v → (k : Key) → keyedPart v k ≡ none
 no-values v h k = by (keyedPart v k) refl
   where
     by : (o : Option Part) → keyedPart v k ≡ o → o ≡ none
@@ -100,14 +100,14 @@ then-none none f h = refl
 then-none (some a) f h = h a
 
 named-values : (n v : List ℕ) → partOf (n ∷ split (code "=") v) ≡ then? (keyNamed n) (keyedPart v)
-named-values n v = cases (ltb (length (before (code "=") v)) (length v))
-    (λ h. let l = ltb-true (length (before (code "=") v)) (length v) h in
-    rw (split-more (code "=") v l) (several-signs (split (code "=") (drop (length (before (code "=") v) + 1) v)) (split-filled (code "=") _)
+named-values n v = cases (ltb (length (beforeFirst (code "=") v)) (length v))
+    (λ h. let l = ltb-true (length (beforeFirst (code "=") v)) (length v) h in
+    rw (split-more (code "=") v l) (several-signs (split (code "=") (drop (length (beforeFirst (code "=") v) + 1) v)) (split-filled (code "=") _)
     ∙ sym (then-none (keyNamed n) (keyedPart v) (no-values v l))))
-    (λ h. let l = ltb-false (length (before (code "=") v)) (length v) h in
+    (λ h. let l = ltb-false (length (beforeFirst (code "=") v)) (length v) h in
     rw (split-last (code "=") v l, before-all (code "=") v l) (unfold partOf in refl))
   where
-    several-signs : (ls : List (List ℕ)) → (ls ≡ [] → ⊥) → partOf (n ∷ before (code "=") v ∷ ls) ≡ none
+    several-signs : (ls : List (List ℕ)) → (ls ≡ [] → ⊥) → partOf (n ∷ beforeFirst (code "=") v ∷ ls) ≡ none
     several-signs [] f = absurd (f refl)
     several-signs (l ∷ ls) f = unfold partOf in refl
 
@@ -165,8 +165,8 @@ readParts s = each readPart (split (code ";") s)
 abbrev pub partFound : List ℕ → PartAt → Option Part
 partFound s q = pick (ltb (q .key) 14) (keyedPart (upper (take (q .to - q .from) (drop (q .from) s))) (keyAt (q .key))) none
 
-module _ (p : List ℕ) (n : ℕ) (is : n ≡ length (before (code "=") p)) where
-  name : before (code "=") p ≡ take n p
+module _ (p : List ℕ) (n : ℕ) (is : n ≡ length (beforeFirst (code "=") p)) where
+  name : beforeFirst (code "=") p ≡ take n p
   name = rw is (before-take (code "=") p)
 
   keyed-part : n < length p → readPart (upper p) ≡ partFound p (partIn p)
@@ -182,18 +182,18 @@ module _ (p : List ℕ) (n : ℕ) (is : n ≡ length (before (code "=") p)) wher
   bare-part h = rw (split-upper (code "=") equals-uncased p, split-last (code "=") p (rw (← is) h), ← is, le-ltb n (length p) h, key-count)
 
 pub read-part : (p : List ℕ) → readPart (upper p) ≡ partFound p (partIn p)
-read-part p = cases (ltb (length (before (code "=") p)) (length p))
+read-part p = cases (ltb (length (beforeFirst (code "=") p)) (length p))
     (λ e. keyed-part p _ refl (ltb-true _ (length p) e))
     (λ e. bare-part p _ refl (ltb-false _ (length p) e))
 
 part-to : (p : List ℕ) → (partIn p) .to ≡ length p
 unfolding partIn keyed
-part-to p = cases (ltb (length (before (code "=") p)) (length p)) (λ e. rw e) (λ e. rw e)
+part-to p = cases (ltb (length (beforeFirst (code "=") p)) (length p)) (λ e. rw e) (λ e. rw e)
 
 part-from : (p : List ℕ) → (partIn p) .from ≤ length p
 unfolding partIn keyed
-part-from p = cases (ltb (length (before (code "=") p)) (length p))
-    (λ e. rw e (omega (arith, ltb-true (length (before (code "=") p)) (length p) e)))
+part-from p = cases (ltb (length (beforeFirst (code "=") p)) (length p))
+    (λ e. rw e (omega (arith, ltb-true (length (beforeFirst (code "=") p)) (length p) e)))
     (λ e. rw e (before-le (code "=") p))
 
 drop-take : (n m : ℕ) (s : List ℕ) → drop n (take m s) ≡ take (m - n) (drop n s)
@@ -207,26 +207,26 @@ within n m s = rw (drop-take n m s) (take-take (m - n) (m - n) (drop n s) (omega
 
 -- the part that a text begins with, and the parts behind it
 module _ (s : List ℕ) where
-  pub first-ends : (firstPart s) .to ≡ length (before (code ";") s)
+  pub first-ends : (firstPart s) .to ≡ length (beforeFirst (code ";") s)
   unfolding firstPart
-  first-ends = part-to (before (code ";") s)
+  first-ends = part-to (beforeFirst (code ";") s)
 
-  pub first-piece : before (code ";") s ≡ take ((firstPart s) .to) s
+  pub first-piece : beforeFirst (code ";") s ≡ take ((firstPart s) .to) s
   first-piece = rw first-ends (before-take (code ";") s)
 
   pub first-to : (firstPart s) .to ≤ length s
   first-to = rw first-ends (before-le (code ";") s)
 
   pub first-from : (firstPart s) .from ≤ (firstPart s) .to
-  first-from = rw first-ends (unfold firstPart in part-from (before (code ";") s))
+  first-from = rw first-ends (unfold firstPart in part-from (beforeFirst (code ";") s))
 
-  value : take ((firstPart s) .to - (firstPart s) .from) (drop ((firstPart s) .from) (before (code ";") s))
+  value : take ((firstPart s) .to - (firstPart s) .from) (drop ((firstPart s) .from) (beforeFirst (code ";") s))
       ≡ take ((firstPart s) .to - (firstPart s) .from) (drop ((firstPart s) .from) s)
   value = rw first-piece (within ((firstPart s) .from) ((firstPart s) .to) s)
 
-  found : readPart (upper (before (code ";") s)) ≡ partFound (before (code ";") s) (firstPart s)
+  found : readPart (upper (beforeFirst (code ";") s)) ≡ partFound (beforeFirst (code ";") s) (firstPart s)
   unfolding firstPart
-  found = read-part (before (code ";") s)
+  found = read-part (beforeFirst (code ";") s)
 
   first-read : readPart (upper (take ((firstPart s) .to) s)) ≡ partFound s (firstPart s)
   first-read =
@@ -273,14 +273,14 @@ found-is false o p e = let z : _≡_ {A = ℕ} 0 1 = cc in absurd (omega arith)
 -- a part that has a key has an equals sign behind its name
 pub keyed-name : (p : List ℕ) → (partIn p) .key < 14 → ((partIn p) .from ≡ (partIn p) .name + 1) × ((partIn p) .key ≡ keyPlace (upper (take ((partIn p) .name) p)))
 unfolding partIn keyed
-keyed-name p h = cases (ltb (length (before (code "=") p)) (length p))
+keyed-name p h = cases (ltb (length (beforeFirst (code "=") p)) (length p))
     (λ e. rw e (refl, refl))
     (λ e. absurd (let l : length keys < 14 = rw e at h in omega (arith, key-count)))
 
 first-keyed : (s : List ℕ) → (firstPart s) .key < 14
-    → ((firstPart s) .from ≡ (firstPart s) .name + 1) × ((firstPart s) .key ≡ keyPlace (upper (take ((firstPart s) .name) (before (code ";") s))))
+    → ((firstPart s) .from ≡ (firstPart s) .name + 1) × ((firstPart s) .key ≡ keyPlace (upper (take ((firstPart s) .name) (beforeFirst (code ";") s))))
 unfolding firstPart
-first-keyed s h = keyed-name (before (code ";") s) h
+first-keyed s h = keyed-name (beforeFirst (code ";") s) h
 
 first-name : (s : List ℕ) → (firstPart s) .key < 14 → ((firstPart s) .from ≡ (firstPart s) .name + 1) × (upper (take ((firstPart s) .name) s) ≡ (keyAt ((firstPart s) .key)) .name)
 first-name s h =

@@ -12,7 +12,7 @@ use Rattle.octets.specs.Classes.{upper}
 use Rattle.octets.specs.Decimal.{valueOf}
 use Rattle.octets.specs.Limits.{mostInteger}
 use Rattle.octets.specs.Pieces.{split}
-use Rattle.calendar.specs.Recurrence.{Sort, keys, itemOf, several, Part}
+use Rattle.calendar.specs.Recurrence.{PartSort, keys, itemOf, several, Part}
 use Rattle.calendar.specs.Walk.{keyAt}
 use Rattle.calendar.specs.Moments.{readMoment}
 use Rattle.calendar.specs.Rules.{valueNamed, frequencyOf, weekdayOf, endOf}
@@ -24,7 +24,7 @@ use Rattle.calendar.specs.declared.rules.Head.{Head}
 use Rattle.calendar.specs.declared.rules.Rule.{Rule}
 
 -- the values of a part stand, and there is one only where there may not be several
-unfoldable pub valuesStand : Sort → List ℕ → Bool
+unfoldable pub valuesStand : PartSort → List ℕ → Bool
 valuesStand sort v = isSome (guard (λ vs. several sort or single vs) (each (itemOf sort) (split (code ",") (upper v))))
 
 -- what parts say, but for the BY parts
@@ -45,8 +45,8 @@ unfoldable pub lastOf : List ℕ → End
 lastOf v = given Open Until (readMoment v)
 
 -- one part more, with the key at a place and the value v, letters in either case
-unfoldable pub withValue : Head → ℕ → List ℕ → Head
-withValue h k v = record {
+unfoldable pub withPart : Head → ℕ → List ℕ → Head
+withPart h k v = record {
   frequency = pick (eqb k 0) (frequencyOf (upper v)) (h .frequency);
   interval = pick (eqb k 3) (counted v) (h .interval);
   end = pick (eqb k 1) (lastOf v) (pick (eqb k 2) (Count (counted v)) (h .end));

@@ -16,15 +16,15 @@ use Rattle.octets.specs.Limits.{mostInteger}
 use Rattle.calendar.specs.Dates.{momentOf}
 
 -- what the values of a part are; of numbers: whether they may have a sign, their most digits, their bounds without the sign
-pub data Sort : Type 0 where
-  frequency moment count weekday ordinal : Sort
-  numbers : Bool → ℕ → ℕ → ℕ → Sort
+pub data PartSort : Type 0 where
+  frequency moment count weekday ordinal : PartSort
+  numbers : Bool → ℕ → ℕ → ℕ → PartSort
 
 pub record Key : Type 0 where
   pub name : List ℕ
-  pub sort : Sort
+  pub sort : PartSort
 
-abbrev pub key : List ℕ → Sort → Key
+abbrev pub key : List ℕ → PartSort → Key
 key n s = record { name = n; sort = s }
 
 unfoldable pub keys : List Key
@@ -84,7 +84,7 @@ unfoldable pub dayOf : List ℕ → Option (List ℕ)
 dayOf s = then? (wordOf weekdays (drop (length s - 2) s)) (λ d. map? (λ n. n ++ d) (ordinalOf (take (length s - 2) s)))
 
 -- one value of a part
-unfoldable pub itemOf : Sort → List ℕ → Option (List ℕ)
+unfoldable pub itemOf : PartSort → List ℕ → Option (List ℕ)
 itemOf frequency s = wordOf frequencies s
 itemOf moment s = untilOf s
 itemOf count s = countOf s
@@ -93,7 +93,7 @@ itemOf ordinal s = dayOf s
 itemOf (numbers signed most lo hi) s = numberOf signed most lo hi s
 
 -- only BY parts have several values
-unfoldable pub several : Sort → Bool
+unfoldable pub several : PartSort → Bool
 several frequency = false
 several moment = false
 several count = false
@@ -103,7 +103,7 @@ several (numbers signed most lo hi) = true
 
 pub record Part : Type 0 where
   pub name : List ℕ
-  pub sort : Sort
+  pub sort : PartSort
   pub values : List (List ℕ)
 
 abbrev pub part : Key → List (List ℕ) → Part

@@ -84,5 +84,5 @@ numbersIn DateTime t = momentIn t
 numbersIn Offset t = offsetIn t
 
 -- the extended text of one that is read
-unfoldable pub taken : Bool → Form → List ℕ → Option (List ℕ)
-taken whole f s = guard (numbersIn f) (shaped whole f s)
+unfoldable pub readForm : Bool → Form → List ℕ → Option (List ℕ)
+readForm whole f s = guard (numbersIn f) (shaped whole f s)

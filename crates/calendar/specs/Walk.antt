@@ -9,15 +9,15 @@ use Rattle.octets.specs.Basics.{pick, _and_, same}
 use Rattle.octets.specs.Pieces.{split, joined}
 use Rattle.octets.specs.Classes.{upper}
 use Rattle.octets.specs.Decimal.{integerText}
-use Rattle.calendar.specs.Recurrence.{Sort, frequency, moment, count, weekday, ordinal, numbers, Key, key, keys}
+use Rattle.calendar.specs.Recurrence.{PartSort, frequency, moment, count, weekday, ordinal, numbers, Key, key, keys}
 use Rattle.calendar.specs.declared.parts.PartAt.{PartAt}
 use Rattle.calendar.specs.declared.parts.ItemSort.{ItemSort}
 use Rattle.calendar.specs.declared.parts.ItemSort.the-variants.{Frequency, Moment, Count, Weekday, Ordinal, Numbers}
 
 -- the octets before the first `sep`, or all of them
-unfoldable pub before : ℕ → List ℕ → List ℕ
-before sep [] = []
-before sep (c ∷ s) = pick (eqb c sep) [] (c ∷ before sep s)
+unfoldable pub beforeFirst : ℕ → List ℕ → List ℕ
+beforeFirst sep [] = []
+beforeFirst sep (c ∷ s) = pick (eqb c sep) [] (c ∷ beforeFirst sep s)
 
 -- the place of a text among words; their number, where it is none of them
 unfoldable pub wordPlace : List (List ℕ) → List ℕ → ℕ
@@ -25,9 +25,9 @@ wordPlace [] n = 0
 wordPlace (w ∷ ws) n = pick (same w n) 0 (suc (wordPlace ws n))
 
 -- counted from i, with k the length of the text: words of another length are passed over
-unfoldable pub placeFrom : ℕ → ℕ → List (List ℕ) → List ℕ → ℕ
-placeFrom i k [] n = i
-placeFrom i k (w ∷ ws) n = pick (eqb k (length w) and same w n) i (placeFrom (suc i) k ws n)
+unfoldable pub wordPlaceFrom : ℕ → ℕ → List (List ℕ) → List ℕ → ℕ
+wordPlaceFrom i k [] n = i
+wordPlaceFrom i k (w ∷ ws) n = pick (eqb k (length w) and same w n) i (wordPlaceFrom (suc i) k ws n)
 
 abbrev pub keyNames : List (List ℕ)
 keyNames = map (λ (k : Key). k .name) keys
@@ -39,13 +39,13 @@ unfoldable pub keyAt : ℕ → Key
 keyAt i = getD keys i (key [] frequency)
 
 -- the sort that a key's values are of, as the code has it
-unfoldable pub sortSaid : ItemSort → Sort
-sortSaid Frequency = frequency
-sortSaid Moment = moment
-sortSaid Count = count
-sortSaid Weekday = weekday
-sortSaid Ordinal = ordinal
-sortSaid (Numbers b) = numbers (b .signed) (b .most) (b .lo) (b .hi)
+unfoldable pub partSortSaid : ItemSort → PartSort
+partSortSaid Frequency = frequency
+partSortSaid Moment = moment
+partSortSaid Count = count
+partSortSaid Weekday = weekday
+partSortSaid Ordinal = ordinal
+partSortSaid (Numbers b) = numbers (b .signed) (b .most) (b .lo) (b .hi)
 
 abbrev pub partAt : ℕ → ℕ → ℕ → ℕ → PartAt
 partAt k n f t = record { key = k; name = n; from = f; to = t }
@@ -55,14 +55,14 @@ unfoldable pub keyed : ℕ → List ℕ → PartAt
 keyed n p = pick (ltb n (length p)) (partAt (keyPlace (upper (take n p))) n (n + 1) (length p)) (partAt (length keys) n n (length p))
 
 unfoldable pub partIn : List ℕ → PartAt
-partIn p = keyed (length (before (code "=") p)) p
+partIn p = keyed (length (beforeFirst (code "=") p)) p
 
 -- the part that a text begins with
 unfoldable pub firstPart : List ℕ → PartAt
-firstPart s = partIn (before (code ";") s)
+firstPart s = partIn (beforeFirst (code ";") s)
 
 -- a value as it is written: in uppercase, a number without plus and leading zeros
-unfoldable pub itemShown : Sort → List ℕ → List ℕ
+unfoldable pub itemShown : PartSort → List ℕ → List ℕ
 itemShown frequency s = upper s
 itemShown moment s = upper s
 itemShown count s = integerText s
@@ -71,7 +71,7 @@ itemShown ordinal s = integerText (take (length s - 2) s) ++ upper (drop (length
 itemShown (numbers signed most lo hi) s = integerText s
 
 -- the values of a part, the part at q, and a rule as they are written
-unfoldable pub valuesShown : Sort → List ℕ → List ℕ
+unfoldable pub valuesShown : PartSort → List ℕ → List ℕ
 valuesShown sort v = joined (code ",") (map (itemShown sort) (split (code ",") v))
 
 unfoldable pub partShown : PartAt → List ℕ → List ℕ

@@ -11,7 +11,7 @@ ghost use Rattle.octets.specs.Classes.{between, upper};
 ghost use Rattle.octets.specs.Decimal.{digits, valueOf, hasSign};
 ghost use Rattle.octets.specs.Pen.{pen, Wrote};
 ghost use Rattle.calendar.specs.Recurrence.{ordinal, frequencies, weekdays, wordOf, untilOf, countOf, numberOf, dayOf, itemOf, several};
-ghost use Rattle.calendar.specs.Walk.{sortSaid, itemShown};
+ghost use Rattle.calendar.specs.Walk.{partSortSaid, itemShown};
 ghost use Rattle.calendar.specs.Reading.{valuesStand};
 use crate::moments::MomentRead;
 use crate::moments::read_moment;
@@ -155,7 +155,7 @@ fn is_until(s: &[u8]) -> bool
 
 // One value of a part.
 fn item_stands(sort: ItemSort, s: &[u8]) -> bool
-    ensures { λ r. ⌜ r ≡ isSome (itemOf (sortSaid sort) (upper (now (s .entry)))) ⌝ }
+    ensures { λ r. ⌜ r ≡ isSome (itemOf (partSortSaid sort) (upper (now (s .entry)))) ⌝ }
 {
     match sort {
         ItemSort::Frequency => is_frequency(s),
@@ -169,7 +169,7 @@ fn item_stands(sort: ItemSort, s: &[u8]) -> bool
 
 // Only BY parts have several values.
 fn has_several(sort: ItemSort) -> bool
-    ensures { λ r. ⌜ r ≡ several (sortSaid sort) ⌝ }
+    ensures { λ r. ⌜ r ≡ several (partSortSaid sort) ⌝ }
 {
     match sort {
         ItemSort::Frequency => false,
@@ -183,7 +183,7 @@ fn has_several(sort: ItemSort) -> bool
 
 // The values of a part, between commas.
 pub fn values_stand(sort: ItemSort, v: &[u8]) -> bool
-    ensures { λ r. ⌜ r ≡ valuesStand (sortSaid sort) (now (v .entry)) ⌝ }
+    ensures { λ r. ⌜ r ≡ valuesStand (partSortSaid sort) (now (v .entry)) ⌝ }
 {
     let many = has_several(sort);
     let mut at = 0;
@@ -214,7 +214,7 @@ fn put_ordinal(out: &mut [u8], at: usize, s: &[u8]) -> usize
 
 // Writes one value of a part: in uppercase, a number without plus and leading zeros.
 pub fn put_item(out: &mut [u8], at: usize, sort: ItemSort, s: &[u8]) -> usize
-    ensures { λ r. ⌜ Wrote (pen (now (out .entry)) at) (itemShown (sortSaid sort) (now (s .entry))) (pen (now (out .exit)) r) ⌝ }
+    ensures { λ r. ⌜ Wrote (pen (now (out .entry)) at) (itemShown (partSortSaid sort) (now (s .entry))) (pen (now (out .exit)) r) ⌝ }
 {
     match sort {
         ItemSort::Frequency => put_upper(out, at, &*s),

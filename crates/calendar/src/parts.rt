@@ -4,7 +4,7 @@ ghost use lib.ListN.{length};
 ghost use Rattle.octets.specs.Basics.{pick};
 ghost use Rattle.octets.specs.Classes.{upper, sameName};
 ghost use Rattle.calendar.specs.Recurrence.{numbers, frequencies};
-ghost use Rattle.calendar.specs.Walk.{before, wordPlace, keyNames, placeFrom, keyPlace, keyAt, sortSaid, firstPart};
+ghost use Rattle.calendar.specs.Walk.{beforeFirst, wordPlace, keyNames, wordPlaceFrom, keyPlace, keyAt, partSortSaid, firstPart};
 use octets::same_name;
 
 // A part: its key's place among the keys (14: none), the length of its name, where its values begin, and where it ends.
@@ -35,7 +35,7 @@ pub enum ItemSort {
 
 // The place of the first octet `sep`, or the length.
 pub fn find(s: &[u8], sep: u8) -> usize
-    ensures { λ r. ⌜ r ≡ length (before sep (now (s .entry))) ⌝ }
+    ensures { λ r. ⌜ r ≡ length (beforeFirst sep (now (s .entry))) ⌝ }
 {
     let mut i = 0;
     while i < s.len() {
@@ -82,7 +82,7 @@ pub fn key_place(name: &[u8]) -> usize
 
 // The place of a name of eight octets.
 fn long_key_place(name: &[u8]) -> usize
-    ensures { λ r. ⌜ r ≡ placeFrom 0 8 keyNames (upper (now (name .entry))) ⌝ }
+    ensures { λ r. ⌜ r ≡ wordPlaceFrom 0 8 keyNames (upper (now (name .entry))) ⌝ }
 {
     let by_set = chosen(name, b"BYSETPOS", 12, 14);
     let by_week = chosen(name, b"BYWEEKNO", 10, by_set);
@@ -136,7 +136,7 @@ pub fn first_part(s: &[u8]) -> PartAt
 }
 
 fn numbers(signed: bool, most: usize, lo: u32, hi: u32) -> ItemSort
-    ensures { λ r. ⌜ sortSaid r ≡ numbers signed most lo hi ⌝ }
+    ensures { λ r. ⌜ partSortSaid r ≡ numbers signed most lo hi ⌝ }
 {
     ItemSort::Numbers(Bounds {
         signed: signed,
@@ -148,7 +148,7 @@ fn numbers(signed: bool, most: usize, lo: u32, hi: u32) -> ItemSort
 
 // What the values of the part with a key are.
 pub fn sort_of(key: usize) -> ItemSort
-    ensures { λ r. ⌜ sortSaid r ≡ (keyAt key) .sort ⌝ }
+    ensures { λ r. ⌜ partSortSaid r ≡ (keyAt key) .sort ⌝ }
 {
     match key {
         1 => ItemSort::Moment,

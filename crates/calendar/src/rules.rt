@@ -8,7 +8,7 @@ ghost use Rattle.octets.specs.Optional.{isSome};
 ghost use Rattle.octets.specs.Classes.{upper};
 ghost use Rattle.calendar.specs.Recurrence.{partsOf};
 ghost use Rattle.calendar.specs.Rules.{frequencyOf, weekdayOf, readRule, ruleSaid};
-ghost use Rattle.calendar.specs.Reading.{counted, lastOf, withValue, barred, mayFollow, bySeen, ruleRead};
+ghost use Rattle.calendar.specs.Reading.{counted, lastOf, withPart, barred, mayFollow, bySeen, ruleRead};
 use crate::items::values_stand;
 use crate::moments::Moment;
 use crate::moments::MomentRead;
@@ -150,7 +150,7 @@ fn until_of(s: &[u8]) -> End
 
 // One part more, with the key at a place and its value.
 fn with_value(head: Head, key: usize, v: &[u8]) -> Head
-    ensures { λ r. ⌜ r ≡ withValue head key (now (v .entry)) ⌝ }
+    ensures { λ r. ⌜ r ≡ withPart head key (now (v .entry)) ⌝ }
 {
     let frequency = head.frequency;
     let end = head.end;

@@ -10,7 +10,7 @@ ghost use Rattle.octets.specs.Decimal.{valueFrom};
 ghost use Rattle.octets.specs.Pen.{pen, Wrote};
 ghost use Rattle.calendar.specs.Forms.{takes, extended, basic, numberAt};
 ghost use Rattle.calendar.specs.Dates.{dayIn, isClock, clockIn, offsetIn, momentOf, momentIs};
-ghost use Rattle.calendar.specs.Texts.{formOf, formIs, formText, octetsIn, Says, Carries, isAdded, placeAt, slots, shaped, numbersIn, taken};
+ghost use Rattle.calendar.specs.Texts.{formOf, formIs, formText, octetsIn, Says, Carries, isAdded, placeAt, slots, shaped, numbersIn, readForm};
 use crate::dates::is_day;
 use octets::is_digit;
 use octets::peek;
@@ -264,7 +264,7 @@ fn shape(form: Form, whole: bool, s: &[u8]) -> Text
 
 // The extended text of one that has the form, and whose numbers are real.
 fn take(form: Form, whole: bool, s: &[u8]) -> Text
-    ensures { λ r. ⌜ Says r (taken whole form (upper (now (s .entry)))) ⌝ }
+    ensures { λ r. ⌜ Says r (readForm whole form (upper (now (s .entry)))) ⌝ }
 {
     let t = shape(form, whole, &*s);
     let o = t.octets;

@@ -2,7 +2,7 @@
 ghost use Prim.Native.Nat.{_≤_};
 ghost use lib.ListN.{length};
 ghost use Rattle.octets.specs.Pen.{pen, Wrote};
-ghost use Rattle.calendar.specs.Walk.{sortSaid, valuesShown, partShown, ruleShown};
+ghost use Rattle.calendar.specs.Walk.{partSortSaid, valuesShown, partShown, ruleShown};
 use crate::items::put_item;
 use crate::parts::ItemSort;
 use crate::parts::PartAt;
@@ -14,7 +14,7 @@ use octets::put_upper;
 
 // Writes the values of a part, with commas between them.
 fn put_values(out: &mut [u8], at: usize, sort: ItemSort, v: &[u8]) -> usize
-    ensures { λ r. ⌜ Wrote (pen (now (out .entry)) at) (valuesShown (sortSaid sort) (now (v .entry))) (pen (now (out .exit)) r) ⌝ }
+    ensures { λ r. ⌜ Wrote (pen (now (out .entry)) at) (valuesShown (partSortSaid sort) (now (v .entry))) (pen (now (out .exit)) r) ⌝ }
 {
     let mut to = at;
     let mut from = 0;

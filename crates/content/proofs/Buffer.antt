@@ -12,60 +12,60 @@ use Rattle.octets.proofs.Pieces.{Free}
 use Rattle.octets.proofs.Positions.{ended}
 use Rattle.content.specs.Lines.{laidOut}
 use Rattle.content.specs.Scan.{until}
-use Rattle.content.specs.Buffer.{isLf, linesIn}
+use Rattle.content.specs.Buffer.{isLf, bufferLines}
 use Rattle.content.proofs.Scanning.{scan-is, scan-rest}
 
 -- the first line, and those behind it
-onto-first : (c : ℕ) (s : List ℕ) → (0 < length s → linesIn s ≡ until isLf s ∷ linesIn (drop (suc (length (until isLf s))) s))
-    → onto c (linesIn s) ≡ (c ∷ until isLf s) ∷ linesIn (drop (suc (length (until isLf s))) s)
-unfolding onto linesIn until
+onto-first : (c : ℕ) (s : List ℕ) → (0 < length s → bufferLines s ≡ until isLf s ∷ bufferLines (drop (suc (length (until isLf s))) s))
+    → onto c (bufferLines s) ≡ (c ∷ until isLf s) ∷ bufferLines (drop (suc (length (until isLf s))) s)
+unfolding onto bufferLines until
 onto-first c [] h = refl
 onto-first c (d ∷ s) h = rw (h (omega arith))
 
-first-by : (b : Bool) (c : ℕ) (s : List ℕ) → (0 < length s → linesIn s ≡ until isLf s ∷ linesIn (drop (suc (length (until isLf s))) s))
-    → cut b c (linesIn s) ≡ pick b [] (c ∷ until isLf s) ∷ linesIn (drop (length (pick b [] (c ∷ until isLf s))) s)
+first-by : (b : Bool) (c : ℕ) (s : List ℕ) → (0 < length s → bufferLines s ≡ until isLf s ∷ bufferLines (drop (suc (length (until isLf s))) s))
+    → cut b c (bufferLines s) ≡ pick b [] (c ∷ until isLf s) ∷ bufferLines (drop (length (pick b [] (c ∷ until isLf s))) s)
 unfolding cut
 first-by true c s h = refl
 first-by false c s h = onto-first c s h
 
-lines-first : (s : List ℕ) → 0 < length s → linesIn s ≡ until isLf s ∷ linesIn (drop (suc (length (until isLf s))) s)
-unfolding linesIn until
+lines-first : (s : List ℕ) → 0 < length s → bufferLines s ≡ until isLf s ∷ bufferLines (drop (suc (length (until isLf s))) s)
+unfolding bufferLines until
 lines-first [] h = absurd (omega arith)
 lines-first (c ∷ s) h = first-by (isLf c) c s (lines-first s)
 
 -- the line at i ends at e, and the next one begins behind it
 pub line-here : (s : List ℕ) (i e : ℕ) → e ≡ i + length (until isLf (drop i s)) → i < length s
-    → linesIn (drop i s) ≡ take (e - i) (drop i s) ∷ linesIn (drop (e + 1) s)
+    → bufferLines (drop i s) ≡ take (e - i) (drop i s) ∷ bufferLines (drop (e + 1) s)
 line-here s i e q h =
     lines-first (drop i s) (rw (length-drop i s) (omega arith))
     ∙ rw (scan-rest isLf s i e q, ← scan-is isLf s i e q)
 
-pub lines-none : (s : List ℕ) (i : ℕ) → length s ≤ i → linesIn (drop i s) ≡ []
-unfolding linesIn
+pub lines-none : (s : List ℕ) (i : ℕ) → length s ≤ i → bufferLines (drop i s) ≡ []
+unfolding bufferLines
 lines-none s i h = rw (ended s i h)
 
 -- lines without LF, laid out, are found again
-cut-laid : (l : List ℕ) (s : List ℕ) → Free (code "\n") l → linesIn (l ++ code "\n" ∷ s) ≡ l ∷ linesIn s
-unfolding linesIn cut onto
+cut-laid : (l : List ℕ) (s : List ℕ) → Free (code "\n") l → bufferLines (l ++ code "\n" ∷ s) ≡ l ∷ bufferLines s
+unfolding bufferLines cut onto
 cut-laid [] s h = refl
 cut-laid (c ∷ l) s h = rw (h .0, cut-laid l s (h .1))
 
-pub lines-again : (ls : List (List ℕ)) → All (Free (code "\n")) ls → linesIn (laidOut ls) ≡ ls
-unfolding laidOut linesIn
+pub lines-again : (ls : List (List ℕ)) → All (Free (code "\n")) ls → bufferLines (laidOut ls) ≡ ls
+unfolding laidOut bufferLines
 lines-again [] h = refl
 lines-again (l ∷ ls) h = cut-laid l (laidOut ls) (h .0) ∙ ap (λ (r : List (List ℕ)). l ∷ r) (lines-again ls (h .1))
 
 -- a test of every line: the line at i ends at e
 module _ (f : List ℕ → Bool) (s : List ℕ) (i : ℕ) where
-  pub all-none : length s ≤ i → all f (linesIn (drop i s)) ≡ true
+  pub all-none : length s ≤ i → all f (bufferLines (drop i s)) ≡ true
   unfolding all
   all-none h = rw (lines-none s i h)
 
   module _ (e : ℕ) (q : e ≡ i + length (until isLf (drop i s))) (h : i < length s) where
-    pub all-on : f (take (e - i) (drop i s)) ≡ true → all f (linesIn (drop i s)) ≡ all f (linesIn (drop (e + 1) s))
+    pub all-on : f (take (e - i) (drop i s)) ≡ true → all f (bufferLines (drop i s)) ≡ all f (bufferLines (drop (e + 1) s))
     unfolding all
     all-on t = rw (line-here s i e q h, t)
 
-    pub all-off : f (take (e - i) (drop i s)) ≡ false → all f (linesIn (drop i s)) ≡ false
+    pub all-off : f (take (e - i) (drop i s)) ≡ false → all f (bufferLines (drop i s)) ≡ false
     unfolding all
     all-off t = rw (line-here s i e q h, t)

@@ -15,7 +15,7 @@ use Rattle.octets.proofs.Positions.{here, ended, first-of, part-rest}
 use Rattle.json.specs.Print.{escaped, quoted}
 use Rattle.content.specs.Carets.{decodedOctet, caretAfter, decodedFrom, decoded}
 use Rattle.content.specs.Scan.{until}
-use Rattle.content.specs.Object.{standsFor, takes, special}
+use Rattle.content.specs.Object.{standsFor, octetsRead, special}
 use Rattle.content.proofs.Scanning.{until-free, scan-low, scan-is}
 
 -- one octet, or a caret and the octet behind it
@@ -29,8 +29,8 @@ caret-by d s false true false e f = refl
 caret-by d s false false true e f = refl
 caret-by d s false false false e f = rw e
 
-turn : (c : ℕ) (s : List ℕ) → decodedFrom false (c ∷ s) ≡ standsFor c (getD s 0 0) ∷ decodedFrom false (drop (takes c (getD s 0 0)) (c ∷ s))
-unfolding decodedFrom decodedOctet caretAfter standsFor takes
+turn : (c : ℕ) (s : List ℕ) → decodedFrom false (c ∷ s) ≡ standsFor c (getD s 0 0) ∷ decodedFrom false (drop (octetsRead c (getD s 0 0)) (c ∷ s))
+unfolding decodedFrom decodedOctet caretAfter standsFor octetsRead
 turn c [] = same? c (code "^") (λ e. rw e) (λ n. rw n)
 turn c (d ∷ s) = same? c (code "^")
     (λ e. rw e (caret-by d s (eqb d (code "n")) (eqb d (code "^")) (eqb d (code "'")) refl refl))
@@ -70,7 +70,7 @@ module _ (s : List ℕ) (i : ℕ) where
         ∙ plain-run (take (e - i) (drop i s)) (drop e s) (rw (scan-is special s i e q) (until-free special (drop i s)))
 
     step : e < length s → decodedFrom false (drop e s)
-        ≡ standsFor (getD s e 0) (getD s (e + 1) 0) ∷ decodedFrom false (drop (e + takes (getD s e 0) (getD s (e + 1) 0)) s)
+        ≡ standsFor (getD s e 0) (getD s (e + 1) 0) ∷ decodedFrom false (drop (e + octetsRead (getD s e 0) (getD s (e + 1) 0)) s)
     step h =
         ap (decodedFrom false) (here s e h)
         ∙ turn (getD s e 0) (drop (e + 1) s)
@@ -80,14 +80,14 @@ module _ (s : List ℕ) (i : ℕ) where
     unfolding decodedFrom quoted
     value-last h = run ∙ rw (ended s e h)
 
-    pub value-on : e < length s → (d x n : ℕ) → d ≡ getD s (e + 1) 0 → x ≡ standsFor (getD s e 0) d → n ≡ takes (getD s e 0) d
+    pub value-on : e < length s → (d x n : ℕ) → d ≡ getD s (e + 1) 0 → x ≡ standsFor (getD s e 0) d → n ≡ octetsRead (getD s e 0) d
         → quoted (decodedFrom false (drop i s)) ≡ (take (e - i) (drop i s) ++ escaped x) ++ quoted (decodedFrom false (drop (e + n) s))
     unfolding quoted
     value-on h d x n f g k = run ∙ rw (g, k, f, step h) (sym (append-assoc (take (e - i) (drop i s)) _ _))
 
 -- what is read is an octet, or two
-pub takes-some : (c d n : ℕ) → n ≡ takes c d → 0 < n
-unfolding takes
+pub takes-some : (c d n : ℕ) → n ≡ octetsRead c d → 0 < n
+unfolding octetsRead
 takes-some c d n e = rw e (by (eqb c (code "^")) (eqb d (code "n")) (eqb d (code "^")) (eqb d (code "'")))
   where
     by : (a n k q : Bool) → 0 < pick a (pick n 2 (pick k 2 (pick q 2 1))) 1
@@ -97,8 +97,8 @@ takes-some c d n e = rw e (by (eqb c (code "^")) (eqb d (code "n")) (eqb d (code
     by true false false true = omega arith
     by true false false false = omega arith
 
-pub takes-few : (c d n : ℕ) → n ≡ takes c d → n ≤ 2
-unfolding takes
+pub takes-few : (c d n : ℕ) → n ≡ octetsRead c d → n ≤ 2
+unfolding octetsRead
 takes-few c d n e = rw e (by (eqb c (code "^")) (eqb d (code "n")) (eqb d (code "^")) (eqb d (code "'")))
   where
     by : (a n k q : Bool) → pick a (pick n 2 (pick k 2 (pick q 2 1))) 1 ≤ 2

@@ -11,7 +11,7 @@ use Rattle.octets.specs.Classes.{between, isDigit, isUpper, isLower, isLetter, 
 use Rattle.octets.proofs.Cases.{cases, same?, never, apart, and-true}
 use Rattle.content.specs.Form.{Place, start, name, paramStart, paramName, valueStart, plain, quoted, unquoted, value, nowhere, behindValue, inValue, place, placeAfter, isValue, formed}
 use Rattle.content.specs.Line.{quoteAfter, bare, before, behind, pieces}
-use Rattle.content.specs.Parts.{others}
+use Rattle.content.specs.Parts.{otherPieces}
 use Rattle.content.proofs.HeadPieces.{first, head, Ended, Paired, Parameter, Shape, Fit, Fits, fit-on, fit-next, fit-end, plain-on, name-on}
 
 -- names
@@ -92,11 +92,11 @@ unfolding pieces bare quoteAfter cut
 start-closes = record { none = (tt, tt); comma = λ l h. (tt, h) }
 
 plain-closes : Closes (Shape plain)
-unfolding pieces bare quoteAfter cut others
+unfolding pieces bare quoteAfter cut otherPieces
 plain-closes = record { none = tt; comma = λ l h. h }
 
 unquoted-closes : Closes (Shape unquoted)
-unfolding pieces bare quoteAfter cut others
+unfolding pieces bare quoteAfter cut otherPieces
 unquoted-closes = record { none = (refl, tt); comma = λ l h. (refl, h) }
 
 -- an octet of a value that ends none
@@ -105,13 +105,13 @@ module _ (c : ℕ) (n : eqb c (code ",") ≡ false) (k : eqb c (code "\"") ≡ f
   unfolding pieces cut bare quoteAfter
   pieces-on l = rw (n, k)
 
-  others-onto : (ls : List (List ℕ)) → others (onto c ls) ≡ others ls
-  unfolding others onto
+  others-onto : (ls : List (List ℕ)) → otherPieces (onto c ls) ≡ otherPieces ls
+  unfolding otherPieces onto
   others-onto [] = refl
   others-onto (l ∷ ls) = refl
 
-  paired-onto : (ls : List (List ℕ)) → All Paired (others ls) → All Paired (onto c ls)
-  unfolding others onto
+  paired-onto : (ls : List (List ℕ)) → All Paired (otherPieces ls) → All Paired (onto c ls)
+  unfolding otherPieces onto
   paired-onto [] h = (λ e. never e k, tt)
   paired-onto (l ∷ ls) h = (λ e. never e k, h)
 
@@ -122,8 +122,8 @@ module _ (c : ℕ) (n : eqb c (code ",") ≡ false) (k : eqb c (code "\"") ≡ f
   plain-more l h = rw (pieces-on l, others-onto (pieces (code ",") false l)) h
 
 -- quotes around a value
-quote-opens : (ls : List (List ℕ)) → Ended (first ls) → All Paired (others ls) → All Paired (onto (code "\"") ls)
-unfolding others onto
+quote-opens : (ls : List (List ℕ)) → Ended (first ls) → All Paired (otherPieces ls) → All Paired (onto (code "\"") ls)
+unfolding otherPieces onto
 quote-opens [] h k = absurd h
 quote-opens (l ∷ ls) h k = (λ e. h, k)
 
@@ -135,8 +135,8 @@ ended-more : (c : ℕ) (l : List ℕ) → Ended l → Ended (c ∷ l)
 ended-more c [] h = absurd h
 ended-more c (d ∷ l) h = h
 
-quoted-onto : (c : ℕ) (ls : List (List ℕ)) → Ended (c ∷ first ls) → All Paired (others ls) → Ended (first (onto c ls)) × All Paired (others (onto c ls))
-unfolding others onto
+quoted-onto : (c : ℕ) (ls : List (List ℕ)) → Ended (c ∷ first ls) → All Paired (otherPieces ls) → Ended (first (onto c ls)) × All Paired (otherPieces (onto c ls))
+unfolding otherPieces onto
 quoted-onto c [] h k = (h, tt)
 quoted-onto c (l ∷ ls) h k = (h, k)
 
@@ -203,6 +203,6 @@ told value (c ∷ s) h = tt
 told nowhere (c ∷ s) h = lost (c ∷ s) h
 
 -- THE LAW: a line of the form begins with a name, and what stands between it and the colon are parameters
-pub formed-parts : (s : List ℕ) → formed s ≡ true → (isName (first (head false s)) ≡ true) × All Parameter (others (head false s))
+pub formed-parts : (s : List ℕ) → formed s ≡ true → (isName (first (head false s)) ≡ true) × All Parameter (otherPieces (head false s))
 unfolding formed
 formed-parts s h = told start s h

@@ -11,7 +11,7 @@ use Rattle.octets.specs.Classes.{between, isDigit, isUpper, isLower, isLetter, 
 use Rattle.octets.proofs.Cases.{apart}
 use Rattle.content.specs.Form.{Place, start, name, paramStart, paramName, valueStart, plain, quoted, unquoted, value, nowhere}
 use Rattle.content.specs.Line.{quoteAfter, bare, before, behind, pieces}
-use Rattle.content.specs.Parts.{others}
+use Rattle.content.specs.Parts.{otherPieces}
 
 abbrev pub first : List (List ℕ) → List ℕ
 first [] = []
@@ -55,15 +55,15 @@ Shape name l = all nameOctet l ≡ true
 Shape paramStart l = Parameter l
 Shape paramName l = (all nameOctet (before (code "=") false l) ≡ true) × All Paired (pieces (code ",") false (behind (code "=") false l))
 Shape valueStart l = All Paired (pieces (code ",") false l)
-Shape plain l = All Paired (others (pieces (code ",") false l))
-Shape quoted l = Ended (first (pieces (code ",") true l)) × All Paired (others (pieces (code ",") true l))
-Shape unquoted l = (first (pieces (code ",") false l) ≡ []) × All Paired (others (pieces (code ",") false l))
+Shape plain l = All Paired (otherPieces (pieces (code ",") false l))
+Shape quoted l = Ended (first (pieces (code ",") true l)) × All Paired (otherPieces (pieces (code ",") true l))
+Shape unquoted l = (first (pieces (code ",") false l) ≡ []) × All Paired (otherPieces (pieces (code ",") false l))
 Shape value l = Unit {0}
 Shape nowhere l = ⊥
 
 -- and what all pieces are; behind the colon nothing is due
 abbrev pub Fit : Bool → (List ℕ → Type 0) → List ℕ → Type 0
-Fit q T s = T (first (head q s)) × All Parameter (others (head q s))
+Fit q T s = T (first (head q s)) × All Parameter (otherPieces (head q s))
 
 abbrev pub Fits : Place → List ℕ → Type 0
 Fits start s = Fit false (Shape start) s
@@ -78,8 +78,8 @@ Fits value s = Unit {0}
 Fits nowhere s = ⊥
 
 -- an octet in front of the first piece; a new piece; the last one
-fit-onto : (T : List ℕ → Type 0) (c : ℕ) (ls : List (List ℕ)) → T (c ∷ first ls) → All Parameter (others ls) → T (first (onto c ls)) × All Parameter (others (onto c ls))
-unfolding onto others
+fit-onto : (T : List ℕ → Type 0) (c : ℕ) (ls : List (List ℕ)) → T (c ∷ first ls) → All Parameter (otherPieces ls) → T (first (onto c ls)) × All Parameter (otherPieces (onto c ls))
+unfolding onto otherPieces
 fit-onto T c [] h k = (h, tt)
 fit-onto T c (l ∷ ls) h k = (h, k)
 
@@ -87,17 +87,17 @@ pub fit-on : (q r : Bool) (T U : List ℕ → Type 0) (c : ℕ) (s : List ℕ) �
     → ((l : List ℕ) → U l → T (c ∷ l)) → Fit r U s → Fit q T (c ∷ s)
 fit-on q r T U c s h k e f g = rw (head-on q r c s h k e) (fit-onto T c (head r s) (f (first (head r s)) (g .0)) (g .1))
 
-all-of : (P : List ℕ → Type 0) (ls : List (List ℕ)) → P (first ls) → All P (others ls) → All P ls
-unfolding others
+all-of : (P : List ℕ → Type 0) (ls : List (List ℕ)) → P (first ls) → All P (otherPieces ls) → All P ls
+unfolding otherPieces
 all-of P [] h k = tt
 all-of P (l ∷ ls) h k = (h, k)
 
 pub fit-next : (T : List ℕ → Type 0) (s : List ℕ) → T [] → Fit false Parameter s → Fit false T (code ";" ∷ s)
-unfolding others
+unfolding otherPieces
 fit-next T s t g = rw (head-next s) (t, all-of Parameter (head false s) (g .0) (g .1))
 
 pub fit-end : (T : List ℕ → Type 0) (s : List ℕ) → T [] → Fit false T (code ":" ∷ s)
-unfolding others
+unfolding otherPieces
 fit-end T s t = rw (head-end s) (t, tt)
 
 -- an octet that is no separator

@@ -17,7 +17,7 @@ use Rattle.octets.proofs.Transducer.{Runs, Keeps, run-all, run-utf8}
 use Rattle.content.specs.Carets.{decodedOctet, caretAfter, decodedFrom, decoded}
 use Rattle.content.specs.Form.{formed}
 use Rattle.content.specs.Line.{Line, quoteAfter, bare, before, behind, pieces, front, unquote, paramValue, paramOf, headed, lineOf}
-use Rattle.content.specs.Parts.{others}
+use Rattle.content.specs.Parts.{otherPieces}
 use Rattle.content.proofs.Separators.{pieces-first, pieces-filled}
 use Rattle.content.proofs.Written.{Writable}
 use Rattle.content.proofs.WrittenClean.{Texts, clean-none, clean-joined}
@@ -176,8 +176,8 @@ pub record Parted (l : Line) : Type 0 where
   pub texts : All Texts (l .params)
   pub value : clean (l .value) ≡ true
 
-headed-parts : (ls : List (List ℕ)) (v : List ℕ) → isName (first ls) ≡ true → All Parameter (others ls) → All (λ l. clean l ≡ true) ls → clean v ≡ true → Parted (headed ls v)
-unfolding headed others
+headed-parts : (ls : List (List ℕ)) (v : List ℕ) → isName (first ls) ≡ true → All Parameter (otherPieces ls) → All (λ l. clean l ≡ true) ls → clean v ≡ true → Parted (headed ls v)
+unfolding headed otherPieces
 headed-parts [] v n h c d = record { named = n; writable = tt; texts = tt; value = d }
 headed-parts (l ∷ ls) v n h c d = record { named = n; writable = params-writable ls h; texts = params-texts ls h (c .1); value = d }
 

@@ -15,7 +15,7 @@ use Rattle.octets.proofs.Cases.{cases, never, either, neither}
 use Rattle.octets.proofs.Positions.{here, ended, upto, part-length}
 use Rattle.content.specs.Line.{Line, quoteAfter, bare, before, behind, pieces, headed, paramOf, lineOf}
 use Rattle.content.specs.Scan.{untilBare}
-use Rattle.content.specs.Parts.{others, paramsIn, lineAt, Cut, paramAt, CutParam}
+use Rattle.content.specs.Parts.{otherPieces, paramsIn, lineAt, Cut, paramAt, CutParam}
 use Rattle.content.specs.declared.parts.Parts.{Parts}
 use Rattle.content.proofs.Scanning.{bare-here, bare-high, bare-is, bare-rest, bare-stop}
 
@@ -47,18 +47,18 @@ pub record Skips (first last : ℕ) (q : Bool) (s : List ℕ) : Type 0 where
   pub whole : before last q s ≡ untilBare (oneOf first last) q s ++ before last false (drop (length (untilBare (oneOf first last) q s)) s)
   pub rest : behind last q s ≡ behind last false (drop (length (untilBare (oneOf first last) q s)) s)
   pub parts : pieces first q (before last q s)
-      ≡ untilBare (oneOf first last) q s ∷ others (pieces first false (before last false (drop (length (untilBare (oneOf first last) q s)) s)))
+      ≡ untilBare (oneOf first last) q s ∷ otherPieces (pieces first false (before last false (drop (length (untilBare (oneOf first last) q s)) s)))
   pub front : before first q (before last q s) ≡ untilBare (oneOf first last) q s
   pub back : behind first q (before last q s) ≡ behind first false (before last false (drop (length (untilBare (oneOf first last) q s)) s))
 
 module _ (first last : ℕ) where
   none : (q : Bool) → Skips first last q []
-  unfolding untilBare before behind pieces others
+  unfolding untilBare before behind pieces otherPieces
   none q = record { whole = refl; rest = refl; parts = refl; front = refl; back = refl }
 
   stops-parts : (c : ℕ) (s : List ℕ) → (eqb c first or eqb c last) ≡ true
-      → pieces first false (before last false (c ∷ s)) ≡ [] ∷ others (pieces first false (before last false (c ∷ s)))
-  unfolding before pieces bare cut others
+      → pieces first false (before last false (c ∷ s)) ≡ [] ∷ otherPieces (pieces first false (before last false (c ∷ s)))
+  unfolding before pieces bare cut otherPieces
   stops-parts c s e = cases (eqb c last)
       (λ g. rw g)
       (λ g. either (eqb c first) (eqb c last) e (λ h. rw (g, h)) (λ h. never h g))
@@ -120,14 +120,14 @@ module _ (sep : ℕ) (s : List ℕ) (i e : ℕ) (q : e ≡ i + length (untilBare
 
 -- the first piece, and the others
 pieces-by : (sep : ℕ) (q : Bool) (c : ℕ) (s : List ℕ) (b : Bool) → bare sep q c ≡ b
-    → pieces sep (quoteAfter q c) s ≡ before sep (quoteAfter q c) s ∷ others (pieces sep false (drop (length (before sep (quoteAfter q c) s)) s))
-    → cut b c (pieces sep (quoteAfter q c) s) ≡ pick b [] (c ∷ before sep (quoteAfter q c) s) ∷ others (pieces sep false (drop (length (pick b [] (c ∷ before sep (quoteAfter q c) s))) (c ∷ s)))
-unfolding cut onto pieces others bare
+    → pieces sep (quoteAfter q c) s ≡ before sep (quoteAfter q c) s ∷ otherPieces (pieces sep false (drop (length (before sep (quoteAfter q c) s)) s))
+    → cut b c (pieces sep (quoteAfter q c) s) ≡ pick b [] (c ∷ before sep (quoteAfter q c) s) ∷ otherPieces (pieces sep false (drop (length (pick b [] (c ∷ before sep (quoteAfter q c) s))) (c ∷ s)))
+unfolding cut onto pieces otherPieces bare
 pieces-by sep q c s true e h = rw (not-quoted q (eqb c sep) e, rw (not-quoted q (eqb c sep) e) at e)
 pieces-by sep q c s false e h = rw h
 
-pub pieces-first : (sep : ℕ) (q : Bool) (s : List ℕ) → pieces sep q s ≡ before sep q s ∷ others (pieces sep false (drop (length (before sep q s)) s))
-unfolding pieces before others
+pub pieces-first : (sep : ℕ) (q : Bool) (s : List ℕ) → pieces sep q s ≡ before sep q s ∷ otherPieces (pieces sep false (drop (length (before sep q s)) s))
+unfolding pieces before otherPieces
 pieces-first sep q [] = refl
 pieces-first sep q (c ∷ s) = pieces-by sep q c s (bare sep q c) refl (pieces-first sep (quoteAfter q c) s)
 
@@ -141,20 +141,20 @@ pieces-filled sep q s e =
 
 -- by places: the piece from i to the next `sep` at e
 module _ (sep : ℕ) (n : eqb sep (code "\"") ≡ false) (s : List ℕ) (i e : ℕ) (q : e ≡ i + length (untilBare (oneOf sep sep) false (drop i s))) where
-  piece-at : pieces sep false (drop i s) ≡ take (e - i) (drop i s) ∷ others (pieces sep false (drop e s))
+  piece-at : pieces sep false (drop i s) ≡ take (e - i) (drop i s) ∷ otherPieces (pieces sep false (drop e s))
   piece-at =
       pieces-first sep false (drop i s)
       ∙ rw (← before-is sep false (drop i s), bare-rest (oneOf sep sep) s i e q, ← bare-is (oneOf sep sep) s i e q)
 
   pub piece-last : length s ≤ e → pieces sep false (drop i s) ≡ take (e - i) (drop i s) ∷ []
-  unfolding pieces others
+  unfolding pieces otherPieces
   piece-last h = piece-at ∙ rw (ended s e h)
 
   pub piece-stop : e < length s → getD s e 0 ≡ sep
   piece-stop h = eqb-true (getD s e 0) sep (rw (twice-one (eqb (getD s e 0) sep)) at (bare-stop (oneOf sep sep) s i e q h))
 
   pub piece-on : e < length s → pieces sep false (drop i s) ≡ take (e - i) (drop i s) ∷ pieces sep false (drop (e + 1) s)
-  unfolding pieces others bare quoteAfter cut
+  unfolding pieces otherPieces bare quoteAfter cut
   piece-on h = piece-at ∙ rw (here s e h, piece-stop h, eq-eqb sep sep refl, n)
 
 -- the parts of a line

@@ -19,9 +19,9 @@ use Rattle.octets.proofs.Positions.{here, ended, upto}
 use Rattle.content.specs.Line.{quoteAfter, bare, before, pieces, paramValue}
 use Rattle.content.specs.Carets.{decoded}
 use Rattle.content.specs.Scan.{untilBare}
-use Rattle.content.specs.Parts.{others, paramsIn, paramAt, CutParam, Inner}
+use Rattle.content.specs.Parts.{otherPieces, paramsIn, paramAt, CutParam, Inner}
 use Rattle.content.specs.Parameters.{called, token, valueType, isBase64, encodes, isEncoded}
-use Rattle.content.specs.Kinds.{kindOf, Tells}
+use Rattle.content.specs.Kinds.{valueTypeSaid, TellsType}
 use Rattle.content.specs.declared.parts.ParamParts.{ParamParts}
 use Rattle.content.specs.declared.parts.Span.{Span}
 use Rattle.content.specs.declared.params.ValueType.{ValueType}
@@ -33,18 +33,18 @@ use Rattle.content.proofs.Tokens.{decoded-name, name-decoded, word-deco
 
 -- the values of a parameter are one where no comma separates them
 module _ (t : List ℕ) (c : ℕ) (q : c ≡ 0 + length (untilBare (oneOf (code ",") (code ",")) false (drop 0 t))) where
-  pieces-at : pieces (code ",") false t ≡ before (code ",") false t ∷ others (pieces (code ",") false (drop c t))
+  pieces-at : pieces (code ",") false t ≡ before (code ",") false t ∷ otherPieces (pieces (code ",") false (drop c t))
   pieces-at = pieces-first (code ",") false t ∙ rw (← before-is (code ",") false t, bare-rest (oneOf (code ",") (code ",")) t 0 c q)
 
   pub single-one : length t ≤ c → single (pieces (code ",") false t) ≡ true
-  unfolding single filled pieces others
+  unfolding single filled pieces otherPieces
   single-one h = rw (pieces-at, ended t c h)
 
   comma : c < length t → getD t c 0 ≡ code ","
   comma h = eqb-true (getD t c 0) (code ",") (rw (twice-one (eqb (getD t c 0) (code ","))) at (bare-stop (oneOf (code ",") (code ",")) t 0 c q h))
 
   pub single-not : c < length t → single (pieces (code ",") false t) ≡ false
-  single-not h = rw (pieces-at, here t c h, comma h) (unfold pieces bare cut others in more (drop (c + 1) t))
+  single-not h = rw (pieces-at, here t c h, comma h) (unfold pieces bare cut otherPieces in more (drop (c + 1) t))
     where
       more : (r : List ℕ) → single (before (code ",") false t ∷ pieces (code ",") (quoteAfter false (code ",")) r) ≡ false
       more r = rw (pieces-first (code ",") (quoteAfter false (code ",")) r) (unfold single filled in refl)
@@ -55,7 +55,7 @@ module _ (t : List ℕ) (c : ℕ) (q : c ≡ 0 + length (untilBare (oneOf (code 
       (λ e. single-not (leb-false (length t) c e) ∙ sym e)
 
   one-at : single (pieces (code ",") false t) ≡ true → pieces (code ",") false t ≡ t ∷ []
-  unfolding pieces others
+  unfolding pieces otherPieces
   one-at h =
       let l : length t ≤ c = leb-true (length t) c (sym single-told ∙ h) in
       let w : before (code ",") false t ≡ t = sep-before (code ",") t 0 c q ∙ upto t c ∙ take-all c t l in
@@ -89,8 +89,8 @@ called-is w x e = same-lower x w ∙ rw e
 
 -- the values from v to e, and the first without its quotes
 module _ (s : List ℕ) (v e : ℕ) where
-  pub tells-several : single (pieces (code ",") false (take (e - v) (drop v s))) ≡ false → Tells s (token (map paramValue (pieces (code ",") false (take (e - v) (drop v s))))) Faulty
-  unfolding kindOf
+  pub tells-several : single (pieces (code ",") false (take (e - v) (drop v s))) ≡ false → TellsType s (token (map paramValue (pieces (code ",") false (take (e - v) (drop v s))))) Faulty
+  unfolding valueTypeSaid
   tells-several h = record { is = sym (token-by _ (single-map _ ∙ h)); within = tt }
 
   pub base64-several : single (pieces (code ",") false (take (e - v) (drop v s))) ≡ false → isBase64 (map paramValue (pieces (code ",") false (take (e - v) (drop v s)))) ≡ false
@@ -101,8 +101,8 @@ module _ (s : List ℕ) (v e : ℕ) where
     unfolding paramValue
     value = rw (one-value (take (e - v) (drop v s)) h, k .is)
 
-    pub tells-no-name : isName (take (p .end - p .from) (drop (p .from) s)) ≡ false → Tells s (token (map paramValue (pieces (code ",") false (take (e - v) (drop v s))))) Faulty
-    unfolding kindOf token
+    pub tells-no-name : isName (take (p .end - p .from) (drop (p .from) s)) ≡ false → TellsType s (token (map paramValue (pieces (code ",") false (take (e - v) (drop v s))))) Faulty
+    unfolding valueTypeSaid token
     tells-no-name n = record { is = rw (value, name-decoded (take (p .end - p .from) (drop (p .from) s)), n); within = tt }
 
     module _ (n : isName (take (p .end - p .from) (drop (p .from) s)) ≡ true) where
@@ -111,13 +111,13 @@ module _ (s : List ℕ) (v e : ℕ) where
       unfolding token
       token-is = rw (value, decoded-name (take (p .end - p .from) (drop (p .from) s)) n, n)
 
-      pub tells-unknown : sameName (take (p .end - p .from) (drop (p .from) s)) (octets "unknown") ≡ true → Tells s (token (map paramValue (pieces (code ",") false (take (e - v) (drop v s))))) Faulty
-      unfolding kindOf
+      pub tells-unknown : sameName (take (p .end - p .from) (drop (p .from) s)) (octets "unknown") ≡ true → TellsType s (token (map paramValue (pieces (code ",") false (take (e - v) (drop v s))))) Faulty
+      unfolding valueTypeSaid
       tells-unknown u = record { is = sym (token-is ∙ rw (sym (called-is (octets "unknown") _ (unfold lower lowerOctet isUpper between in refl)) ∙ u)); within = tt }
 
       pub tells-named : e ≤ length s → sameName (take (p .end - p .from) (drop (p .from) s)) (octets "unknown") ≡ false
-          → Tells s (token (map paramValue (pieces (code ",") false (take (e - v) (drop v s))))) (Named (p .from) (p .end))
-      unfolding kindOf
+          → TellsType s (token (map paramValue (pieces (code ",") false (take (e - v) (drop v s))))) (Named (p .from) (p .end))
+      unfolding valueTypeSaid
       tells-named l u = record {
         is = sym (token-is ∙ rw (sym (called-is (octets "unknown") _ (unfold lower lowerOctet isUpper between in refl)) ∙ u));
         within = (k .order, omega (arith, k .high));
@@ -134,12 +134,12 @@ module _ (s : List ℕ) (v e : ℕ) where
         upper-base64 = unfold upper upperOctet isLower between in refl
 
 -- the walk for VALUE
-pub tells : {s : List ℕ} {a b : Answer (Option (List ℕ))} {k : ValueType} → a ≡ b → Tells s b k → Tells s a k
+pub tells : {s : List ℕ} {a b : Answer (Option (List ℕ))} {k : ValueType} → a ≡ b → TellsType s b k → TellsType s a k
 tells e t = rw e t
 
 module _ (s : List ℕ) (e : ℕ) where
-  pub type-none : length s ≤ e → Tells s (valueType (paramsIn (drop e s))) Absent
-  unfolding valueType kindOf
+  pub type-none : length s ≤ e → TellsType s (valueType (paramsIn (drop e s))) Absent
+  unfolding valueType valueTypeSaid
   type-none h = record { is = rw (no-params s e h); within = tt }
 
   module _ (st : Stands s e) (h : e < length s) (p : ParamParts) (k : CutParam s (e + 1) p) where

@@ -18,7 +18,7 @@ use Rattle.octets.proofs.Pieces.{Free}
 use Rattle.octets.proofs.Positions.{here, ended, part-more, part-length, first-of}
 use Rattle.content.specs.Lines.{endingOf, isBlank, Mark, octet, ending, fold, markOf, marked, linesFrom, linesOf, laidOut}
 use Rattle.content.specs.Scan.{until}
-use Rattle.content.specs.Buffer.{isLf, linesIn}
+use Rattle.content.specs.Buffer.{isLf, bufferLines}
 use Rattle.content.proofs.Scanning.{until-free, scan-low, scan-is, scan-stop, scan-split, scan-whole}
 use Rattle.content.proofs.Buffer.{lines-again}
 
@@ -284,7 +284,7 @@ laid-short s = rw (← laid-fresh (linesFrom 0 s)) (short false 0 s)
 pub record Unfolded (s b : List ℕ) (r : ℕ) : Type 0 where
   pub within : r ≤ length b
   pub laid : take r b ≡ laidOut (linesOf s)
-  pub lines : linesIn (take r b) ≡ linesOf s
+  pub lines : bufferLines (take r b) ≡ linesOf s
 
 pub unfolded : (s o b : List ℕ) (r : ℕ) → length s < length o → Wrote (pen o 0) (laidOut (linesOf s)) (pen b r) → Unfolded s b r
 unfolded s o b r h w =
@@ -292,5 +292,5 @@ unfolded s o b r h w =
     record {
       within = omega (arith, l .count, kept w, laid-short s);
       laid = l .front;
-      lines = ap linesIn (l .front) ∙ lines-again (linesOf s) (lines-free s);
+      lines = ap bufferLines (l .front) ∙ lines-again (linesOf s) (lines-free s);
     }

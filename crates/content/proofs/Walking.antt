@@ -16,7 +16,7 @@ use Rattle.octets.proofs.Classes.{between-true, within-between, above-between, 
 use Rattle.octets.proofs.Positions.{here, ended}
 use Rattle.content.specs.Line.{quoteAfter, bare, pieces, paramOf}
 use Rattle.content.specs.Scan.{untilBare}
-use Rattle.content.specs.Parts.{others, nameOf, paramsIn, paramAt, CutParam}
+use Rattle.content.specs.Parts.{otherPieces, nameOf, paramsIn, paramAt, CutParam}
 use Rattle.content.specs.Parameters.{nameTwice}
 use Rattle.content.specs.declared.parts.ParamParts.{ParamParts}
 use Rattle.content.proofs.Scanning.{bare-rest, bare-stop}
@@ -69,17 +69,17 @@ module _ (s : List ℕ) (i e : ℕ) (q : e ≡ i + length (untilBare (oneOf (cod
   }
 
   pub first-params : paramsIn (drop i s) ≡ paramsIn (drop e s)
-  unfolding paramsIn others
+  unfolding paramsIn otherPieces
   first-params = rw (pieces-first (code ";") false (drop i s), ← before-is (code ";") false (drop i s), bare-rest (oneOf (code ";") (code ";")) s i e q)
 
 pub no-params : (s : List ℕ) (e : ℕ) → length s ≤ e → paramsIn (drop e s) ≡ []
-unfolding paramsIn pieces others
+unfolding paramsIn pieces otherPieces
 no-params s e h = rw (ended s e h)
 
 -- the parameter behind the semicolon at e
 module _ (s : List ℕ) (e : ℕ) (st : Stands s e) (h : e < length s) where
   past : paramsIn (drop e s) ≡ map paramOf (pieces (code ";") false (drop (e + 1) s))
-  unfolding paramsIn pieces others bare quoteAfter cut
+  unfolding paramsIn pieces otherPieces bare quoteAfter cut
   past = rw (here s e h, st .semicolon h)
 
   pub param-here : (p : ParamParts) → CutParam s (e + 1) p → paramsIn (drop e s) ≡ paramAt s (e + 1) p ∷ paramsIn (drop (p .end) s)

@@ -10,6 +10,6 @@ abbrev pub isLf : ℕ → Bool
 isLf c = eqb c (code "\n")
 
 -- a last line without LF counts if it has octets
-unfoldable pub linesIn : List ℕ → List (List ℕ)
-linesIn [] = []
-linesIn (c ∷ s) = cut (isLf c) c (linesIn s)
+unfoldable pub bufferLines : List ℕ → List (List ℕ)
+bufferLines [] = []
+bufferLines (c ∷ s) = cut (isLf c) c (bufferLines s)

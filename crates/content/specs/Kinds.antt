@@ -9,10 +9,10 @@ use Rattle.octets.specs.Answers.{Answer, refused, accepted}
 use Rattle.content.specs.declared.params.ValueType.{ValueType}
 use Rattle.content.specs.declared.params.ValueType.the-variants.{Absent, Named, Faulty}
 
-unfoldable pub kindOf : List ℕ → ValueType → Answer (Option (List ℕ))
-kindOf s Absent = accepted none
-kindOf s (Named from end) = accepted (some (lower (take (end - from) (drop from s))))
-kindOf s Faulty = refused 7
+unfoldable pub valueTypeSaid : List ℕ → ValueType → Answer (Option (List ℕ))
+valueTypeSaid s Absent = accepted none
+valueTypeSaid s (Named from end) = accepted (some (lower (take (end - from) (drop from s))))
+valueTypeSaid s Faulty = refused 7
 
 -- the bounds lie within n octets
 abbrev pub Bounded : ℕ → ValueType → Type 0
@@ -22,6 +22,6 @@ Bounded n Faulty = Unit {0}
 
 -- `k` is the answer a. The type's name may stand in s at several places: at which of them the bounds of `Named` lie is the code's choice, and the octets
 -- within them are the name.
-pub record Tells (s : List ℕ) (a : Answer (Option (List ℕ))) (k : ValueType) : Type 0 where
-  pub is : kindOf s k ≡ a
+pub record TellsType (s : List ℕ) (a : Answer (Option (List ℕ))) (k : ValueType) : Type 0 where
+  pub is : valueTypeSaid s k ≡ a
   pub within : Bounded (length s) k

@@ -10,8 +10,8 @@ unfoldable pub standsFor : ℕ → ℕ → ℕ
 standsFor c d = pick (eqb c (code "^")) (pick (eqb d (code "n")) (code "\n") (pick (eqb d (code "'")) (code "\"") c)) c
 
 -- the octets that are read for it
-unfoldable pub takes : ℕ → ℕ → ℕ
-takes c d = pick (eqb c (code "^")) (pick (eqb d (code "n")) 2 (pick (eqb d (code "^")) 2 (pick (eqb d (code "'")) 2 1))) 1
+unfoldable pub octetsRead : ℕ → ℕ → ℕ
+octetsRead c d = pick (eqb c (code "^")) (pick (eqb d (code "n")) 2 (pick (eqb d (code "^")) 2 (pick (eqb d (code "'")) 2 1))) 1
 
 -- an octet that is neither read nor written as it stands
 unfoldable pub special : ℕ → Bool

@@ -12,16 +12,16 @@ use Rattle.content.specs.declared.parts.ParamParts.{ParamParts}
 use Rattle.content.specs.declared.parts.Span.{Span}
 
 -- all pieces but the first
-unfoldable pub others : List (List ℕ) → List (List ℕ)
-others [] = []
-others (p ∷ ps) = ps
+unfoldable pub otherPieces : List (List ℕ) → List (List ℕ)
+otherPieces [] = []
+otherPieces (p ∷ ps) = ps
 
 abbrev pub nameOf : Param → List ℕ
 nameOf p = p .name
 
 -- ;PARAM;PARAM
 unfoldable pub paramsIn : List ℕ → List Param
-paramsIn s = map paramOf (others (pieces (code ";") false s))
+paramsIn s = map paramOf (otherPieces (pieces (code ";") false s))
 
 -- what the places cut out of l
 unfoldable pub lineAt : List ℕ → Parts → Line

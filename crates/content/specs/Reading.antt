@@ -10,7 +10,7 @@ use Rattle.octets.specs.Pen.{pen, wrote}
 use Rattle.octets.specs.Answers.{Answer, refused, accepted, unless}
 use Rattle.content.specs.Lines.{linesOf, laidOut}
 use Rattle.content.specs.Form.{formed}
-use Rattle.content.specs.Buffer.{linesIn}
+use Rattle.content.specs.Buffer.{bufferLines}
 use Rattle.content.specs.declared.reading.Lines.{Lines}
 use Rattle.content.specs.declared.reading.Lines.the-variants.{Laid, NotClean, NotFormed, NoRoom}
 
@@ -19,7 +19,7 @@ tested ls = unless 3 (all clean ls) (λ _. unless 4 (all formed ls) (λ _. accep
 
 -- what an answer says, with the buffer as it is then; a buffer that is too short is none of the text's faults
 unfoldable pub linesTold : List ℕ → Lines → Answer (List (List ℕ))
-linesTold b (Laid n) = accepted (linesIn (take n b))
+linesTold b (Laid n) = accepted (bufferLines (take n b))
 linesTold b NotClean = refused 3
 linesTold b NotFormed = refused 4
 linesTold b NoRoom = refused 10

@@ -14,7 +14,7 @@ ghost use Rattle.content.specs.Carets.{decoded};
 ghost use Rattle.content.specs.Scan.{until};
 ghost use Rattle.content.specs.Parts.{paramsIn};
 ghost use Rattle.content.specs.Parameters.{withoutValue, plainOr, membersOf};
-ghost use Rattle.content.specs.Object.{standsFor, takes, special};
+ghost use Rattle.content.specs.Object.{standsFor, octetsRead, special};
 use crate::parts::inner;
 use crate::parts::param_at;
 use crate::scan::next_bare;
@@ -40,7 +40,7 @@ fn stands_for(c: u8, d: u8) -> u8
 
 // The octets that are read for it.
 fn taken(c: u8, d: u8) -> usize
-    ensures { λ r. ⌜ r ≡ takes c d ⌝ }
+    ensures { λ r. ⌜ r ≡ octetsRead c d ⌝ }
 {
     if c != b'^' {
         return 1;

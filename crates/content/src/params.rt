@@ -6,7 +6,7 @@ ghost use Prim.Native.Nat.{_-_, _≤_};
 ghost use lib.ListN.{length, take, drop};
 ghost use Rattle.octets.specs.Basics.{single};
 ghost use Rattle.content.specs.Parameters.{token, valueType, isBase64, isEncoded};
-ghost use Rattle.content.specs.Kinds.{Tells};
+ghost use Rattle.content.specs.Kinds.{TellsType};
 ghost use Rattle.content.specs.Line.{pieces, paramValue};
 ghost use Rattle.content.specs.Parts.{paramsIn};
 use crate::parts::inner;
@@ -35,7 +35,7 @@ fn is_single(s: &[u8], from: usize, end: usize) -> bool
 // The type that the values from `from` to `end` name: one token, and not UNKNOWN.
 fn type_at(s: &[u8], from: usize, end: usize) -> ValueType
     requires { ⌜ (from ≤ end) × (end ≤ length (now s)) ⌝ }
-    ensures { λ r. ⌜ Tells (now (s .entry)) (token (map paramValue (pieces 44 false (take (end - from) (drop from (now (s .entry))))))) r ⌝ }
+    ensures { λ r. ⌜ TellsType (now (s .entry)) (token (map paramValue (pieces 44 false (take (end - from) (drop from (now (s .entry))))))) r ⌝ }
 {
     if !is_single(s, from, end) {
         return ValueType::Faulty;
@@ -54,7 +54,7 @@ fn type_at(s: &[u8], from: usize, end: usize) -> ValueType
 
 // The type that VALUE names. Of several places that hold its name any may be answered.
 pub fn value_type(s: &[u8]) -> ValueType
-    ensures { λ r. ⌜ Tells (now (s .entry)) (valueType (paramsIn (now (s .entry)))) r ⌝ }
+    ensures { λ r. ⌜ TellsType (now (s .entry)) (valueType (paramsIn (now (s .entry)))) r ⌝ }
 {
     let mut e = next_bare(s, 0, b';', b';');
     while e < s.len() {

@@ -15,7 +15,7 @@ use Rattle.content.proofs.WrittenClean.{Texts}
 use Rattle.content.proofs.Unfolded.{Upright}
 use Rattle.values.proofs.Neat.{Neat}
 use Rattle.conversion_theory.specs.Tree.{Property}
-use Rattle.conversion_theory.specs.Structure.{holds, eventOf}
+use Rattle.conversion_theory.specs.Structure.{carries, eventOf}
 use Rattle.conversion_theory.specs.Property.{readProperty}
 use Rattle.conversion_theory.specs.Jcal.{propertyJson}
 use Rattle.conversion_theory.specs.Skeleton.{isProperty, propertyFrom}
@@ -33,7 +33,7 @@ pub record LineFine (l : Line) : Type 0 where
   pub value : clean (l .value) ≡ true
 
 abbrev pub LineLaw : Type 0
-LineLaw = (s : List ℕ) → clean s ≡ true → formed s ≡ true → eventOf (lineOf s) ≡ holds (lineOf s) → LineFine (lineOf s)
+LineLaw = (s : List ℕ) → clean s ≡ true → formed s ≡ true → eventOf (lineOf s) ≡ carries (lineOf s) → LineFine (lineOf s)
 
 -- a property as the table a holds it, and as the newer reads the same line
 pub record Twice (a new : Table) (q p : Property) : Type 0 where
@@ -56,7 +56,7 @@ pub record Returned (b new : Table) (q p : Property) : Type 0 where
   pub is-clean : clean (propertyLine b q) ≡ true
   pub is-formed : formed (propertyLine b q) ≡ true
   pub upright : Upright (propertyLine b q)
-  pub event : eventOf (lineOf (propertyLine b q)) ≡ holds (lineOf (propertyLine b q))
+  pub event : eventOf (lineOf (propertyLine b q)) ≡ carries (lineOf (propertyLine b q))
   pub read : readProperty new (lineOf (propertyLine b q)) ≡ accepted p
 
 pub record Carried (a b new : Table) : Type 0 where

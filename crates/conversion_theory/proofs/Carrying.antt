@@ -26,7 +26,7 @@ use Rattle.content.proofs.Unfolded.{line-upright}
 use Rattle.content.proofs.LineParts.{line-parts}
 use Rattle.values.specs.Write.{valuesText}
 use Rattle.conversion_theory.specs.Tree.{Property}
-use Rattle.conversion_theory.specs.Structure.{Event, begins, ends, holds, stray, bounds, eventOf}
+use Rattle.conversion_theory.specs.Structure.{Event, begins, ends, carries, stray, bounds, eventOf}
 use Rattle.conversion_theory.specs.Property.{readAs, readProperty}
 use Rattle.conversion_theory.specs.Return.{writtenSort, shown, withValue, writtenLine}
 use Rattle.conversion_theory.specs.ToIcal.{propertyLine}
@@ -38,31 +38,31 @@ use Rattle.conversion_theory.proofs.PropertyTold.{property-name, proper
 
 -- a line that is neither BEGIN nor END
 module _ (l : Line) where
-  bound-event : (b : Event Line) → pick (bounds l) b stray ≡ holds l → (b ≡ holds l → ⊥) → ⊥
+  bound-event : (b : Event Line) → pick (bounds l) b stray ≡ carries l → (b ≡ carries l → ⊥) → ⊥
   bound-event b e n = cases (bounds l) (λ y. n (rw y at e)) (λ y. other (rw y at e))
     where
-      other : stray ≡ holds l → ⊥
+      other : stray ≡ carries l → ⊥
       other e = let z : _≡_ {A = ℕ} 0 1 = cc in omega arith
 
-  no-begin : eventOf l ≡ holds l → sameName (l .name) (octets "BEGIN") ≡ false
+  no-begin : eventOf l ≡ carries l → sameName (l .name) (octets "BEGIN") ≡ false
   unfolding eventOf
   no-begin e = cases (sameName (l .name) (octets "BEGIN"))
       (λ b. absurd (bound-event (begins (lower (l .value))) (rw b at e) other))
       (λ b. b)
     where
-      other : begins (lower (l .value)) ≡ holds l → ⊥
+      other : begins (lower (l .value)) ≡ carries l → ⊥
       other e = let z : _≡_ {A = ℕ} 0 1 = cc in omega arith
 
-  no-end : eventOf l ≡ holds l → sameName (l .name) (octets "END") ≡ false
+  no-end : eventOf l ≡ carries l → sameName (l .name) (octets "END") ≡ false
   unfolding eventOf
   no-end e = cases (sameName (l .name) (octets "END"))
       (λ b. absurd (bound-event (ends (lower (l .value))) (rw (no-begin e, b) at e) other))
       (λ b. b)
     where
-      other : ends (lower (l .value)) ≡ holds l → ⊥
+      other : ends (lower (l .value)) ≡ carries l → ⊥
       other e = let z : _≡_ {A = ℕ} 0 1 = cc in omega arith
 
-  is-event : sameName (l .name) (octets "BEGIN") ≡ false → sameName (l .name) (octets "END") ≡ false → eventOf l ≡ holds l
+  is-event : sameName (l .name) (octets "BEGIN") ≡ false → sameName (l .name) (octets "END") ≡ false → eventOf l ≡ carries l
   unfolding eventOf
   is-event b e = rw (b, e)
 

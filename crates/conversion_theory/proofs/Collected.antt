@@ -11,7 +11,7 @@ use Rattle.octets.specs.Classes.{isLowerName}
 use Rattle.octets.specs.Limits.{mostLevels}
 use Rattle.octets.proofs.Cases.{cases}
 use Rattle.conversion_theory.specs.Tree.{Property, Component, Forest}
-use Rattle.conversion_theory.specs.Structure.{Event, begins, ends, holds, stray, fresh, closed, inside, left, nest, nestAfter}
+use Rattle.conversion_theory.specs.Structure.{Event, begins, ends, carries, stray, fresh, closed, inside, left, nest, nestAfter}
 use Rattle.conversion_theory.specs.Growth.{Level, around, withProperty, withComponent, levelsFrom, treeOf}
 use Rattle.conversion_theory.specs.Claim.{those, Rearranged}
 use Rattle.conversion_theory.proofs.Shapes.{Pairwise, no-pair, pair, both-begin, both-end, both-hold, Steps, Alike, alike, Alikes, no-more, one-more, AlikeLevel, first-alike, around-alike, levels-alike, trees-alike}
@@ -123,7 +123,7 @@ unfolding nestAfter nest levelsFrom
 closed-empty [] h = refl
 closed-empty (begins m ∷ es) h = never-closed 5 es h
 closed-empty (ends m ∷ es) h = never-closed 5 es h
-closed-empty (holds p ∷ es) h = never-closed 5 es h
+closed-empty (carries p ∷ es) h = never-closed 5 es h
 closed-empty (stray ∷ es) h = never-closed 5 es h
 
 few : (es : List (Event Property)) (n : List ℕ) (ns : List (List ℕ)) → nestAfter (inside n ns) es ≡ closed → length (levelsFrom es) ≤ suc (length ns)
@@ -138,7 +138,7 @@ few (ends m ∷ es) n [] h = cases (same m n)
 few (ends m ∷ es) n (k ∷ ns) h = cases (same m n)
     (λ e. omega (arith, few es k ns (rw e at h)))
     (λ e. never-closed 5 es (rw e at h))
-few (holds p ∷ es) n ns h = omega (arith, around-less (levelsFrom es) (length ns) (few es n ns h))
+few (carries p ∷ es) n ns h = omega (arith, around-less (levelsFrom es) (length ns) (few es n ns h))
 few (stray ∷ es) n ns h = never-closed 5 es h
 
 -- THE LAW: closed events in step make components of one shape, and nothing that is listed for their properties is lost or stands twice

@@ -28,7 +28,7 @@ tables-agree old new tₒ tₙ eₒ eₙ k s c e =
       accepts = is-reading old s tₒ (o .held) eₒ (record { short = r .short; lines = o .read });
       alike = o .seen;
       jcal = λ x. print (jcalOf (held r x .held));
-      again = λ x y. textOf (Ical.linesOf (side tₒ tₙ y) (held r x .held));
+      again = λ x y. textOf (Ical.componentLines (side tₒ tₙ y) (held r x .held));
       printed = λ x. ap (λ (d : Component). print (jcalOf d)) (own r x);
       differ = alike-list (excepted-line tₒ tₙ) (o .shape);
       each = o .each;

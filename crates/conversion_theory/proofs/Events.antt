@@ -10,13 +10,13 @@ use Rattle.octets.specs.Basics.{octets, same}
 use Rattle.octets.specs.Limits.{mostLevels}
 use Rattle.octets.proofs.Classes.{same-itself}
 use Rattle.conversion_theory.specs.Tree.{Property, Component, component, Forest, leaf, grow, levels, levelsIn}
-use Rattle.conversion_theory.specs.Structure.{Event, begins, ends, holds, Nest, fresh, closed, inside, left, nest, nestAfter}
+use Rattle.conversion_theory.specs.Structure.{Event, begins, ends, carries, Nest, fresh, closed, inside, left, nest, nestAfter}
 use Rattle.conversion_theory.specs.Growth.{Level, level, innermost, around, withProperty, withComponent, levelsFrom, outermost, treeOf}
 
 -- in the order of the lines written
 unfoldable mutual
   pub eventsOf : Component → List (Event Property)
-  eventsOf (component n ps cs) = begins n ∷ map holds ps ++ (eventsIn cs ++ ends n ∷ [])
+  eventsOf (component n ps cs) = begins n ∷ map carries ps ++ (eventsIn cs ++ ends n ∷ [])
 
   pub eventsIn : Forest → List (Event Property)
   eventsIn leaf = []
@@ -29,7 +29,7 @@ nest-append s [] fs = refl
 nest-append s (e ∷ es) fs = nest-append (nest s e) es fs
 
 module _ (n : List ℕ) (ns : List (List ℕ)) where
-  nest-held : (ps : List Property) → nestAfter (inside n ns) (map holds ps) ≡ inside n ns
+  nest-held : (ps : List Property) → nestAfter (inside n ns) (map carries ps) ≡ inside n ns
   unfolding nestAfter nest
   nest-held [] = refl
   nest-held (p ∷ ps) = nest-held ps
@@ -40,9 +40,9 @@ module _ (n : List ℕ) (ns : List (List ℕ)) where
 
 -- within a component: its properties, its sub-components and its END
 nest-within : (n : List ℕ) (ns : List (List ℕ)) (ps : List Property) (es : List (Event Property)) → nestAfter (inside n ns) es ≡ inside n ns
-    → nestAfter (inside n ns) (map holds ps ++ (es ++ ends n ∷ [])) ≡ left ns
+    → nestAfter (inside n ns) (map carries ps ++ (es ++ ends n ∷ [])) ≡ left ns
 nest-within n ns ps es h =
-    nest-append (inside n ns) (map holds ps) (es ++ ends n ∷ [])
+    nest-append (inside n ns) (map carries ps) (es ++ ends n ∷ [])
     ∙ rw (nest-held n ns ps, nest-append (inside n ns) es (ends n ∷ []), h) (nest-end n ns)
 
 nest-begin : (m n : List ℕ) (ns : List (List ℕ)) → suc (length ns) < mostLevels → nest {A = Property} (inside n ns) (begins m) ≡ inside m (n ∷ ns)
@@ -58,7 +58,7 @@ mutual
 
   nest-component : (c : Component) (n : List ℕ) (ns : List (List ℕ)) → suc (length ns) + levels c ≤ mostLevels → nestAfter (inside n ns) (eventsOf c) ≡ inside n ns
   nest-component (component m ps cs) n ns h =
-      ap (λ (s : Nest). nestAfter s (map holds ps ++ (eventsIn cs ++ ends m ∷ []))) (nest-begin m n ns (omega arith))
+      ap (λ (s : Nest). nestAfter s (map carries ps ++ (eventsIn cs ++ ends m ∷ []))) (nest-begin m n ns (omega arith))
       ∙ nest-within m (n ∷ ns) ps (eventsIn cs) (nest-forest cs m (n ∷ ns) (omega arith))
 
   nest-forest : (cs : Forest) (n : List ℕ) (ns : List (List ℕ)) → suc (length ns) + levelsIn cs ≤ mostLevels → nestAfter (inside n ns) (eventsIn cs) ≡ inside n ns
@@ -75,7 +75,7 @@ IsTop (component n ps cs) = same n (octets "vcalendar") ≡ true
 pub events-pair : (c : Component) → IsTop c → levels c ≤ mostLevels → nestAfter fresh (eventsOf c) ≡ closed
 unfolding eventsOf levels nestAfter left
 events-pair (component n ps cs) t h =
-    ap (λ (s : Nest). nestAfter s (map holds ps ++ (eventsIn cs ++ ends n ∷ []))) (nest-top n t)
+    ap (λ (s : Nest). nestAfter s (map carries ps ++ (eventsIn cs ++ ends n ∷ []))) (nest-top n t)
     ∙ nest-within n [] ps (eventsIn cs) (nest-forest cs n [] (omega arith))
 
 -- sub-components in front of those that the innermost level has
@@ -91,7 +91,7 @@ join-leaf (grow c cs) = ap (λ (r : Forest). grow c r) (join-leaf cs)
 unfoldable withForest : Forest → List Level → List Level
 withForest cs ls = level (innermost ls .properties) (joinForest cs (innermost ls .subs)) ∷ around ls
 
-levels-held : (ps : List Property) (es : List (Event Property)) (cs : Forest) (ls : List Level) → levelsFrom es ≡ level [] cs ∷ ls → levelsFrom (map holds ps ++ es) ≡ level ps cs ∷ ls
+levels-held : (ps : List Property) (es : List (Event Property)) (cs : Forest) (ls : List Level) → levelsFrom es ≡ level [] cs ∷ ls → levelsFrom (map carries ps ++ es) ≡ level ps cs ∷ ls
 unfolding levelsFrom withProperty innermost around
 levels-held [] es cs ls e = e
 levels-held (p ∷ ps) es cs ls e = rw (levels-held ps es cs ls e)
@@ -106,7 +106,7 @@ mutual
   levels-component : (c : Component) (es : List (Event Property)) → levelsFrom (eventsOf c ++ es) ≡ withForest (grow c leaf) (levelsFrom es)
   levels-component (component n ps cs) es =
       rw (
-        append-assoc (map holds ps) (eventsIn cs ++ ends n ∷ []) es,
+        append-assoc (map carries ps) (eventsIn cs ++ ends n ∷ []) es,
         append-assoc (eventsIn cs) (ends n ∷ []) es,
         levels-held ps (eventsIn cs ++ ends n ∷ es) cs (levelsFrom es) (levels-forest cs (ends n ∷ es) (level [] leaf) (levelsFrom es) refl ∙ levels-end n es cs),
       )

@@ -1,4 +1,4 @@
--- Every line of a text that is written to iCalendar is clean and one of `linesOf`: it is folded into physical lines that cut no character, and nothing of
+-- Every line of a text that is written to iCalendar is clean and one of `componentLines`: it is folded into physical lines that cut no character, and nothing of
 -- a JSON text begins a line of its own (01, Lines and Errors that tempt).
 use Prim.Native.Nat.{ℕ}
 use mathlib.Core.Path.{_≡_, refl, sym, ap, subst, _∙_}
@@ -34,7 +34,7 @@ use Rattle.conversion_theory.specs.Tree.{Property, Component, Forest, pr
 use Rattle.conversion_theory.specs.Property.{codeOf, manyOf, encodingFits}
 use Rattle.conversion_theory.specs.Return.{isUnknown, statedType, writtenSort, takenBy, checked, shown, withValue, writtenLine}
 use Rattle.conversion_theory.specs.Skeleton.{calendarOf}
-use Rattle.conversion_theory.specs.ToIcal.{jsonOf, checkedAll, beginLine, endLine, propertyLine, linesOf, linesIn, written, toIcal}
+use Rattle.conversion_theory.specs.ToIcal.{jsonOf, checkedAll, beginLine, endLine, propertyLine, componentLines, forestLines, written, toIcal}
 use Rattle.conversion_theory.specs.Written.{LinesFit, Apart, LinesApart}
 use Rattle.conversion_theory.proofs.Shapes.{Made, made, MadeIn, nothing-more, made-more}
 use Rattle.conversion_theory.proofs.WrittenLines.{begin-tells, end-tells}
@@ -87,19 +87,19 @@ module _ (t : Table) where
   properties-whole (p ∷ ps) k c = (property-whole t p (k .0) (c .0), properties-whole ps (k .1) (c .1))
 
   mutual
-    unfolding linesOf propertiesOf
+    unfolding componentLines propertiesOf
 
-    lines-whole : {c : Component} → Made PropertyFine c → All (Passes t) (propertiesOf c) → All Whole (linesOf t c)
+    lines-whole : {c : Component} → Made PropertyFine c → All (Passes t) (propertiesOf c) → All Whole (componentLines t c)
     lines-whole (made {n} {ps} {cs} h k m) a = (
       begin-whole n h,
-      All-append Whole (map (propertyLine t) ps) (linesIn t cs ++ endLine n ∷ []) (properties-whole ps k (All-front (Passes t) ps (propertiesIn cs) a))
-          (All-append Whole (linesIn t cs) (endLine n ∷ []) (lines-in-whole m (All-back (Passes t) ps (propertiesIn cs) a)) (end-whole n h, tt)),
+      All-append Whole (map (propertyLine t) ps) (forestLines t cs ++ endLine n ∷ []) (properties-whole ps k (All-front (Passes t) ps (propertiesIn cs) a))
+          (All-append Whole (forestLines t cs) (endLine n ∷ []) (lines-in-whole m (All-back (Passes t) ps (propertiesIn cs) a)) (end-whole n h, tt)),
     )
 
-    lines-in-whole : {cs : Forest} → MadeIn PropertyFine cs → All (Passes t) (propertiesIn cs) → All Whole (linesIn t cs)
+    lines-in-whole : {cs : Forest} → MadeIn PropertyFine cs → All (Passes t) (propertiesIn cs) → All Whole (forestLines t cs)
     lines-in-whole nothing-more a = tt
     lines-in-whole (made-more {c} {cs} m ms) a =
-        All-append Whole (linesOf t c) (linesIn t cs) (lines-whole m (All-front (Passes t) (propertiesOf c) (propertiesIn cs) a))
+        All-append Whole (componentLines t c) (forestLines t cs) (lines-whole m (All-front (Passes t) (propertiesOf c) (propertiesIn cs) a))
         (lines-in-whole ms (All-back (Passes t) (propertiesOf c) (propertiesIn cs) a))
 
   all-passed : (ps : List Property) (u : Unit {0}) → checkedAll t ps ≡ accepted u → All (Passes t) ps
@@ -124,12 +124,12 @@ json-decoded text u bad q j e = not-accepted e
 -- THE LAWS
 record Lined (rows text out : List ℕ) : Type 0 where
   apart : Apart rows text out
-  whole : All Whole (linesOf (apart .table) (apart .from))
+  whole : All Whole (componentLines (apart .table) (apart .from))
 
 lined : (rows text out : List ℕ) → toIcal rows text ≡ accepted out → Lined rows text out
 unfolding toIcal written
 lined rows text out e =
-    let write : Table → Component → Answer (List ℕ) = λ t c. then (checkedAll t (propertiesOf c)) (λ _. accepted (textOf (linesOf t c))) in
+    let write : Table → Component → Answer (List ℕ) = λ t c. then (checkedAll t (propertiesOf c)) (λ _. accepted (textOf (componentLines t c))) in
     let read : Table → Json → Answer (List ℕ) = λ t j. then (calendarOf j) (write t) in
     let parse : Table → Answer (List ℕ) = λ t. unless 3 (utf8 text) (λ _. then (jsonOf (parseText text)) (read t)) in
     let a = unless-accepted 1 (leb (length text) mostText) (λ _. then (tableOf rows) parse) out e in
@@ -137,11 +137,11 @@ lined rows text out e =
     let b = unless-accepted 3 (utf8 text) (λ _. then (jsonOf (parseText text)) (read t)) out r in
     then-accepted (jsonOf (parseText text)) (read t) out (b .1) (λ j ej s.
     then-accepted (calendarOf j) (write t) out s (λ c ec w.
-    then-accepted (checkedAll t (propertiesOf c)) (λ _. accepted (textOf (linesOf t c))) out w (λ u eu x.
+    then-accepted (checkedAll t (propertiesOf c)) (λ _. accepted (textOf (componentLines t c))) out w (λ u eu x.
     let q = accepted-same x in
     let h = lines-whole t (calendar-fine j c (json-decoded text (b .0) (parseText text) refl j ej) ec) (all-passed t (propertiesOf c) u eu) in
     record {
-      apart = record { table = t; tabled = et; json = j; parsed = ej; from = c; held = ec; folded = q; lines = ap unfolded (sym q) ∙ whole-back (linesOf t c) h };
+      apart = record { table = t; tabled = et; json = j; parsed = ej; from = c; held = ec; folded = q; lines = ap unfolded (sym q) ∙ whole-back (componentLines t c) h };
       whole = h;
     }))))
 
@@ -151,5 +151,5 @@ lines-apart rows text out e = lined rows text out e .apart
 pub lines-fit : LinesFit
 lines-fit rows text out e =
     let l = lined rows text out e in
-    let ls = linesOf (l .apart .table) (l .apart .from) in
+    let ls = componentLines (l .apart .table) (l .apart .from) in
     subst Physical (l .apart .folded) (text-physical ls (whole-clean ls (l .whole)))

@@ -12,7 +12,7 @@ use Rattle.octets.proofs.Cases.{cases, never, and-false-right}
 use Rattle.types.specs.Table.{Row, Table, find}
 use Rattle.types.proofs.Tables.{Well-formed, found-name}
 use Rattle.content.specs.Line.{Line, lineOf}
-use Rattle.conversion_theory.specs.Structure.{Event, begins, ends, holds, stray, bounds, eventOf}
+use Rattle.conversion_theory.specs.Structure.{Event, begins, ends, carries, stray, bounds, eventOf}
 use Rattle.conversion_theory.specs.Claim.{excepted, those}
 use Rattle.conversion_theory.proofs.Readings.{eventsAt}
 
@@ -22,7 +22,7 @@ module _ (a new : Table) where
   exceptedIn [] = []
   exceptedIn (begins n ∷ es) = exceptedIn es
   exceptedIn (ends n ∷ es) = exceptedIn es
-  exceptedIn (holds l ∷ es) = pick (excepted a new l) (l ∷ []) [] ++ exceptedIn es
+  exceptedIn (carries l ∷ es) = pick (excepted a new l) (l ∷ []) [] ++ exceptedIn es
   exceptedIn (stray ∷ es) = exceptedIn es
 
   -- at one line

@@ -14,7 +14,7 @@ use Rattle.octets.specs.Utf8.{utf8}
 use Rattle.octets.specs.Answers.{accepted, unless}
 use Rattle.octets.proofs.Cases.{never, both, and-true}
 use Rattle.octets.proofs.Answers.{accepted-same, unless-accepted}
-use Rattle.json.specs.Tree.{Json, Members, noMembers, member, string?, array?, object?, listOf, octetsOf, elements, element, members}
+use Rattle.json.specs.Tree.{Json, Members, noMembers, member, string?, array?, object?, listOfItems, octetsOf, elements, element, members}
 use Rattle.json.proofs.Decoding.{Decoded}
 use Rattle.tape.specs.Sound.{sound}
 use Rattle.content.specs.Line.{Param}
@@ -22,7 +22,7 @@ use Rattle.content.proofs.Written.{Writable}
 use Rattle.values.proofs.Encoded.{Encoded, EncodedMembers, e-empty, e-member, sound-encoded, encoded-octets, encoded-elements, encoded-element, encoded-members, encoded-drop}
 use Rattle.values.proofs.CleanValues.{holds-is, string-octets}
 use Rattle.conversion_theory.specs.Tree.{Property, Component, forestOf, levels}
-use Rattle.conversion_theory.specs.Skeleton.{isString, isListOf, isParameter, areParameters, isPropertyName, isProperty, isComponent, isCalendar, valuesFrom, paramsFrom, propertyFrom, componentFrom, calendarOf}
+use Rattle.conversion_theory.specs.Skeleton.{isJsonString, isListOf, isParameter, areParameters, isPropertyName, isProperty, isComponent, isCalendar, valuesFrom, paramsFrom, propertyFrom, componentFrom, calendarOf}
 use Rattle.conversion_theory.proofs.Shapes.{Made, made, MadeIn, nothing-more, made-more}
 
 -- what tests 3 and 12 say of a property
@@ -45,11 +45,11 @@ octets-utf [] h = refl
 octets-utf (j ∷ js) h = and-true (encoded-octets (h .0)) (octets-utf js (h .1))
 
 values-filled : (j : Json) → isParameter j ≡ true → filled (valuesFrom j) ≡ true
-unfolding isParameter valuesFrom isString
+unfolding isParameter valuesFrom isJsonString
 values-filled j h = by (string? j) h
   where
-    by : (o : Option (List ℕ)) → (isSome o or (isListOf isString j and filled (elements j))) ≡ true → filled (given (map octetsOf (elements j)) (λ t. t ∷ []) o) ≡ true
-    by none h = unfold given in octets-filled (elements j) (both (isListOf isString j) (filled (elements j)) (unfold isSome in h) .1)
+    by : (o : Option (List ℕ)) → (isSome o or (isListOf isJsonString j and filled (elements j))) ≡ true → filled (given (map octetsOf (elements j)) (λ t. t ∷ []) o) ≡ true
+    by none h = unfold given in octets-filled (elements j) (both (isListOf isJsonString j) (filled (elements j)) (unfold isSome in h) .1)
     by (some t) h = unfold given filled in refl
 
 values-utf : (j : Json) → Encoded j → all utf8 (valuesFrom j) ≡ true
@@ -95,7 +95,7 @@ property-fine j e h =
 -- and a component
 list-is : (p : Json → Bool) (j : Json) → isListOf p j ≡ true → all p (elements j) ≡ true
 unfolding isListOf elements given
-list-is p j h = holds-is (λ js. all p (listOf js)) (array? j) h (λ js e k. rw e k)
+list-is p j h = holds-is (λ js. all p (listOfItems js)) (array? j) h (λ js e k. rw e k)
 
 properties-fine : (js : List Json) → All Encoded js → all isProperty js ≡ true → All PropertyFine (map propertyFrom js)
 unfolding all

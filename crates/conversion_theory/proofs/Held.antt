@@ -9,7 +9,7 @@ use Rattle.types.specs.Rows.{Keeps}
 use Rattle.types.proofs.Tables.{Well-formed}
 use Rattle.content.specs.Line.{Line, lineOf}
 use Rattle.conversion_theory.specs.Tree.{Property, Component}
-use Rattle.conversion_theory.specs.Structure.{Event, begins, ends, holds, fresh}
+use Rattle.conversion_theory.specs.Structure.{Event, begins, ends, carries, fresh}
 use Rattle.conversion_theory.specs.Growth.{treeOf}
 use Rattle.conversion_theory.specs.Property.{readProperty}
 use Rattle.conversion_theory.specs.ToJcal.{readLinesBy, readLines}
@@ -54,7 +54,7 @@ module _ (a new : Table) (w : Well-formed new) (k : Keeps a new) where
       let r = found-too s in
       let t = older-reads a new w k l p (h .0) (h .1) in
       record {
-        found = holds (t .held) ∷ r .found;
+        found = carries (t .held) ∷ r .found;
         read = pair (both-hold (t .read)) (r .read);
         seen = pair (both-hold (t .seen)) (r .seen);
         twice = pair (both-hold (record { line = l; fine = h .0; held = t .read; read = h .1; seen = t .is })) (r .twice);

@@ -15,7 +15,7 @@ use Rattle.octets.proofs.Cases.{cases}
 use Rattle.octets.proofs.Limits.{most-levels}
 use Rattle.octets.proofs.Answers.{not-accepted, accepted-same, then-accepted}
 use Rattle.conversion_theory.specs.Tree.{Property, Component, leaf, levels, levelsIn}
-use Rattle.conversion_theory.specs.Structure.{Event, begins, ends, holds, stray, Nest, fresh, closed, inside, fault, left, nest, nestAfter, verdict, structured}
+use Rattle.conversion_theory.specs.Structure.{Event, begins, ends, carries, stray, Nest, fresh, closed, inside, fault, left, nest, nestAfter, verdict, structured}
 use Rattle.conversion_theory.specs.Growth.{Level, level, innermost, around, withProperty, withComponent, levelsFrom, outermost, treeOf, eachProperty, behindEvent}
 use Rattle.conversion_theory.proofs.Shapes.{no-pair, pair, Step, both-begin, both-end, both-hold, Steps}
 use Rattle.conversion_theory.proofs.Events.{IsTop}
@@ -46,7 +46,7 @@ unfolding nestAfter nest
 fault-stays k [] = refl
 fault-stays k (begins n ∷ es) = fault-stays k es
 fault-stays k (ends n ∷ es) = fault-stays k es
-fault-stays k (holds a ∷ es) = fault-stays k es
+fault-stays k (carries a ∷ es) = fault-stays k es
 fault-stays k (stray ∷ es) = fault-stays k es
 
 fault-closed {ℓ} : {P : Type ℓ} {k : ℕ} → fault k ≡ closed → P
@@ -90,7 +90,7 @@ fits (ends m ∷ es) n [] d h = fits-end 0 (levelsFrom es) d tt
 fits (ends m ∷ es) n (k ∷ ns) d h = cases (same m n)
     (λ e. fits-end (suc (length ns)) (levelsFrom es) d (fits es k ns (omega arith) (rw e at h)))
     (λ e. never-closed 5 es (rw e at h))
-fits (holds p ∷ es) n ns d h = fits-property (length ns) p (levelsFrom es) (fits es n ns d h)
+fits (carries p ∷ es) n ns d h = fits-property (length ns) p (levelsFrom es) (fits es n ns d h)
 fits (stray ∷ es) n ns d h = never-closed 5 es h
 
 -- THE LAW: the component is a VCALENDAR within the limit
@@ -105,7 +105,7 @@ top-of (begins m ∷ es) h = cases (same m (octets "vcalendar"))
     (λ e. record { named = e; deep = (let f = fits es m [] (omega (arith, most-levels)) (rw e at h) in omega (arith, f .0)) })
     (λ e. never-closed 5 es (rw e at h))
 top-of (ends m ∷ es) h = never-closed 5 es h
-top-of (holds p ∷ es) h = never-closed 5 es h
+top-of (carries p ∷ es) h = never-closed 5 es h
 top-of (stray ∷ es) h = never-closed 5 es h
 
 -- an event in front of those that are accepted
@@ -119,7 +119,7 @@ behind-accepted e (accepted qs) ps h k = k qs refl (accepted-same h)
 abbrev pub Known : {A : Type 0} → (A → Type 0) → Event A → Type 0
 Known F (begins n) = isLowerName n ≡ true
 Known F (ends n) = Unit {0}
-Known F (holds a) = F a
+Known F (carries a) = F a
 Known F stray = Unit {0}
 
 -- THE LAW: closed events whose properties f accepts go in step with what it makes of them
@@ -137,7 +137,7 @@ module _ {A B : Type 0} (F : A → Type 0) (f : A → Answer B) where
       behind-accepted (begins n) (eachProperty f es) ps e (λ qs r q. behind q (both-begin (k .0)) (read-steps es qs (nest {A = A} s (begins n)) r h (k .1)))
   read-steps (ends n ∷ es) ps s e h k =
       behind-accepted (ends n) (eachProperty f es) ps e (λ qs r q. behind q both-end (read-steps es qs (nest {A = A} s (ends n)) r h (k .1)))
-  read-steps (holds a ∷ es) ps s e h k =
-      then-accepted (f a) (λ b. behindEvent (holds b) (eachProperty f es)) ps e (λ b w m.
-      behind-accepted (holds b) (eachProperty f es) ps m (λ qs r q. behind q (both-hold (k .0, w)) (read-steps es qs (nest s (holds a)) r h (k .1))))
+  read-steps (carries a ∷ es) ps s e h k =
+      then-accepted (f a) (λ b. behindEvent (carries b) (eachProperty f es)) ps e (λ b w m.
+      behind-accepted (carries b) (eachProperty f es) ps m (λ qs r q. behind q (both-hold (k .0, w)) (read-steps es qs (nest s (carries a)) r h (k .1))))
   read-steps (stray ∷ es) ps s e h k = stray-closed s es h

@@ -13,7 +13,7 @@ use Rattle.octets.specs.Classes.{between, isUpper, isName, isLowerName, lowerOc
 use Rattle.octets.specs.Utf8.{utf8}
 use Rattle.octets.proofs.Cases.{never, both, neither}
 use Rattle.octets.proofs.Classes.{lower-name, name-lower}
-use Rattle.json.specs.Tree.{Json, str, listOf, string?, number?, array?, object?, octetsOf, elements, element, members}
+use Rattle.json.specs.Tree.{Json, str, listOfItems, string?, number?, array?, object?, octetsOf, elements, element, members}
 use Rattle.tape.specs.Sound.{hasKey, distinctKeys}
 use Rattle.content.specs.Line.{Param}
 use Rattle.content.specs.Parameters.{nameTwice, plainOr, membersOf}
@@ -24,7 +24,7 @@ use Rattle.values.proofs.TextLaws.{list-items}
 use Rattle.values.proofs.Naming.{same-case}
 use Rattle.conversion_theory.specs.Tree.{Property}
 use Rattle.conversion_theory.specs.Jcal.{propertyJson}
-use Rattle.conversion_theory.specs.Skeleton.{isString, isListOf, isParameter, areParameters, isPropertyName, isProperty, valuesFrom, paramsFrom, propertyFrom}
+use Rattle.conversion_theory.specs.Skeleton.{isJsonString, isListOf, isParameter, areParameters, isPropertyName, isProperty, valuesFrom, paramsFrom, propertyFrom}
 use Rattle.conversion_theory.proofs.Carried.{Told}
 use Rattle.conversion_theory.proofs.Stating.{name-textual}
 
@@ -40,8 +40,8 @@ property-name n h b e = rw (name-lower n h, begins ∙ b, ends ∙ e)
     ends = unfold lower lowerOctet isUpper between in same-case n (octets "END")
 
 -- the values of a parameter
-strings-are : (vs : List (List ℕ)) → all isString (map str vs) ≡ true
-unfolding all isString isSome string?
+strings-are : (vs : List (List ℕ)) → all isJsonString (map str vs) ≡ true
+unfolding all isJsonString isSome string?
 strings-are [] = refl
 strings-are (v ∷ vs) = strings-are vs
 
@@ -51,7 +51,7 @@ strings-back [] = refl
 strings-back (v ∷ vs) = ap (λ (l : List (List ℕ)). v ∷ l) (strings-back vs)
 
 values-are : (vs : List (List ℕ)) → filled vs ≡ true → isParameter (plainOr (map str vs)) ≡ true
-unfolding isParameter plainOr isString isSome string? isListOf holds array? elements given filled
+unfolding isParameter plainOr isJsonString isSome string? isListOf holds array? elements given filled
 values-are [] h = never h refl
 values-are (v ∷ []) h = refl
 values-are (v ∷ w ∷ vs) h = rw (list-items (map str (v ∷ w ∷ vs)), strings-are (v ∷ w ∷ vs))
@@ -115,11 +115,11 @@ module _ (q : Property) (n : isPropertyName (q .name) ≡ true) (w : All Writabl
   many-enough (j ∷ js) h = le-leb 4 (suc (suc (suc (suc (length js))))) (omega arith)
 
   told-is : isProperty (propertyJson q) ≡ true
-  unfolding isProperty propertyJson isSome holds array? string? object? element elements given listOf
+  unfolding isProperty propertyJson isSome holds array? string? object? element elements given listOfItems
   told-is = rw (n, params-are (q .params) w, t, list-items (q .values)) (many-enough (q .values) v)
 
   told-from : propertyFrom (propertyJson q) ≡ q
-  unfolding propertyFrom propertyJson array? string? number? object? octetsOf element elements members given listOf
+  unfolding propertyFrom propertyJson array? string? number? object? octetsOf element elements members given listOfItems
   told-from = rw (params-back (q .params) w, list-items (q .values))
 
   lower-named : isLowerName (q .name) ≡ true

@@ -18,7 +18,7 @@ use Rattle.conversion_theory.specs.Tree.{Property, Component, Forest, pr
 use Rattle.conversion_theory.specs.Jcal.{jcalOf}
 use Rattle.conversion_theory.specs.Return.{checked}
 use Rattle.conversion_theory.specs.ToJcal.{readLines, reading, toJcal}
-use Rattle.conversion_theory.specs.ToIcal.{jsonOf, checkedAll, linesOf, written, toIcal}
+use Rattle.conversion_theory.specs.ToIcal.{jsonOf, checkedAll, componentLines, written, toIcal}
 use Rattle.conversion_theory.specs.Claim.{Writes}
 use Rattle.conversion_theory.proofs.Carried.{Told, Returned, Carried}
 use Rattle.conversion_theory.proofs.Shapes.{Alike, Made, made, MadeIn, nothing-more, made-more, alike-made, alike-weaker}
@@ -70,7 +70,7 @@ module _ (b : Table) where
 
 -- a component whose properties are told and pass goes back
 pub goes-back : (rows : List ℕ) (b : Table) (c : Component) → tableOf rows ≡ accepted b → Made Told c → Made (Passes b) c → Top c
-    → length (print (jcalOf c)) ≤ mostText → toIcal rows (print (jcalOf c)) ≡ accepted (textOf (linesOf b c))
+    → length (print (jcalOf c)) ≤ mostText → toIcal rows (print (jcalOf c)) ≡ accepted (textOf (componentLines b c))
 unfolding toIcal jsonOf written unless then
 goes-back rows b c e t p top l =
     rw (le-leb (length (print (jcalOf c))) mostText l, e, jcal-utf8 t (top .deep), jcal-parsed t (top .deep), jcal-back c t (top .deep) (top .named), all-pass b c p)
@@ -88,7 +88,7 @@ module _ (a b new : Table) (laws : Carried a b new) (ls : List (List ℕ)) (c : 
   jcal = print (jcalOf (h .held))
 
   abbrev again : List ℕ
-  again = textOf (linesOf b (h .held))
+  again = textOf (componentLines b (h .held))
 
   returned : Alike (Returned b new) (h .held) c
   returned = alike-weaker (λ q p t. laws .returned t) (h .shape)

@@ -7,7 +7,7 @@ use Rattle.octets.specs.Basics.{All}
 use Rattle.octets.specs.Classes.{isLowerName}
 use Rattle.octets.specs.Answers.{Answer, accepted, then}
 use Rattle.conversion_theory.specs.Tree.{Property, Component, component, Forest, leaf, grow}
-use Rattle.conversion_theory.specs.Structure.{Event, begins, ends, holds, Nest, fresh, closed, inside, fault, nest, nestAfter}
+use Rattle.conversion_theory.specs.Structure.{Event, begins, ends, carries, Nest, fresh, closed, inside, fault, nest, nestAfter}
 use Rattle.conversion_theory.specs.Growth.{Level, innermost, around, withProperty, withComponent, levelsFrom, outermost, treeOf, eachProperty, behindEvent}
 
 -- of one length, and related one by one
@@ -33,7 +33,7 @@ module _ {A B : Type 0} (R : A → B → Type 0) where
   pub data Step : Event A → Event B → Type 0 where
     both-begin : {n : List ℕ} → isLowerName n ≡ true → Step (begins n) (begins n)
     both-end : {n : List ℕ} → Step (ends n) (ends n)
-    both-hold : {a : A} {b : B} → R a b → Step (holds a) (holds b)
+    both-hold : {a : A} {b : B} → R a b → Step (carries a) (carries b)
 
 abbrev pub Steps : {A B : Type 0} → (A → B → Type 0) → List (Event A) → List (Event B) → Type 0
 Steps R es fs = Pairwise (Step R) es fs

@@ -14,7 +14,7 @@ use Rattle.octets.specs.Utf8.{utf8}
 use Rattle.octets.specs.Answers.{Answer, accepted, unless}
 use Rattle.octets.proofs.Cases.{and-true}
 use Rattle.octets.proofs.Limits.{most-levels, most-open}
-use Rattle.json.specs.Tree.{str, listOf, string?, number?, array?, octetsOf, elements, element}
+use Rattle.json.specs.Tree.{str, listOfItems, string?, number?, array?, octetsOf, elements, element}
 use Rattle.json.specs.Reads.{ok}
 use Rattle.json.specs.Reader.{parseText}
 use Rattle.json.specs.Print.{print}
@@ -75,31 +75,31 @@ module _ {c : Component} (h : Made Told c) (l : levels c ≤ mostLevels) where
 
 -- the skeleton, and what it holds
 mutual
-  unfolding isComponent jcalOf levels all isListOf isSome holds given array? string? element elements listOf
+  unfolding isComponent jcalOf levels all isListOf isSome holds given array? string? element elements listOfItems
 
   is-component : {c : Component} → Made Told c → (d : ℕ) → levels c ≤ d → isComponent d (jcalOf c) ≡ true
   is-component (made n ps cs) zero l = absurd (omega arith)
   is-component (made {ps = qs} n ps cs) (suc d) l =
       rw (n, list-items (map propertyJson qs), are-properties qs ps, are-components cs d (omega arith))
 
-  are-components : {cs : Forest} → MadeIn Told cs → (d : ℕ) → levelsIn cs ≤ d → all (isComponent d) (listOf (jcalsOf cs)) ≡ true
+  are-components : {cs : Forest} → MadeIn Told cs → (d : ℕ) → levelsIn cs ≤ d → all (isComponent d) (listOfItems (jcalsOf cs)) ≡ true
   are-components nothing-more d l = refl
   are-components (made-more c cs) d l = and-true (is-component c d (omega arith)) (are-components cs d (omega arith))
 
 mutual
-  unfolding componentFrom jcalOf levels forestOf given array? string? number? octetsOf element elements listOf
+  unfolding componentFrom jcalOf levels forestOf given array? string? number? octetsOf element elements listOfItems
 
   component-back : {c : Component} → Made Told c → (d : ℕ) → levels c ≤ d → componentFrom d (jcalOf c) ≡ c
   component-back (made n ps cs) zero l = absurd (omega arith)
   component-back (made {ps = qs} n ps cs) (suc d) l =
       rw (list-items (map propertyJson qs), properties-back qs ps, components-back cs d (omega arith))
 
-  components-back : {cs : Forest} → MadeIn Told cs → (d : ℕ) → levelsIn cs ≤ d → forestOf (map (componentFrom d) (listOf (jcalsOf cs))) ≡ cs
+  components-back : {cs : Forest} → MadeIn Told cs → (d : ℕ) → levelsIn cs ≤ d → forestOf (map (componentFrom d) (listOfItems (jcalsOf cs))) ≡ cs
   components-back nothing-more d l = refl
   components-back (made-more c cs) d l = rw (component-back c d (omega arith), components-back cs d (omega arith))
 
 top-named : (c : Component) → IsTop c → same (octetsOf (element 0 (jcalOf c))) (octets "vcalendar") ≡ true
-unfolding jcalOf given array? string? number? octetsOf element elements listOf
+unfolding jcalOf given array? string? number? octetsOf element elements listOfItems
 top-named (component n ps cs) t = t
 
 passes : {A : Type 0} (n : ℕ) (b : Bool) (a : Answer A) → b ≡ true → unless n b (λ _. a) ≡ a

@@ -20,9 +20,9 @@ use Rattle.content.proofs.WrittenForm.{line-formed}
 use Rattle.content.proofs.WrittenClean.{name-clean, line-clean}
 use Rattle.content.proofs.Unfolded.{Upright, line-upright, clean-lines-back}
 use Rattle.conversion_theory.specs.Tree.{Property, Component, Forest}
-use Rattle.conversion_theory.specs.Structure.{Event, begins, ends, holds, bounds, eventOf, fresh}
+use Rattle.conversion_theory.specs.Structure.{Event, begins, ends, carries, bounds, eventOf, fresh}
 use Rattle.conversion_theory.specs.Property.{readProperty}
-use Rattle.conversion_theory.specs.ToIcal.{beginLine, endLine, propertyLine, linesOf, linesIn}
+use Rattle.conversion_theory.specs.ToIcal.{beginLine, endLine, propertyLine, componentLines, forestLines}
 use Rattle.conversion_theory.specs.ToJcal.{readLines}
 use Rattle.conversion_theory.proofs.Carried.{Returned}
 use Rattle.conversion_theory.proofs.Shapes.{Pairwise, no-pair, pair, pairs-append, pairs-all, Step, both-begin, both-end, both-hold, Steps, steps-nest, steps-read, Alike, alike, Alikes, no-more, one-more}
@@ -79,22 +79,22 @@ module _ (t : Table) (n : List ℕ) (h : isLowerName n ≡ true) where
   pub end-tells : Tells t (endLine n) (ends n)
   end-tells = rw (end-text n) (bare-tells t (octets "END") n end-name h (rw (end-event n h) both-end))
 
-property-tells : {b new : Table} {q p : Property} → Returned b new q p → Tells new (propertyLine b q) (holds p)
+property-tells : {b new : Table} {q p : Property} → Returned b new q p → Tells new (propertyLine b q) (carries p)
 property-tells {b} {new} {q} {p} r = record { is-clean = r .is-clean; is-formed = r .is-formed; upright = r .upright; event = rw (r .event) (both-hold (r .read)) }
 
 -- the lines written tell the events of the newer's component
 module _ (b new : Table) where
-  pairs-tell : {qs ps : List Property} → Pairwise (Returned b new) qs ps → Pairwise (Tells new) (map (propertyLine b) qs) (map holds ps)
+  pairs-tell : {qs ps : List Property} → Pairwise (Returned b new) qs ps → Pairwise (Tells new) (map (propertyLine b) qs) (map carries ps)
   pairs-tell no-pair = no-pair
   pairs-tell (pair r rs) = pair (property-tells r) (pairs-tell rs)
 
   mutual
-    unfolding linesOf eventsOf
+    unfolding componentLines eventsOf
 
-    pub lines-tell : {h c : Component} → Alike (Returned b new) h c → Pairwise (Tells new) (linesOf b h) (eventsOf c)
+    pub lines-tell : {h c : Component} → Alike (Returned b new) h c → Pairwise (Tells new) (componentLines b h) (eventsOf c)
     lines-tell (alike {n} l ps cs) = pair (begin-tells new n l) (pairs-append (pairs-tell ps) (pairs-append (lines-in-tell cs) (pair (end-tells new n l) no-pair)))
 
-    lines-in-tell : {hs cs : Forest} → Alikes (Returned b new) hs cs → Pairwise (Tells new) (linesIn b hs) (eventsIn cs)
+    lines-in-tell : {hs cs : Forest} → Alikes (Returned b new) hs cs → Pairwise (Tells new) (forestLines b hs) (eventsIn cs)
     lines-in-tell no-more = no-pair
     lines-in-tell (one-more c cs) = pairs-append (lines-tell c) (lines-in-tell cs)
 
@@ -104,17 +104,17 @@ told-steps (pair h r) = pair (h .event) (told-steps r)
 
 -- THE LAWS of the lines of a component h that goes back as c
 module _ {b new : Table} {h c : Component} (a : Alike (Returned b new) h c) where
-  pub lines-unfold : unfolded (textOf (linesOf b h)) ≡ linesOf b h
-  lines-unfold = clean-lines-back (linesOf b h) (pairs-all (λ l e t. t .is-clean) (lines-tell b new a)) (pairs-all (λ l e t. t .upright) (lines-tell b new a))
+  pub lines-unfold : unfolded (textOf (componentLines b h)) ≡ componentLines b h
+  lines-unfold = clean-lines-back (componentLines b h) (pairs-all (λ l e t. t .is-clean) (lines-tell b new a)) (pairs-all (λ l e t. t .upright) (lines-tell b new a))
 
-  pub lines-read : Top c → readLines new (linesOf b h) ≡ accepted c
+  pub lines-read : Top c → readLines new (componentLines b h) ≡ accepted c
   unfolding readLines
   lines-read t =
       let w = lines-tell b new a in
       let s = told-steps w in
-      taken-lines (readProperty new) (linesOf b h) c (record {
-        are-clean = All-all clean (linesOf b h) (pairs-all (λ l e t. t .is-clean) w);
-        are-formed = All-all formed (linesOf b h) (pairs-all (λ l e t. t .is-formed) w);
+      taken-lines (readProperty new) (componentLines b h) c (record {
+        are-clean = All-all clean (componentLines b h) (pairs-all (λ l e t. t .is-clean) w);
+        are-formed = All-all formed (componentLines b h) (pairs-all (λ l e t. t .is-formed) w);
         close = steps-nest fresh s ∙ events-pair c (t .named) (t .deep);
         found = eventsOf c;
         read = steps-read (readProperty new) s;

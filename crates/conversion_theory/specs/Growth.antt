@@ -3,7 +3,7 @@ use Prim.Native.Nat.{ℕ}
 use mathlib.Core.List.{List, [], _∷_}
 use Rattle.octets.specs.Answers.{Answer, refused, accepted, then}
 use Rattle.conversion_theory.specs.Tree.{Property, Component, component, Forest, leaf, grow}
-use Rattle.conversion_theory.specs.Structure.{Event, begins, ends, holds, stray}
+use Rattle.conversion_theory.specs.Structure.{Event, begins, ends, carries, stray}
 
 unfoldable pub behindEvent : {B : Type 0} → Event B → Answer (List (Event B)) → Answer (List (Event B))
 behindEvent e (refused n) = refused n
@@ -14,7 +14,7 @@ unfoldable pub eachProperty : {A B : Type 0} → (A → Answer B) → List (Even
 eachProperty f [] = accepted []
 eachProperty f (begins n ∷ es) = behindEvent (begins n) (eachProperty f es)
 eachProperty f (ends n ∷ es) = behindEvent (ends n) (eachProperty f es)
-eachProperty f (holds a ∷ es) = then (f a) (λ b. behindEvent (holds b) (eachProperty f es))
+eachProperty f (carries a ∷ es) = then (f a) (λ b. behindEvent (carries b) (eachProperty f es))
 eachProperty f (stray ∷ es) = eachProperty f es
 
 -- The component from the last line to the first: of each component that is open here, innermost first, what stands from here on.
@@ -46,7 +46,7 @@ unfoldable pub levelsFrom : List (Event Property) → List Level
 levelsFrom [] = []
 levelsFrom (begins n ∷ es) = withComponent n (levelsFrom es)
 levelsFrom (ends n ∷ es) = level [] leaf ∷ levelsFrom es
-levelsFrom (holds p ∷ es) = withProperty p (levelsFrom es)
+levelsFrom (carries p ∷ es) = withProperty p (levelsFrom es)
 levelsFrom (stray ∷ es) = levelsFrom es
 
 -- the outermost component; lines that pass 5 and 6 have one

@@ -9,21 +9,21 @@ use Rattle.octets.specs.Optional.{isSome, holds, given}
 use Rattle.octets.specs.Classes.{isLowerName}
 use Rattle.octets.specs.Limits.{mostLevels, mostOpen}
 use Rattle.octets.specs.Answers.{Answer, accepted, unless}
-use Rattle.json.specs.Tree.{Json, Members, noMembers, member, string?, array?, object?, listOf, octetsOf, elements, element, members}
+use Rattle.json.specs.Tree.{Json, Members, noMembers, member, string?, array?, object?, listOfItems, octetsOf, elements, element, members}
 use Rattle.tape.specs.Sound.{sound}
 use Rattle.content.specs.Line.{Param}
 use Rattle.conversion_theory.specs.Tree.{Property, property, Component, component, leaf, forestOf, levels}
 
-unfoldable pub isString : Json → Bool
-isString j = isSome (string? j)
+unfoldable pub isJsonString : Json → Bool
+isJsonString j = isSome (string? j)
 
 -- an array of values that all pass the test
 unfoldable pub isListOf : (Json → Bool) → Json → Bool
-isListOf p j = holds (λ js. all p (listOf js)) (array? j)
+isListOf p j = holds (λ js. all p (listOfItems js)) (array? j)
 
 -- a parameter: a string, or a filled array of strings
 unfoldable pub isParameter : Json → Bool
-isParameter j = isString j or (isListOf isString j and filled (elements j))
+isParameter j = isJsonString j or (isListOf isJsonString j and filled (elements j))
 
 -- parameters: an object under lowercase names
 unfoldable pub areParameters : Members → Bool

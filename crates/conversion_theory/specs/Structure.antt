@@ -13,7 +13,7 @@ use Rattle.content.specs.Line.{Line}
 -- what a line is: BEGIN or END of a component, whose name is in lowercase; a property; or a BEGIN or END that is neither
 pub data Event (A : Type 0) : Type 0 where
   begins ends : List ℕ → Event A
-  holds : A → Event A
+  carries : A → Event A
   stray : Event A
 
 -- without parameters, and with a name as its value
@@ -24,7 +24,7 @@ unfoldable pub eventOf : Line → Event Line
 eventOf l =
     pick (sameName (l .name) (octets "BEGIN")) (pick (bounds l) (begins (lower (l .value))) stray)
     (pick (sameName (l .name) (octets "END")) (pick (bounds l) (ends (lower (l .value))) stray)
-    (holds l))
+    (carries l))
 
 -- before the first line; behind the VCALENDAR; in a component, with those around it, innermost first; or a refusal
 pub data Nest : Type 0 where
@@ -40,19 +40,19 @@ left (n ∷ ns) = inside n ns
 unfoldable pub nest : {A : Type 0} → Nest → Event A → Nest
 nest fresh (begins m) = pick (same m (octets "vcalendar")) (inside m []) (fault 5)
 nest fresh (ends m) = fault 5
-nest fresh (holds a) = fault 5
+nest fresh (carries a) = fault 5
 nest fresh stray = fault 5
 nest closed (begins m) = fault 5
 nest closed (ends m) = fault 5
-nest closed (holds a) = fault 5
+nest closed (carries a) = fault 5
 nest closed stray = fault 5
 nest (inside n ns) (begins m) = pick (leb mostLevels (suc (length ns))) (fault 6) (inside m (n ∷ ns))
 nest (inside n ns) (ends m) = pick (same m n) (left ns) (fault 5)
-nest (inside n ns) (holds a) = inside n ns
+nest (inside n ns) (carries a) = inside n ns
 nest (inside n ns) stray = fault 5
 nest (fault k) (begins m) = fault k
 nest (fault k) (ends m) = fault k
-nest (fault k) (holds a) = fault k
+nest (fault k) (carries a) = fault k
 nest (fault k) stray = fault k
 
 unfoldable pub nestAfter : {A : Type 0} → Nest → List (Event A) → Nest

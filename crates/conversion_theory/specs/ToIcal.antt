@@ -40,15 +40,15 @@ propertyLine t p = writtenLine (find t (p .name)) p
 
 -- the content lines of a component: its properties, then its sub-components, each in order
 unfoldable mutual
-  pub linesOf : Table → Component → List (List ℕ)
-  linesOf t (component n ps cs) = beginLine n ∷ map (propertyLine t) ps ++ (linesIn t cs ++ endLine n ∷ [])
+  pub componentLines : Table → Component → List (List ℕ)
+  componentLines t (component n ps cs) = beginLine n ∷ map (propertyLine t) ps ++ (forestLines t cs ++ endLine n ∷ [])
 
-  pub linesIn : Table → Forest → List (List ℕ)
-  linesIn t leaf = []
-  linesIn t (grow c cs) = linesOf t c ++ linesIn t cs
+  pub forestLines : Table → Forest → List (List ℕ)
+  forestLines t leaf = []
+  forestLines t (grow c cs) = componentLines t c ++ forestLines t cs
 
 unfoldable pub written : Table → Component → Answer (List ℕ)
-written t c = then (checkedAll t (propertiesOf c)) (λ _. accepted (textOf (linesOf t c)))
+written t c = then (checkedAll t (propertiesOf c)) (λ _. accepted (textOf (componentLines t c)))
 
 unfoldable pub toIcal : List ℕ → List ℕ → Answer (List ℕ)
 toIcal rows text =

@@ -12,7 +12,7 @@ use Rattle.content.specs.Fold.{textOf}
 use Rattle.content.specs.Physical.{Physical}
 use Rattle.conversion_theory.specs.Tree.{Component}
 use Rattle.conversion_theory.specs.Skeleton.{calendarOf}
-use Rattle.conversion_theory.specs.ToIcal.{jsonOf, linesOf, toIcal}
+use Rattle.conversion_theory.specs.ToIcal.{jsonOf, componentLines, toIcal}
 
 -- every line that is written has at most 75 octets, and no fold stands inside a character
 abbrev pub LinesFit : Type 0
@@ -26,8 +26,8 @@ pub record Apart (rows text out : List ℕ) : Type 0 where
   pub parsed : jsonOf (parseText text) ≡ accepted json
   pub from : Component
   pub held : calendarOf json ≡ accepted from
-  pub folded : textOf (linesOf table from) ≡ out
-  pub lines : unfolded out ≡ linesOf table from
+  pub folded : textOf (componentLines table from) ≡ out
+  pub lines : unfolded out ≡ componentLines table from
 
 -- nothing from a JSON string begins a line of its own
 abbrev pub LinesApart : Type 0

@@ -13,9 +13,9 @@ use Rattle.octets.specs.Classes.{isLowerName}
 use Rattle.octets.specs.Answers.{refused}
 use Rattle.octets.proofs.Cases.{never, both}
 use Rattle.types.specs.Table.{Table}
-use Rattle.json.specs.Tree.{Json, string?, array?, listOf, octetsOf, elements, element}
+use Rattle.json.specs.Tree.{Json, string?, array?, listOfItems, octetsOf, elements, element}
 use Rattle.json.specs.Tape.{tagArray, tagEnd}
-use Rattle.tape.specs.Decode.{others, tagAt, valueAt, itemsAt, listAt}
+use Rattle.tape.specs.Decode.{otherItems, tagAt, valueAt, itemsAt, listAt}
 use Rattle.tape.specs.Promise.{After, Next, Left}
 use Rattle.tape.proofs.Values.{list-end, list-first, list-next}
 use Rattle.tape.proofs.Walks.{along-start, along-next, along-left, elements-inside, next-inside}
@@ -79,7 +79,7 @@ module _ (T : Table) (d : ℕ) (t : List ℕ) (i : ℕ) where
 
     pub subs-off : {m : ℕ} → checkedAll T (propertiesOf (componentFrom d (valueAt t i))) ≡ refused m → checkedAll T (subProperties d (listAt t i)) ≡ refused m
     subs-off h =
-        let js = listOf (others (itemsAt t i)) in
+        let js = listOfItems (otherItems (itemsAt t i)) in
         ap (λ js. checkedAll T (subProperties d js)) (list-first t i n) ∙ ap (checkedAll T) (subs-more d (valueAt t i) js) ∙ first-refused T (propertiesOf (componentFrom d (valueAt t i))) (subProperties d js) h
 
 -- the places of a component: a inside it, b of its properties, c of its sub-components

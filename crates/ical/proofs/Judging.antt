@@ -19,9 +19,9 @@ use Rattle.octets.proofs.Answers.{not-accepted}
 use Rattle.octets.proofs.Cases.{same?, never, both, and-true-right, and-false-right}
 use Rattle.octets.proofs.Classes.{lower-name, lower-name-stays}
 use Rattle.types.specs.Table.{Row, Table, find}
-use Rattle.json.specs.Tree.{Json, null, falsity, truth, num, str, arr, obj, string?, number?, array?, object?, listOf, octetsOf, elements, element}
+use Rattle.json.specs.Tree.{Json, null, falsity, truth, num, str, arr, obj, string?, number?, array?, object?, listOfItems, octetsOf, elements, element}
 use Rattle.json.specs.Tape.{tagEnd}
-use Rattle.tape.specs.Decode.{others, tagAt, valueAt, itemsAt, listAt, membersAt}
+use Rattle.tape.specs.Decode.{otherItems, tagAt, valueAt, itemsAt, listAt, membersAt}
 use Rattle.tape.specs.Promise.{After, Next, Left}
 use Rattle.tape.specs.declared.Text.{Text}
 use Rattle.tape.proofs.Values.{list-end, list-first, list-next, no-text}
@@ -44,11 +44,11 @@ use Rattle.conversion_theory.specs.Property.{codeOf, manyOf, encodingFits, read
 use Rattle.conversion_theory.specs.Skeleton.{areParameters, isPropertyName, isListOf, isProperty, paramsFrom, propertyFrom}
 use Rattle.conversion_theory.specs.Return.{isUnknown, statedType, writtenSort, firstOctets, takenBy, checked}
 use Rattle.conversion_theory.specs.ToIcal.{checkedAll}
-use Rattle.ical_properties.specs.Standing.{Within, PartsAt}
+use Rattle.ical_properties.specs.Standing.{InGroup, PartsAt}
 use Rattle.ical_properties.specs.declared.Parts.{Parts}
 use Rattle.ical_properties.specs.Ruled.{Rules}
 use Rattle.ical_properties.specs.declared.Ruling.{Ruling}
-use Rattle.ical.specs.Writes.{standing, Stands}
+use Rattle.ical.specs.Writes.{standing, ValuesWritten}
 use Rattle.ical.specs.Converts.{checkedIn, Puts, Converts}
 use Rattle.ical.specs.declared.Conversion.{Conversion}
 use Rattle.ical.specs.declared.Conversion.the-variants.{Passed, Refused}
@@ -99,7 +99,7 @@ pub first-octets : (t : List ℕ) (i : ℕ) → octetsOf (valueAt t i) ≡ first
 unfolding firstOctets
 first-octets t i = same? (tagAt t i) tagEnd
     (λ e. rw (list-end t i e) (no-text t i (λ f. omega arith) (λ f. omega arith)))
-    (λ q. sym (ap firstOctets (list-first t i (λ e. never (eq-eqb (tagAt t i) tagEnd e) q)) ∙ first-is (valueAt t i) (listOf (others (itemsAt t i)))))
+    (λ q. sym (ap firstOctets (list-first t i (λ e. never (eq-eqb (tagAt t i) tagEnd e) q)) ∙ first-is (valueAt t i) (listOfItems (otherItems (itemsAt t i)))))
 
 -- whether a value is what its name takes
 pub taken-by-sort : (s : SortCode) (n : List ℕ) (c : ℕ) (m : Bool) {raw got : List ℕ} → sortSaid s ≡ sortOf n c → got ≡ raw
@@ -118,16 +118,16 @@ module _ (k : Ruling) (n : List ℕ) where
   is-standing vs e f g = rw (sym e ∙ f, g) (and-true-right _)
 
   pub stood : (t s u : List ℕ) (i : ℕ) (f : FoldPen) (out : List ℕ) {b : Bool} (r : Valued) → b ≡ (not (k .taken) or isSome (valuesOf n (k .code) (k .many) (firstOctets (listAt t i)))) → b ≡ true
-      → length t ≤ length s → length t ≤ length u → ValuedAs (hasRoom t s and hasRoom t u) (k .many) (sortSaid (k .sort)) t i f out r → Stands k n t i f out r
+      → length t ≤ length s → length t ≤ length u → ValuedAs (hasRoom t s and hasRoom t u) (k .many) (sortSaid (k .sort)) t i f out r → ValuesWritten k n t i f out r
   stood t s u i f out (Wrote e q) g h a b v = (is-standing (listAt t i) g h (rw (room t s a, room t u b) at (v .0)), v .1, v .2)
   stood t s u i f out Invalid g h a b v = (is-standing (listAt t i) g h (rw (room t s a, room t u b) at (v .0)), v .1)
 
   -- by the answer
-  module _ (t : List ℕ) (i : ℕ) (f : FoldPen) (out : List ℕ) (r : Valued) (v : Stands k n t i f out r) where
-    pub stands-told : {e : ℕ} {q : Folder} → r ≡ Wrote e q → Stands k n t i f out (Wrote e q)
+  module _ (t : List ℕ) (i : ℕ) (f : FoldPen) (out : List ℕ) (r : Valued) (v : ValuesWritten k n t i f out r) where
+    pub stands-told : {e : ℕ} {q : Folder} → r ≡ Wrote e q → ValuesWritten k n t i f out (Wrote e q)
     stands-told z = rw z at v
 
-    pub invalid-told : r ≡ Invalid → Stands k n t i f out Invalid
+    pub invalid-told : r ≡ Invalid → ValuesWritten k n t i f out Invalid
     invalid-told z = rw z at v
 
 -- nothing stands against it
@@ -314,7 +314,7 @@ module _ (T : Table) {t : List ℕ} {i : ℕ} {p : Parts} (h : isProperty (value
       passed s = faultless T _ may (ruled-there g) (fits z) (as-stood k (valueAt t i) h (x .name .part) (x .values) s)
 
 -- behind a property, from its values on
-pub behind-values : {t : List ℕ} {i v e : ℕ} → isProperty (valueAt t i) ≡ true → Within t i v → Left t v e → Next t i e
+pub behind-values : {t : List ℕ} {i v e : ℕ} → isProperty (valueAt t i) ≡ true → InGroup t i v → Left t v e → Next t i e
 behind-values {t} {i} {v} {e} h w l =
     let q = property-array t i h in
     next-group t i e (inl q) (record { is = l .is ∙ w .is q; low = λ _. omega (arith, w .low q, l .low (w .high)); high = l .high })

@@ -7,7 +7,7 @@ use native.Mathlib.Omega.{arith}
 use Rattle.octets.specs.Basics.{all}
 use Rattle.octets.specs.Optional.{holds, given}
 use Rattle.octets.proofs.Cases.{never, both}
-use Rattle.json.specs.Tree.{Json, array?, listOf, elements, element}
+use Rattle.json.specs.Tree.{Json, array?, listOfItems, elements, element}
 use Rattle.values.proofs.CleanValues.{holds-is}
 use Rattle.conversion_theory.specs.Tree.{levels, levelsIn, forestOf}
 use Rattle.conversion_theory.specs.Skeleton.{isListOf, isComponent, componentFrom}
@@ -16,7 +16,7 @@ use Rattle.ical.proofs.Composed.{composed}
 -- where an array stands, a test of it goes by its elements
 list-of : (p q : Json → Bool) (j : Json) → isListOf p j ≡ true → isListOf q j ≡ all q (elements j)
 unfolding isListOf elements holds given
-list-of p q j h = holds-is (λ js. all p (listOf js)) (array? j) h (λ js e k. rw e)
+list-of p q j h = holds-is (λ js. all p (listOfItems js)) (array? j) h (λ js e k. rw e)
 
 -- it is a component of n levels, and the one that it is of d
 abbrev Fewer : ℕ → ℕ → Json → Type 0

@@ -27,49 +27,49 @@ use Rattle.values.specs.Write.{valuesText}
 use Rattle.conversion_theory.specs.Tree.{Property, forestOf}
 use Rattle.conversion_theory.specs.Skeleton.{isListOf, isProperty, isComponent, paramsFrom, propertyFrom, componentFrom}
 use Rattle.conversion_theory.specs.Return.{isUnknown, isDefault, shown, withValue, writtenSort, writtenLine}
-use Rattle.conversion_theory.specs.ToIcal.{beginLine, endLine, propertyLine, linesOf, linesIn}
+use Rattle.conversion_theory.specs.ToIcal.{beginLine, endLine, propertyLine, componentLines, forestLines}
 use Rattle.ical_properties.specs.Standing.{PartsAt}
 use Rattle.ical_properties.specs.Ruled.{Rules}
 use Rattle.ical_properties.specs.declared.Parts.{Parts}
 use Rattle.ical_properties.specs.declared.Ruling.{Ruling}
-use Rattle.ical.specs.Writes.{valueText, headText}
+use Rattle.ical.specs.Writes.{valueParamText, headText}
 use Rattle.ical.proofs.Arrays.{list-array, component-array}
 use Rattle.ical.proofs.Judging.{octetsIn, RuledAt, ruled-there}
 use Rattle.ical.proofs.Composed.{component-is, composed, subs-tag}
 use Rattle.ical_skeleton.proofs.Parts.{first-is, second-is, third-is}
 
 -- VALUE
-pub hidden-kind : (t : List ℕ) → valueText false t ≡ []
-unfolding valueText
+pub hidden-kind : (t : List ℕ) → valueParamText false t ≡ []
+unfolding valueParamText
 hidden-kind t = refl
 
-pub shown-kind : (t : List ℕ) → isName t ≡ true → valueText true t ≡ (octets ";" ++ upper (octets "value") ++ octets "=") ++ upper t
-unfolding valueText moreValues
+pub shown-kind : (t : List ℕ) → isName t ≡ true → valueParamText true t ≡ (octets ";" ++ upper (octets "value") ++ octets "=") ++ upper t
+unfolding valueParamText moreValues
 shown-kind t h = param-text (octets "value") (upper t) [] ∙ rw (name-text (upper t) (name-upper t h), append-nil (upper t))
 
-with-value : (b : Bool) (t : List ℕ) (ps : List Param) → paramsText (withValue (pick b none (some t)) ps) ≡ valueText (isSome (pick b none (some t))) t ++ paramsText ps
-unfolding withValue paramsText valueText isSome
+with-value : (b : Bool) (t : List ℕ) (ps : List Param) → paramsText (withValue (pick b none (some t)) ps) ≡ valueParamText (isSome (pick b none (some t))) t ++ paramsText ps
+unfolding withValue paramsText valueParamText isSome
 with-value true t ps = refl
 with-value false t ps = refl
 
 -- a property's line
 pub line-is : (T : Table) (p : Property) {k : Ruling} → Rules (find T (p .name)) (p .name) (p .type) k
-    → propertyLine T p ≡ upper (p .name) ++ (valueText (k .shown) (p .type) ++ (paramsText (p .params) ++ (octets ":" ++ valuesText (sortSaid (k .sort)) (p .values))))
+    → propertyLine T p ≡ upper (p .name) ++ (valueParamText (k .shown) (p .type) ++ (paramsText (p .params) ++ (octets ":" ++ valuesText (sortSaid (k .sort)) (p .values))))
 unfolding propertyLine writtenLine lineText shown writtenSort
 line-is T p g =
     rw (g .shown, g .sort, with-value (isUnknown (p .type) or isDefault (find T (p .name)) (p .type)) (p .type) (p .params))
-    (ap (λ l. upper (p .name) ++ l) (append-assoc (valueText _ (p .type)) (paramsText (p .params)) _))
+    (ap (λ l. upper (p .name) ++ l) (append-assoc (valueParamText _ (p .type)) (paramsText (p .params)) _))
 
 -- the pieces of a property's line, as they were read
-pub head-is : (n : List ℕ) (b : Bool) (t : List ℕ) (ps : List Param) → upper n ++ (valueText b t ++ (paramsText ps ++ octets ":")) ≡ headText n b t ps
+pub head-is : (n : List ℕ) (b : Bool) (t : List ℕ) (ps : List Param) → upper n ++ (valueParamText b t ++ (paramsText ps ++ octets ":")) ≡ headText n b t ps
 unfolding headText
 head-is n b t ps = refl
 
-head-then : (n : List ℕ) (b : Bool) (t : List ℕ) (ps : List Param) (v : List ℕ) → headText n b t ps ++ v ≡ upper n ++ (valueText b t ++ (paramsText ps ++ (octets ":" ++ v)))
+head-then : (n : List ℕ) (b : Bool) (t : List ℕ) (ps : List Param) (v : List ℕ) → headText n b t ps ++ v ≡ upper n ++ (valueParamText b t ++ (paramsText ps ++ (octets ":" ++ v)))
 unfolding headText
 head-then n b t ps v =
-    append-assoc (upper n) (valueText b t ++ (paramsText ps ++ octets ":")) v
-    ∙ ap (λ l. upper n ++ l) (append-assoc (valueText b t) (paramsText ps ++ octets ":") v ∙ ap (λ l. valueText b t ++ l) (append-assoc (paramsText ps) (octets ":") v))
+    append-assoc (upper n) (valueParamText b t ++ (paramsText ps ++ octets ":")) v
+    ∙ ap (λ l. upper n ++ l) (append-assoc (valueParamText b t) (paramsText ps ++ octets ":") v ∙ ap (λ l. valueParamText b t ++ l) (append-assoc (paramsText ps) (octets ":") v))
 
 pub line-there : (T : Table) {t : List ℕ} {i : ℕ} {p : Parts} {k : Ruling} → isProperty (valueAt t i) ≡ true → PartsAt t i p → RuledAt T t p k
     → headText (octetsIn t (p .name)) (k .shown) (octetsIn t (p .kind)) (paramsFrom (membersAt t (p .params))) ++ valuesText (sortSaid (k .sort)) (listAt t (p .values)) ≡ propertyLine T (propertyFrom (valueAt t i))
@@ -93,14 +93,14 @@ lines-inside T p t i h x = ap (λ js. textOf (map (propertyLine T) (map property
 
 -- lines of sub-components
 abbrev pub subLines : Table → ℕ → List Json → List (List ℕ)
-subLines T d js = linesIn T (forestOf (map (componentFrom d) js))
+subLines T d js = forestLines T (forestOf (map (componentFrom d) js))
 
 sub-lines-none : (T : Table) (d : ℕ) → subLines T d [] ≡ []
-unfolding linesOf forestOf
+unfolding componentLines forestOf
 sub-lines-none T d = refl
 
-sub-lines-more : (T : Table) (d : ℕ) (j : Json) (js : List Json) → subLines T d (j ∷ js) ≡ linesOf T (componentFrom d j) ++ subLines T d js
-unfolding linesOf forestOf
+sub-lines-more : (T : Table) (d : ℕ) (j : Json) (js : List Json) → subLines T d (j ∷ js) ≡ componentLines T (componentFrom d j) ++ subLines T d js
+unfolding componentLines forestOf
 sub-lines-more T d j js = refl
 
 text-none : textOf [] ≡ []
@@ -112,16 +112,16 @@ module _ (T : Table) (d : ℕ) (t : List ℕ) (i : ℕ) where
   sub-lines-end e = ap (λ js. textOf (subLines T d js)) (list-end t i e) ∙ ap textOf (sub-lines-none T d) ∙ text-none
 
   pub sub-lines-on : {e : ℕ} → ((tagAt t i ≡ tagEnd) → ⊥) → Next t i e
-      → textOf (subLines T d (listAt t i)) ≡ textOf (linesOf T (componentFrom d (valueAt t i))) ++ textOf (subLines T d (listAt t e))
+      → textOf (subLines T d (listAt t i)) ≡ textOf (componentLines T (componentFrom d (valueAt t i))) ++ textOf (subLines T d (listAt t e))
   sub-lines-on {e} n y =
       ap (λ js. textOf (subLines T d js)) (list-next y n) ∙ ap textOf (sub-lines-more T d (valueAt t i) (listAt t e))
-      ∙ text-append (linesOf T (componentFrom d (valueAt t i))) (subLines T d (listAt t e))
+      ∙ text-append (componentLines T (componentFrom d (valueAt t i))) (subLines T d (listAt t e))
 
 -- the lines of a component
 pub lines-are : (T : Table) (d : ℕ) (j : Json) → ((d ≡ 0) → ⊥)
-    → linesOf T (componentFrom d j) ≡ (beginLine (octetsOf (element 0 j)) ∷ []) ++ (map (propertyLine T) (map propertyFrom (elements (element 1 j)))
+    → componentLines T (componentFrom d j) ≡ (beginLine (octetsOf (element 0 j)) ∷ []) ++ (map (propertyLine T) (map propertyFrom (elements (element 1 j)))
     ++ (subLines T (d - 1) (elements (element 2 j)) ++ endLine (octetsOf (element 0 j)) ∷ []))
-unfolding linesOf
+unfolding componentLines
 lines-are T d j n = rw (component-is d j n)
 
 -- by the places of its parts
@@ -129,7 +129,7 @@ pub component-lines : (T : Table) (d : ℕ) {t : List ℕ} {at a c i : ℕ} {n :
     → ((octets "BEGIN:" ++ upper (take (n .to - n .from) (drop (n .from) t))) ∷ [])
     ++ (map (propertyLine T) (map propertyFrom (elements (valueAt t (n .next))))
     ++ (subLines T (d - 1) (listAt t i) ++ (octets "END:" ++ upper (take (n .to - n .from) (drop (n .from) t))) ∷ []))
-    ≡ linesOf T (componentFrom d (valueAt t at))
+    ≡ componentLines T (componentFrom d (valueAt t at))
 unfolding beginLine endLine
 component-lines T d {t} {at} {a} {c} {i} {n} h x k z u =
     let q = component-array t at d h in

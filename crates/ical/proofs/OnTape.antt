@@ -37,7 +37,7 @@ use Rattle.tape.proofs.Back.{tape-back, laid-back, sound-back}
 use Rattle.content.specs.Fold.{textOf}
 use Rattle.conversion_theory.specs.Tree.{levels, propertiesOf}
 use Rattle.conversion_theory.specs.Skeleton.{isComponent, isCalendar, componentFrom, calendarOf}
-use Rattle.conversion_theory.specs.ToIcal.{jsonOf, checkedAll, linesOf, written, toIcal}
+use Rattle.conversion_theory.specs.ToIcal.{jsonOf, checkedAll, componentLines, written, toIcal}
 use Rattle.ical.specs.Stages.{componentOn, judged, tapeText, parsedText}
 use Rattle.ical.proofs.Judging.{ok}
 use Rattle.ical.proofs.Levels.{fewer}
@@ -81,7 +81,7 @@ module _ (T : Table) (t : List ℕ) where
   unfolding tapeText then
   text-refused e = rw e
 
-  pub text-accepted : judged T t ≡ ok → tapeText T t ≡ accepted (textOf (linesOf T (componentOn t)))
+  pub text-accepted : judged T t ≡ ok → tapeText T t ≡ accepted (textOf (componentLines T (componentOn t)))
   unfolding tapeText then
   text-accepted e = rw e
 

@@ -12,7 +12,7 @@ use Rattle.tape.specs.Scan.{soundTape}
 use Rattle.content.specs.Fold.{textOf}
 use Rattle.conversion_theory.specs.Tree.{Component, levels, propertiesOf}
 use Rattle.conversion_theory.specs.Skeleton.{isCalendar, componentFrom, calendarOf}
-use Rattle.conversion_theory.specs.ToIcal.{jsonOf, checkedAll, linesOf, written}
+use Rattle.conversion_theory.specs.ToIcal.{jsonOf, checkedAll, componentLines, written}
 
 -- the component on a tape
 unfoldable pub componentOn : List ℕ → Component
@@ -26,7 +26,7 @@ judged table t =
     checkedAll table (propertiesOf (componentOn t))))
 
 unfoldable pub tapeText : Table → List ℕ → Answer (List ℕ)
-tapeText table t = then (judged table t) (λ _. accepted (textOf (linesOf table (componentOn t))))
+tapeText table t = then (judged table t) (λ _. accepted (textOf (componentLines table (componentOn t))))
 
 -- a text as it was received
 unfoldable pub parsedText : Table → List ℕ → Answer (List ℕ)

@@ -22,13 +22,13 @@ use Rattle.conversion_theory.specs.Return.{firstOctets}
 use Rattle.ical_properties.specs.declared.Ruling.{Ruling}
 
 -- VALUE, where it is shown
-unfoldable pub valueText : Bool → List ℕ → List ℕ
-valueText true t = paramText (record { name = octets "value"; values = upper t ∷ [] })
-valueText false t = []
+unfoldable pub valueParamText : Bool → List ℕ → List ℕ
+valueParamText true t = paramText (record { name = octets "value"; values = upper t ∷ [] })
+valueParamText false t = []
 
 -- a line up to its colon
 unfoldable pub headText : List ℕ → Bool → List ℕ → List Param → List ℕ
-headText n b t ps = upper n ++ (valueText b t ++ (paramsText ps ++ octets ":"))
+headText n b t ps = upper n ++ (valueParamText b t ++ (paramsText ps ++ octets ":"))
 
 -- the values are what a ruling asks for under this name
 unfoldable pub standing : Ruling → List ℕ → List Json → Bool
@@ -36,6 +36,6 @@ standing k n vs = valuesAre (k .many) (sortSaid (k .sort)) vs and (not (k .taken
 
 -- the values of the group at i stand, are written behind f and end before e; or they do not stand, and the buffer is as long and as before in front of
 -- the pen, and the code's choice behind
-abbrev pub Stands : Ruling → List ℕ → List ℕ → ℕ → FoldPen → List ℕ → Valued → Type 0
-Stands k n t i f out (Wrote e q) = (standing k n (listAt t i) ≡ true) × Folded f (valuesText (sortSaid (k .sort)) (listAt t i)) (folding out q) × Left t i e
-Stands k n t i f out Invalid = (standing k n (listAt t i) ≡ false) × FrontKept (f .pen) out
+abbrev pub ValuesWritten : Ruling → List ℕ → List ℕ → ℕ → FoldPen → List ℕ → Valued → Type 0
+ValuesWritten k n t i f out (Wrote e q) = (standing k n (listAt t i) ≡ true) × Folded f (valuesText (sortSaid (k .sort)) (listAt t i)) (folding out q) × Left t i e
+ValuesWritten k n t i f out Invalid = (standing k n (listAt t i) ≡ false) × FrontKept (f .pen) out

@@ -15,7 +15,7 @@ ghost use Rattle.types.specs.Laid.{tableIn};
 ghost use Rattle.tape.specs.Decode.{valueAt};
 ghost use Rattle.conversion_theory.specs.Tree.{propertiesOf};
 ghost use Rattle.conversion_theory.specs.Skeleton.{isComponent, componentFrom};
-ghost use Rattle.conversion_theory.specs.ToIcal.{checkedAll, linesOf};
+ghost use Rattle.conversion_theory.specs.ToIcal.{checkedAll, componentLines};
 ghost use Rattle.ical.specs.Converts.{Converts};
 
 // Writes the component at `at`, which has at most `left` levels, up to the first property in fault.
@@ -31,7 +31,7 @@ pub(crate) fn convert_component(
 ) -> Conversion
     requires { ⌜ (isComponent left (valueAt (now t) at) ≡ true) × (length (now t) ≤ length (now text)) × (length (now t) ≤ length (now rule)) ⌝ }
     ensures { λ r. ⌜ Converts (now (t .entry)) at (checkedAll (tableIn (now (rows .entry))) (propertiesOf (componentFrom left (valueAt (now (t .entry)) at))))
-        (now (out .entry)) to (linesOf (tableIn (now (rows .entry))) (componentFrom left (valueAt (now (t .entry)) at))) (now (out .exit)) r ⌝ }
+        (now (out .entry)) to (componentLines (tableIn (now (rows .entry))) (componentFrom left (valueAt (now (t .entry)) at))) (now (out .exit)) r ⌝ }
 {
     let a = after(&*t, at);
     let name = text_at(&*t, a);

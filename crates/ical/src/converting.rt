@@ -24,7 +24,7 @@ ghost use Rattle.octets.specs.Limits.{mostText};
 ghost use Rattle.octets.specs.Utf8.{utf8};
 ghost use Rattle.types.specs.Laid.{tableIn, roomForRows};
 ghost use Rattle.json.specs.Parse.{mostTape};
-ghost use Rattle.conversion_theory.specs.ToIcal.{linesOf, toIcal};
+ghost use Rattle.conversion_theory.specs.ToIcal.{componentLines, toIcal};
 ghost use Rattle.ical.specs.Converts.{Converts};
 ghost use Rattle.ical.specs.Stages.{componentOn, judged, tapeText, parsedText};
 
@@ -48,7 +48,7 @@ fn convert_sound(
     rule: &mut [u8],
 ) -> Conversion
     requires { ⌜ (length (now t) ≤ length (now text)) × (length (now t) ≤ length (now rule)) ⌝ }
-    ensures { λ r. ⌜ Converts (now (t .entry)) 0 (judged (tableIn (now (rows .entry))) (now (t .entry))) (now (out .entry)) 0 (linesOf (tableIn (now (rows .entry))) (componentOn (now (t .entry)))) (now (out .exit)) r ⌝ }
+    ensures { λ r. ⌜ Converts (now (t .entry)) 0 (judged (tableIn (now (rows .entry))) (now (t .entry))) (now (out .entry)) 0 (componentLines (tableIn (now (rows .entry))) (componentOn (now (t .entry)))) (now (out .exit)) r ⌝ }
 {
     if !is_sound(t) {
         return Conversion::Refused(Refusal::NotJcal);

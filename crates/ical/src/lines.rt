@@ -18,7 +18,7 @@ ghost use Rattle.tape.specs.Decode.{membersAt};
 ghost use Rattle.content.specs.Fold.{textOf};
 ghost use Rattle.content.specs.Folding.{folding, Folded};
 ghost use Rattle.conversion_theory.specs.Skeleton.{paramsFrom};
-ghost use Rattle.ical.specs.Writes.{valueText, headText};
+ghost use Rattle.ical.specs.Writes.{valueParamText, headText};
 
 // BEGIN or END, and a name that stands on the tape.
 pub(crate) fn write_mark(out: &mut [u8], at: usize, word: &[u8], t: &[u8], name: Text) -> usize
@@ -35,7 +35,7 @@ pub(crate) fn write_mark(out: &mut [u8], at: usize, word: &[u8], t: &[u8], name:
 // VALUE, where it is shown.
 fn write_kind(out: &mut [u8], p: Folder, shown: bool, kind: &[u8]) -> Folder
     requires { ⌜ isName (now kind) ≡ true ⌝ }
-    ensures { λ r. ⌜ Folded (folding (now (out .entry)) p) (valueText shown (now (kind .entry))) (folding (now (out .exit)) r) ⌝ }
+    ensures { λ r. ⌜ Folded (folding (now (out .entry)) p) (valueParamText shown (now (kind .entry))) (folding (now (out .exit)) r) ⌝ }
 {
     if !shown {
         return p;

@@ -34,7 +34,7 @@ ghost use Rattle.values.specs.Read.{valuesOf};
 ghost use Rattle.conversion_theory.specs.Skeleton.{isListOf, isProperty, propertyFrom};
 ghost use Rattle.conversion_theory.specs.Return.{firstOctets};
 ghost use Rattle.conversion_theory.specs.ToIcal.{checkedAll, propertyLine};
-ghost use Rattle.ical.specs.Writes.{Stands};
+ghost use Rattle.ical.specs.Writes.{ValuesWritten};
 ghost use Rattle.ical.specs.Converts.{checkedIn, Converts};
 
 // Whether the first value at `at` is what its name takes without VALUE, where it must be.
@@ -63,7 +63,7 @@ fn write_stood(
     rule: &mut [u8],
 ) -> Valued
     requires { ⌜ (length (now t) ≤ length (now text)) × (length (now t) ≤ length (now rule)) ⌝ }
-    ensures { λ r. ⌜ Stands k (lower (now (name .entry))) (now (t .entry)) at (folding (now (out .entry)) p) (now (out .exit)) r ⌝ }
+    ensures { λ r. ⌜ ValuesWritten k (lower (now (name .entry))) (now (t .entry)) at (folding (now (out .entry)) p) (now (out .exit)) r ⌝ }
 {
     if !is_taken(t, name, at, k) {
         return Valued::Invalid;

@@ -13,7 +13,7 @@ use Rattle.tape.proofs.Tags.{on-tape, past-tag}
 use Rattle.tape.proofs.Values.{pop-skip, no-elements, no-members, list-end, members-end, list-head, list-tail, list-behind}
 use Rattle.tape.proofs.Walks.{elements-inside, members-inside}
 use Rattle.conversion_theory.specs.Skeleton.{paramsFrom, propertyFrom}
-use Rattle.ical_properties.specs.Standing.{Within, IntoArray, IntoObject, Says, PartsAt}
+use Rattle.ical_properties.specs.Standing.{InGroup, IntoArray, IntoObject, OctetsAre, PartsAt}
 
 module _ (t : List ℕ) (i : ℕ) where
   pub into-array : {a : ℕ} → After t i a → tagAt t i ≡ tagArray → IntoArray t i a
@@ -34,10 +34,10 @@ module _ (t : List ℕ) (i : ℕ) where
   pub into-no-object : ((tagAt t i ≡ tagObject) → ⊥) → IntoObject t i (length t)
   into-no-object n = members-end t (length t) (past-tag t (length t) (omega arith)) ∙ sym (no-members t i n)
 
-pub within-next : {t : List ℕ} {i a b : ℕ} → Within t i a → Next t a b → Within t i b
+pub within-next : {t : List ℕ} {i a b : ℕ} → InGroup t i a → Next t a b → InGroup t i b
 within-next {t} {i} {a} w n = record { is = λ q. ap pop (n .is) ∙ pop-skip (view t a) ∙ w .is q; low = λ q. omega (arith, w .low q, n .low (w .high)); high = n .high }
 
-says : {t : List ℕ} {i : ℕ} {x : Text} {j : Json} → TextAt t i x → j ≡ valueAt t i → Says t x (octetsOf j)
+says : {t : List ℕ} {i : ℕ} {x : Text} {j : Json} → TextAt t i x → j ≡ valueAt t i → OctetsAre t x (octetsOf j)
 says y e = record { part = y .part ∙ sym (ap octetsOf e); order = y .order; within = y .within }
 
 module _ {t : List ℕ} {i a c : ℕ} (m : ℕ) {n k : Text} (x : IntoArray t i a) (y : TextAt t a n) (o : IntoObject t (n .next) m) (z : Next t (n .next) c) (w : TextAt t c k) where

@@ -12,7 +12,7 @@ use Rattle.octets.specs.Pieces.{joined}
 use Rattle.octets.proofs.Cases.{and-true-right}
 use Rattle.json.specs.Tree.{octetsOf}
 use Rattle.json.specs.Tape.{tagString, tagEnd}
-use Rattle.tape.specs.Decode.{others, paired, tagAt, valueAt, itemsAt, listAt, membersAt}
+use Rattle.tape.specs.Decode.{otherItems, paired, tagAt, valueAt, itemsAt, listAt, membersAt}
 use Rattle.tape.specs.Promise.{Next, TextAt}
 use Rattle.tape.specs.declared.Text.{Text}
 use Rattle.tape.proofs.Values.{string-some, no-string, list-end, list-first, list-next, members-end, members-first, members-next}
@@ -54,7 +54,7 @@ module _ (t : List ℕ) (i : ℕ) where
   params-end e = rw (members-end t i e)
 
   module _ {k : Text} (n : (tagAt t i ≡ tagEnd) → ⊥) (x : TextAt t i k) where
-    pub params-first : paramsFrom (membersAt t i) ≡ param (said t k) (valuesFrom (valueAt t (k .next))) ∷ paramsFrom (paired (others (itemsAt t (k .next))))
+    pub params-first : paramsFrom (membersAt t i) ≡ param (said t k) (valuesFrom (valueAt t (k .next))) ∷ paramsFrom (paired (otherItems (itemsAt t (k .next))))
     unfolding paramsFrom
     params-first = rw (members-first n (x .behind), x .part)
 

@@ -11,7 +11,7 @@ use Rattle.conversion_theory.specs.Skeleton.{paramsFrom, propertyFrom}
 use Rattle.ical_properties.specs.declared.Parts.{Parts}
 
 -- a stands in the group of the array at i, if an array stands there
-pub record Within (t : List ℕ) (i a : ℕ) : Type 0 where
+pub record InGroup (t : List ℕ) (i a : ℕ) : Type 0 where
   pub is : tagAt t i ≡ tagArray → pop (view t a) ≡ pop (view t (i + 1))
   pub low : tagAt t i ≡ tagArray → i + 1 ≤ a
   pub high : a ≤ length t
@@ -19,21 +19,21 @@ pub record Within (t : List ℕ) (i a : ℕ) : Type 0 where
 -- the elements of the array at i stand from a on
 pub record IntoArray (t : List ℕ) (i a : ℕ) : Type 0 where
   pub list : listAt t a ≡ elements (valueAt t i)
-  pub within : Within t i a
+  pub within : InGroup t i a
 
 abbrev pub IntoObject : List ℕ → ℕ → ℕ → Type 0
 IntoObject t i a = membersAt t a ≡ members (valueAt t i)
 
 -- these octets of the tape
-pub record Says (t : List ℕ) (x : Text) (s : List ℕ) : Type 0 where
+pub record OctetsAre (t : List ℕ) (x : Text) (s : List ℕ) : Type 0 where
   pub part : take (x .to - x .from) (drop (x .from) t) ≡ s
   pub order : x .from ≤ x .to
   pub within : x .to ≤ length t
 
 -- the parts of the property at i
 pub record PartsAt (t : List ℕ) (i : ℕ) (r : Parts) : Type 0 where
-  pub name : Says t (r .name) (propertyFrom (valueAt t i) .name)
+  pub name : OctetsAre t (r .name) (propertyFrom (valueAt t i) .name)
   pub params : paramsFrom (membersAt t (r .params)) ≡ propertyFrom (valueAt t i) .params
-  pub kind : Says t (r .kind) (propertyFrom (valueAt t i) .type)
+  pub kind : OctetsAre t (r .kind) (propertyFrom (valueAt t i) .type)
   pub values : listAt t (r .values) ≡ propertyFrom (valueAt t i) .values
-  pub within : Within t i (r .values)
+  pub within : InGroup t i (r .values)

@@ -14,7 +14,7 @@ use Rattle.octets.specs.Decimal.{trim, integerText}
 use Rattle.octets.specs.Pieces.{split, joined}
 use Rattle.octets.proofs.Optional.{missing, some-same, when-is, guard-is}
 use Rattle.octets.proofs.Pieces.{joined-split}
-use Rattle.calendar.specs.Recurrence.{Sort, frequency, moment, count, weekday, ordinal, numbers, keys, keyNamed, weekdays, wordOf, untilOf, countOf, numberOf, ordinalOf, dayOf, itemOf, several, Part, part, keyedPart, partOf, partsOf, partText, partsText}
+use Rattle.calendar.specs.Recurrence.{PartSort, frequency, moment, count, weekday, ordinal, numbers, keys, keyNamed, weekdays, wordOf, untilOf, countOf, numberOf, ordinalOf, dayOf, itemOf, several, Part, part, keyedPart, partOf, partsOf, partText, partsText}
 use Rattle.calendar.specs.Walk.{ruleShown}
 use Rattle.calendar.proofs.Options.{map-is, then-is}
 use Rattle.calendar.proofs.Pieces.{upper-length}
@@ -62,7 +62,7 @@ day-length s v e =
     let d : t .0 ≡ drop k s = sym (when-is _ (drop k s) (t .0) (t .1) .1) in
     rw (← (m .2)) (omega (arith, length-append (m .0) (t .0), ordinal-length (take k s) (m .0) (m .1), ap length d, length-take k s, length-drop k s))
 
-item-length : (sort : Sort) (s v : List ℕ) → itemOf sort s ≡ some v → length v ≤ length s
+item-length : (sort : PartSort) (s v : List ℕ) → itemOf sort s ≡ some v → length v ≤ length s
 unfolding itemOf wordOf untilOf countOf
 item-length frequency s v e = kept-length _ s v e
 item-length moment s v e = kept-length _ s v e
@@ -71,13 +71,13 @@ item-length weekday s v e = kept-length _ s v e
 item-length ordinal s v e = day-length s v e
 item-length (numbers signed most lo hi) s v e = number-length signed most lo hi s v e
 
-items-shorter : (sort : Sort) (ls vs : List (List ℕ)) → each (itemOf sort) ls ≡ some vs → Shorter ls vs
+items-shorter : (sort : PartSort) (ls vs : List (List ℕ)) → each (itemOf sort) ls ≡ some vs → Shorter ls vs
 items-shorter sort [] vs e = let q : [] ≡ vs = some-same (unfold each in e) in rw (← q) tt
 items-shorter sort (l ∷ ls) vs e =
     let b = both-is (itemOf sort l) (each (itemOf sort) ls) vs (unfold each in e) in
     rw (b .whole) (item-length sort l (b .head) (b .first), items-shorter sort ls (b .tail) (b .rest))
 
-values-length : (sort : Sort) (v : List ℕ) (vs : List (List ℕ)) → each (itemOf sort) (split (code ",") v) ≡ some vs → length (joined (code ",") vs) ≤ length v
+values-length : (sort : PartSort) (v : List ℕ) (vs : List (List ℕ)) → each (itemOf sort) (split (code ",") v) ≡ some vs → length (joined (code ",") vs) ≤ length v
 values-length sort v vs e = rw (joined-split (code ",") v) at (joined-shorter (code ",") (split (code ",") v) vs (items-shorter sort (split (code ",") v) vs e))
 
 -- a part

@@ -16,13 +16,13 @@ use Rattle.octets.specs.Pieces.{joined}
 use Rattle.octets.proofs.Cases.{cases, same?}
 use Rattle.calendar.specs.Forms.{dateTimeForm, Slot, digit, sign, letter, added, keeps, basic}
 use Rattle.calendar.specs.Dates.{dateTimeText, momentText}
-use Rattle.calendar.specs.Recurrence.{Sort, frequency, moment, count, weekday, ordinal, numbers, Key, keyNamed}
+use Rattle.calendar.specs.Recurrence.{PartSort, frequency, moment, count, weekday, ordinal, numbers, Key, keyNamed}
 use Rattle.calendar.proofs.Pieces.{upper-length}
 use Rattle.json.specs.Tree.{Json, null, falsity, truth, num, str, arr, obj, Items, noItems, item, noMembers, member, string?, number?, array?, octetsOf}
 use Rattle.json.specs.Tape.{tagFalse, tagTrue, tagNumber, tagString, tagArray, tagObject, tagEnd}
-use Rattle.tape.specs.Decode.{paired, valued, Groups, last, group, top, pop, push, text, inText, groups, view, itemsAt, membersAt}
+use Rattle.tape.specs.Decode.{paired, valued, Groups, last, group, top, pop, push, textAtFront, inText, groups, view, itemsAt, membersAt}
 use Rattle.values.specs.Recur.{stringText, itemText, itemTexts, valueTexts, memberText, memberTexts}
-use Rattle.ical_recur.specs.Wording.{itemsText, valuesText, objectText}
+use Rattle.ical_recur.specs.Wording.{itemsText, partValuesText, objectText}
 
 -- what a value, and the values of a group, take of a tape at least; an object's members do not count here
 abbrev mutual
@@ -53,11 +53,11 @@ total-pop (group js g) = omega arith
 
 -- the octets of a text that is under way
 abbrev ahead : Bool → List ℕ → ℕ
-ahead true s = length (text s)
+ahead true s = length (textAtFront s)
 ahead false s = 0
 
 sized : (s : List ℕ) (m : Bool) → ahead m s + total (groups m s) ≤ length s
-unfolding groups text inText
+unfolding groups textAtFront inText
 sized [] true = omega arith
 sized [] false = omega arith
 sized (b ∷ s) true = cases (eqb b tagEnd)
@@ -67,8 +67,8 @@ sized (b ∷ s) false =
     same? b tagEnd (λ e. rw e (omega (arith, sized s false))) (λ z.
     same? b tagArray (λ e. rw e (omega (arith, sized s false, total-push (arr (top (groups false s))) (pop (groups false s)), total-pop (groups false s)))) (λ a.
     same? b tagObject (λ e. rw e (omega (arith, sized s false, total-push (obj (paired (top (groups false s)))) (pop (groups false s)), total-pop (groups false s)))) (λ o.
-    same? b tagNumber (λ e. rw e (omega (arith, sized s true, total-push (num (text s)) (groups true s)))) (λ n.
-    same? b tagString (λ e. rw e (omega (arith, sized s true, total-push (str (text s)) (groups true s)))) (λ m.
+    same? b tagNumber (λ e. rw e (omega (arith, sized s true, total-push (num (textAtFront s)) (groups true s)))) (λ n.
+    same? b tagString (λ e. rw e (omega (arith, sized s true, total-push (str (textAtFront s)) (groups true s)))) (λ m.
     rw (z, a, o, n, m) (
     cases (eqb b tagFalse) (λ e. rw e (omega (arith, sized s false, total-push falsity (groups false s)))) (λ f.
     rw f (cases (eqb b tagTrue) (λ e. rw e (omega (arith, sized s false, total-push truth (groups false s)))) (λ u.
@@ -100,7 +100,7 @@ basic-length [] s = omega arith
 basic-length (f ∷ fs) [] = omega arith
 basic-length (f ∷ fs) (x ∷ s) = rw (length-append (keeps f x) (basic fs s)) (omega (arith, kept-length f x, basic-length fs s))
 
-string-length : (sort : Sort) (s : List ℕ) → length (stringText sort s) ≤ length s
+string-length : (sort : PartSort) (s : List ℕ) → length (stringText sort s) ≤ length s
 unfolding stringText momentText dateTimeText
 string-length frequency s = omega arith
 string-length moment s = omega (arith, basic-length (dateTimeForm (leb 20 (length (upper s)))) (upper s), upper-length s)
@@ -110,7 +110,7 @@ string-length ordinal s = omega arith
 string-length (numbers signed most lo hi) s = omega arith
 
 -- the texts of a value, of an array and of what a part has
-item-length : (sort : Sort) (j : Json) → suc (length (itemText sort j)) ≤ size j
+item-length : (sort : PartSort) (j : Json) → suc (length (itemText sort j)) ≤ size j
 unfolding itemText given string? number?
 item-length sort null = omega arith
 item-length sort falsity = omega arith
@@ -125,7 +125,7 @@ unfolding joined
 joined-length sep l [] = omega arith
 joined-length sep l (m ∷ ls) = omega (arith, length-append l (sep ∷ joined sep (m ∷ ls)))
 
-items-length : (sort : Sort) (js : Items) → length (itemsText sort js) ≤ sizes js
+items-length : (sort : PartSort) (js : Items) → length (itemsText sort js) ≤ sizes js
 unfolding itemTexts
 items-length sort noItems = unfold joined in omega arith
 items-length sort (item j js) = omega (arith, joined-length (code ",") (itemText sort j) (itemTexts sort js), item-length sort j, items-length sort js)
@@ -134,7 +134,7 @@ one-length : (l : List ℕ) → length (joined (code ",") (l ∷ [])) ≡ length
 unfolding joined
 one-length l = refl
 
-values-length : (sort : Sort) (j : Json) → suc (length (valuesText sort j)) ≤ size j
+values-length : (sort : PartSort) (j : Json) → suc (length (partValuesText sort j)) ≤ size j
 unfolding valueTexts given array?
 values-length sort null = omega (arith, one-length (itemText sort null), item-length sort null)
 values-length sort falsity = omega (arith, one-length (itemText sort falsity), item-length sort falsity)

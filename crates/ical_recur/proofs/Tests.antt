@@ -8,7 +8,7 @@ use Rattle.octets.specs.Basics.{_and_}
 use Rattle.octets.specs.Optional.{holds, given}
 use Rattle.octets.specs.Classes.{isLowerName, upper}
 use Rattle.octets.proofs.Cases.{and-assoc, never}
-use Rattle.calendar.specs.Recurrence.{Sort, frequency, moment, count, weekday, ordinal, numbers, several}
+use Rattle.calendar.specs.Recurrence.{PartSort, frequency, moment, count, weekday, ordinal, numbers, several}
 use Rattle.calendar.specs.Walk.{keyPlace, keyAt}
 use Rattle.calendar.proofs.Walk.{key-known, key-unknown}
 use Rattle.json.specs.Tree.{Json, num, str, arr, Items, item, Members, member, string?, number?, array?}
@@ -31,7 +31,7 @@ module _ {t : List ℕ} {i : ℕ} {r : Text} (x : TextAt t i r) where
   number-value e = number-is t i e ∙ ap num (sym (number-text t i e) ∙ sym (x .part))
 
 -- what is neither is no value of a part
-item-none : (sort : Sort) (j : Json) → string? j ≡ none → number? j ≡ none → itemIs sort j ≡ false
+item-none : (sort : PartSort) (j : Json) → string? j ≡ none → number? j ≡ none → itemIs sort j ≡ false
 unfolding itemIs isWord isUntil isInteger holds
 item-none frequency j s n = rw s
 item-none moment j s n = rw s
@@ -40,7 +40,7 @@ item-none weekday j s n = rw s
 item-none ordinal j s n = rw s
 item-none (numbers signed most lo hi) j s n = rw n
 
-pub no-item : (sort : Sort) (t : List ℕ) (i : ℕ) → ((tagAt t i ≡ tagString) → ⊥) → ((tagAt t i ≡ tagNumber) → ⊥) → itemIs sort (valueAt t i) ≡ false
+pub no-item : (sort : PartSort) (t : List ℕ) (i : ℕ) → ((tagAt t i ≡ tagString) → ⊥) → ((tagAt t i ≡ tagNumber) → ⊥) → itemIs sort (valueAt t i) ≡ false
 no-item sort t i s n = item-none sort (valueAt t i) (no-string t i s) (no-number t i n)
 
 -- the values of an array
@@ -72,7 +72,7 @@ module _ (p : Json → Bool) (t : List ℕ) (i : ℕ) where
   some-all n = rw (items-first t i n) (sym (some-filled p _ _))
 
 -- what a part has
-kind-plain : (sort : Sort) (j : Json) → array? j ≡ none → itemIs sort j ≡ kindIs sort j
+kind-plain : (sort : PartSort) (j : Json) → array? j ≡ none → itemIs sort j ≡ kindIs sort j
 unfolding kindIs itemIs oneOrMore given
 kind-plain frequency j e = refl
 kind-plain moment j e = refl
@@ -81,7 +81,7 @@ kind-plain weekday j e = refl
 kind-plain ordinal j e = rw e
 kind-plain (numbers signed most lo hi) j e = rw e
 
-kind-one : (sort : Sort) (js : Items) → several sort ≡ false → kindIs sort (arr js) ≡ false
+kind-one : (sort : PartSort) (js : Items) → several sort ≡ false → kindIs sort (arr js) ≡ false
 unfolding several kindIs isWord isUntil isInteger holds string? number?
 kind-one frequency js h = refl
 kind-one moment js h = refl
@@ -90,7 +90,7 @@ kind-one weekday js h = refl
 kind-one ordinal js h = never refl h
 kind-one (numbers signed most lo hi) js h = never refl h
 
-kind-many : (sort : Sort) (js : Items) → several sort ≡ true → kindIs sort (arr js) ≡ someItems (itemIs sort) js
+kind-many : (sort : PartSort) (js : Items) → several sort ≡ true → kindIs sort (arr js) ≡ someItems (itemIs sort) js
 unfolding several kindIs oneOrMore given array? itemIs
 kind-many frequency js h = never h refl
 kind-many moment js h = never h refl
@@ -99,7 +99,7 @@ kind-many weekday js h = never h refl
 kind-many ordinal js h = refl
 kind-many (numbers signed most lo hi) js h = refl
 
-module _ (sort : Sort) (t : List ℕ) (i : ℕ) where
+module _ (sort : PartSort) (t : List ℕ) (i : ℕ) where
   pub plain-kind : ((tagAt t i ≡ tagArray) → ⊥) → itemIs sort (valueAt t i) ≡ kindIs sort (valueAt t i)
   plain-kind n = kind-plain sort (valueAt t i) (no-array t i n)
 
@@ -119,7 +119,7 @@ module _ (k : List ℕ) (j : Json) where
   unfolding memberIs holds
   member-unknown h e = rw (e, key-unknown (upper k) h)
 
-  pub member-known : {sort : Sort} → sort ≡ (keyAt (keyPlace (upper k))) .sort → keyPlace (upper k) < 14 → isLowerName k ≡ true → kindIs sort j ≡ memberIs k j
+  pub member-known : {sort : PartSort} → sort ≡ (keyAt (keyPlace (upper k))) .sort → keyPlace (upper k) < 14 → isLowerName k ≡ true → kindIs sort j ≡ memberIs k j
   unfolding memberIs holds
   member-known s h e = rw (e, key-known (upper k) h, s)
 

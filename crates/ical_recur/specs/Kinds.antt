@@ -5,12 +5,12 @@ use mathlib.Core.List.{List}
 use Rattle.octets.specs.Basics.{_and_}
 use Rattle.octets.specs.Optional.{holds}
 use Rattle.octets.specs.Classes.{isLowerName, upper}
-use Rattle.calendar.specs.Recurrence.{Sort, frequency, moment, count, weekday, ordinal, numbers, Key, keyNamed}
+use Rattle.calendar.specs.Recurrence.{PartSort, frequency, moment, count, weekday, ordinal, numbers, Key, keyNamed}
 use Rattle.json.specs.Tree.{Json}
 use Rattle.values.specs.Recur.{isWord, isInteger, isUntil, kindIs}
 
 -- one value of a part
-unfoldable pub itemIs : Sort → Json → Bool
+unfoldable pub itemIs : PartSort → Json → Bool
 itemIs frequency j = isWord j
 itemIs moment j = isUntil j
 itemIs count j = isInteger j

@@ -2,7 +2,7 @@
 ghost use mathlib.Core.Path.{_≡_};
 ghost use Rattle.octets.specs.Basics.{all};
 ghost use Rattle.calendar.specs.Recurrence.{several};
-ghost use Rattle.calendar.specs.Walk.{sortSaid};
+ghost use Rattle.calendar.specs.Walk.{partSortSaid};
 ghost use Rattle.json.specs.Tree.{num, str};
 ghost use Rattle.values.specs.Recur.{wordOctet};
 ghost use Rattle.ical_recur.specs.Kinds.{itemIs};
@@ -45,7 +45,7 @@ fn is_word(s: &[u8]) -> bool
 
 // A string is a value of a part.
 pub fn string_is(sort: ItemSort, s: &[u8]) -> bool
-    ensures { λ r. ⌜ r ≡ itemIs (sortSaid sort) (str (now (s .entry))) ⌝ }
+    ensures { λ r. ⌜ r ≡ itemIs (partSortSaid sort) (str (now (s .entry))) ⌝ }
 {
     match sort {
         ItemSort::Frequency => is_word(s),
@@ -59,7 +59,7 @@ pub fn string_is(sort: ItemSort, s: &[u8]) -> bool
 
 // A number is a value of a part.
 pub fn number_is(sort: ItemSort, s: &[u8]) -> bool
-    ensures { λ r. ⌜ r ≡ itemIs (sortSaid sort) (num (now (s .entry))) ⌝ }
+    ensures { λ r. ⌜ r ≡ itemIs (partSortSaid sort) (num (now (s .entry))) ⌝ }
 {
     match sort {
         ItemSort::Frequency => false,
@@ -73,7 +73,7 @@ pub fn number_is(sort: ItemSort, s: &[u8]) -> bool
 
 // Only BY parts have several values.
 pub fn has_several(sort: ItemSort) -> bool
-    ensures { λ r. ⌜ r ≡ several (sortSaid sort) ⌝ }
+    ensures { λ r. ⌜ r ≡ several (partSortSaid sort) ⌝ }
 {
     match sort {
         ItemSort::Frequency => false,

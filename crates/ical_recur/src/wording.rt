@@ -1,14 +1,14 @@
 // The members of a recurrence object, tested and written in one walk: their text as the recurrence reader takes it, with semicolons between the parts.
 ghost use mathlib.Core.Path.{_≡_};
 ghost use Rattle.octets.specs.Pen.{pen, Wrote};
-ghost use Rattle.calendar.specs.Walk.{sortSaid};
+ghost use Rattle.calendar.specs.Walk.{partSortSaid};
 ghost use Rattle.json.specs.Tape.{tagEnd};
 ghost use Rattle.tape.specs.Decode.{tagAt, valueAt, itemsAt, membersAt};
 ghost use Rattle.tape.specs.Promise.{Next, Left};
 ghost use Rattle.values.specs.Recur.{someItems, kindIs, kindsAre, stringText, itemText, memberText};
 ghost use Rattle.ical_recur.specs.Kinds.{itemIs, memberIs};
 ghost use Rattle.ical_recur.specs.Laying.{LaidAs};
-ghost use Rattle.ical_recur.specs.Wording.{itemsText, valuesText, objectText};
+ghost use Rattle.ical_recur.specs.Wording.{itemsText, partValuesText, objectText};
 use crate::kinds::has_several;
 use crate::kinds::number_is;
 use crate::kinds::string_is;
@@ -42,7 +42,7 @@ pub enum Laid {
 
 // Writes a string; UNTIL in the basic form.
 fn put_string(out: &mut [u8], at: usize, sort: ItemSort, s: &[u8]) -> usize
-    ensures { λ r. ⌜ Wrote (pen (now (out .entry)) at) (stringText (sortSaid sort) (now (s .entry))) (pen (now (out .exit)) r) ⌝ }
+    ensures { λ r. ⌜ Wrote (pen (now (out .entry)) at) (stringText (partSortSaid sort) (now (s .entry))) (pen (now (out .exit)) r) ⌝ }
 {
     match sort {
         ItemSort::Frequency => put_all(out, at, s),
@@ -56,7 +56,7 @@ fn put_string(out: &mut [u8], at: usize, sort: ItemSort, s: &[u8]) -> usize
 
 // Tests and writes the value at i.
 fn lay_item(out: &mut [u8], at: usize, t: &[u8], i: usize, sort: ItemSort) -> Laid
-    ensures { λ r. ⌜ LaidAs (itemIs (sortSaid sort) (valueAt (now (t .entry)) i)) (itemText (sortSaid sort) (valueAt (now (t .entry)) i))
+    ensures { λ r. ⌜ LaidAs (itemIs (partSortSaid sort) (valueAt (now (t .entry)) i)) (itemText (partSortSaid sort) (valueAt (now (t .entry)) i))
         (pen (now (out .entry)) at) (now (out .exit)) (Next (now (t .entry)) i) r ⌝ }
 {
     let b = tag(&*t, i);
@@ -83,7 +83,7 @@ fn lay_item(out: &mut [u8], at: usize, t: &[u8], i: usize, sort: ItemSort) -> La
 
 // Tests and writes one or more values from i to the end of their array, with commas between them.
 fn lay_items(out: &mut [u8], at: usize, t: &[u8], i: usize, sort: ItemSort) -> Laid
-    ensures { λ r. ⌜ LaidAs (someItems (itemIs (sortSaid sort)) (itemsAt (now (t .entry)) i)) (itemsText (sortSaid sort) (itemsAt (now (t .entry)) i))
+    ensures { λ r. ⌜ LaidAs (someItems (itemIs (partSortSaid sort)) (itemsAt (now (t .entry)) i)) (itemsText (partSortSaid sort) (itemsAt (now (t .entry)) i))
         (pen (now (out .entry)) at) (now (out .exit)) (Left (now (t .entry)) i) r ⌝ }
 {
     if tag(&*t, i) == END {
@@ -109,7 +109,7 @@ fn lay_items(out: &mut [u8], at: usize, t: &[u8], i: usize, sort: ItemSort) -> L
 
 // Tests and writes what a part has at i: a plain value, or an array of one or more where it may have several.
 fn lay_values(out: &mut [u8], at: usize, t: &[u8], i: usize, sort: ItemSort) -> Laid
-    ensures { λ r. ⌜ LaidAs (kindIs (sortSaid sort) (valueAt (now (t .entry)) i)) (valuesText (sortSaid sort) (valueAt (now (t .entry)) i))
+    ensures { λ r. ⌜ LaidAs (kindIs (partSortSaid sort) (valueAt (now (t .entry)) i)) (partValuesText (partSortSaid sort) (valueAt (now (t .entry)) i))
         (pen (now (out .entry)) at) (now (out .exit)) (Next (now (t .entry)) i) r ⌝ }
 {
     if tag(&*t, i) != ARRAY {

@@ -22,7 +22,7 @@ use Rattle.tape.proofs.Values.{list-end, list-first, list-next}
 use Rattle.tape.proofs.Walks.{Along, along-next, along-end, after-on, array-some, elements-inside, next-inside}
 use Rattle.conversion_theory.specs.Tree.{levels, levelsIn, forestOf}
 use Rattle.conversion_theory.specs.Skeleton.{isListOf, isComponent, isCalendar, componentFrom}
-use Rattle.ical_skeleton.specs.Checks.{Head, Nests}
+use Rattle.ical_skeleton.specs.Checks.{Head, ComponentAt}
 use Rattle.ical_skeleton.specs.declared.Nested.{Nested}
 use Rattle.ical_skeleton.specs.declared.Nested.the-variants.{Component, Nothing}
 use Rattle.ical_skeleton.proofs.Parts.{component-not, first-is}
@@ -76,7 +76,7 @@ pub nesting-start : (d : ℕ) {t : List ℕ} {p a : ℕ} → After t p a → Nes
 nesting-start d x = record { passing = passing-start (isComponent d) x; deepest = omega arith; below = omega arith }
 
 module _ {d : ℕ} {t : List ℕ} {a i m : ℕ} (s : Nesting d t a i m) where
-  pub nesting-next : {e k : ℕ} → ((tagAt t i ≡ tagEnd) → ⊥) → Nests t i d (Component e k) → Nesting d t a e (max k m)
+  pub nesting-next : {e k : ℕ} → ((tagAt t i ≡ tagEnd) → ⊥) → ComponentAt t i d (Component e k) → Nesting d t a e (max k m)
   nesting-next {e} {k} n c =
       let v : deep d (listAt t i) ≡ max k (deep d (listAt t e)) = ap (deep d) (list-next (c .3) n) ∙ deep-more d (valueAt t i) (listAt t e) ∙ rw (c .1) in
       record { passing = passing-next (s .passing) (c .3) n (c .0); deepest = omega (arith, s .deepest, v); below = omega (arith, s .below, c .2) }
@@ -101,7 +101,7 @@ module _ {d : ℕ} {t : List ℕ} {at p a i m : ℕ} (n : (d ≡ 0) → ⊥) (h 
         let o : deep (d - 1) (listAt t i) ≡ 0 = ap (deep (d - 1)) (list-end t i z) ∙ deep-none (d - 1) in
         omega (arith, component-levels d (valueAt t at) n, v, o, s .deepest)
 
-    pub subs-whole : {f : ℕ} → tagAt t e ≡ tagEnd → After t e f → Nests t at d (Component f (m + 1))
+    pub subs-whole : {f : ℕ} → tagAt t e ≡ tagEnd → After t e f → ComponentAt t at d (Component f (m + 1))
     subs-whole {f} w u =
         let l : Along t (at + 1) p = record { is = h .inside; low = h .low; high = h .high } in
         let y : After t at (at + 1) = after-on t at (on-tape t at (λ k. omega (arith, h .array))) in
@@ -123,8 +123,8 @@ unfolding isCalendar
 calendar-not t d e h = rw (← e, h)
 
 -- what an answer tells
-module _ (t : List ℕ) (i d : ℕ) (r : Nested) (c : Nests t i d r) where
-  pub nested : {e n : ℕ} → r ≡ Component e n → Nests t i d (Component e n)
+module _ (t : List ℕ) (i d : ℕ) (r : Nested) (c : ComponentAt t i d r) where
+  pub nested : {e n : ℕ} → r ≡ Component e n → ComponentAt t i d (Component e n)
   nested q = rw q at c
 
   pub nowhere : r ≡ Nothing → isComponent d (valueAt t i) ≡ false

@@ -18,16 +18,16 @@ use Rattle.tape.specs.Promise.{After, Next, TextAt}
 use Rattle.tape.specs.declared.Text.{Text}
 use Rattle.tape.proofs.Values.{string-some, no-string, no-object, no-elements, list-end, list-first, members-end, members-first, members-next}
 use Rattle.tape.proofs.Walks.{Along, along-start, along-next, along-end, object-some, elements-inside, next-inside}
-use Rattle.conversion_theory.specs.Skeleton.{isString, isListOf, isParameter, areParameters, isPropertyName}
+use Rattle.conversion_theory.specs.Skeleton.{isJsonString, isListOf, isParameter, areParameters, isPropertyName}
 use Rattle.ical_skeleton.proofs.Lists.{list-not}
 
 module _ (t : List ℕ) (i : ℕ) where
-  pub string-is : tagAt t i ≡ tagString → isString (valueAt t i) ≡ true
-  unfolding isString isSome
+  pub string-is : tagAt t i ≡ tagString → isJsonString (valueAt t i) ≡ true
+  unfolding isJsonString isSome
   string-is e = rw (string-some t i e)
 
-  pub string-not : ((tagAt t i ≡ tagString) → ⊥) → isString (valueAt t i) ≡ false
-  unfolding isString isSome
+  pub string-not : ((tagAt t i ≡ tagString) → ⊥) → isJsonString (valueAt t i) ≡ false
+  unfolding isJsonString isSome
   string-not n = rw (no-string t i n)
 
   -- a string that passes a test
@@ -78,13 +78,13 @@ module _ (t : List ℕ) (i : ℕ) where
 
     pub parameter-empty : tagAt t a ≡ tagEnd → isParameter (valueAt t i) ≡ false
     unfolding isParameter
-    parameter-empty z = rw (string-not t i n, none-inside z) (and-false-right (isListOf isString (valueAt t i)))
+    parameter-empty z = rw (string-not t i n, none-inside z) (and-false-right (isListOf isJsonString (valueAt t i)))
 
-    pub parameter-array : ((tagAt t a ≡ tagEnd) → ⊥) → isParameter (valueAt t i) ≡ isListOf isString (valueAt t i)
+    pub parameter-array : ((tagAt t a ≡ tagEnd) → ⊥) → isParameter (valueAt t i) ≡ isListOf isJsonString (valueAt t i)
     unfolding isParameter filled
     parameter-array z = rw (string-not t i n) (same? (tagAt t i) tagArray
         (λ q. rw (elements-inside x q, list-first t a z) (and-true-right _))
-        (λ q. rw (list-not isString t i (λ e. never (eq-eqb (tagAt t i) tagArray e) q))))
+        (λ q. rw (list-not isJsonString t i (λ e. never (eq-eqb (tagAt t i) tagArray e) q))))
 
 -- the parameters of the object at i
 module _ (t : List ℕ) (i : ℕ) where

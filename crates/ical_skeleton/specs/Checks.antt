@@ -41,9 +41,9 @@ Heads t i (Passed p) = Head t i p
 Heads t i Failed = (d : ℕ) → isComponent d (valueAt t i) ≡ false
 
 -- a component of n levels, d at most, which ends before e; or there is none
-abbrev pub Nests : List ℕ → ℕ → ℕ → Nested → Type 0
-Nests t i d (Component e n) = (isComponent d (valueAt t i) ≡ true) × (n ≡ levels (componentFrom d (valueAt t i))) × (n ≤ d) × Next t i e
-Nests t i d Nothing = isComponent d (valueAt t i) ≡ false
+abbrev pub ComponentAt : List ℕ → ℕ → ℕ → Nested → Type 0
+ComponentAt t i d (Component e n) = (isComponent d (valueAt t i) ≡ true) × (n ≡ levels (componentFrom d (valueAt t i))) × (n ≤ d) × Next t i e
+ComponentAt t i d Nothing = isComponent d (valueAt t i) ≡ false
 
 -- a calendar of n levels, or there is none
 abbrev pub Shapes : List ℕ → Shape → Type 0

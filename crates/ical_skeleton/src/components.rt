@@ -13,7 +13,7 @@ use tape::tag;
 use tape::text_at;
 ghost use mathlib.Core.Path.{_≡_};
 ghost use Prim.Native.Nat.{max};
-ghost use Rattle.ical_skeleton.specs.Checks.{Heads, Nests, Shapes};
+ghost use Rattle.ical_skeleton.specs.Checks.{Heads, ComponentAt, Shapes};
 
 fn larger(a: usize, b: usize) -> usize
     ensures { λ r. ⌜ r ≡ max a b ⌝ }
@@ -38,7 +38,7 @@ fn check_head(t: &[u8], at: usize) -> Checked
 
 // A component of at most `left` levels.
 fn check_component(t: &[u8], at: usize, left: usize) -> Nested
-    ensures { λ r. ⌜ Nests (now (t .entry)) at left r ⌝ }
+    ensures { λ r. ⌜ ComponentAt (now (t .entry)) at left r ⌝ }
 {
     if left == 0 {
         return Nested::Nothing;

@@ -14,7 +14,7 @@ ghost use Rattle.octets.specs.Optional.{holds};
 ghost use Rattle.octets.specs.Classes.{isLowerName};
 ghost use Rattle.json.specs.Tree.{string?, object?};
 ghost use Rattle.tape.specs.Decode.{valueAt};
-ghost use Rattle.conversion_theory.specs.Skeleton.{isString, isListOf, isParameter, areParameters, isPropertyName};
+ghost use Rattle.conversion_theory.specs.Skeleton.{isJsonString, isListOf, isParameter, areParameters, isPropertyName};
 ghost use Rattle.ical_skeleton.specs.Checks.{Checks};
 
 // A lowercase name.
@@ -57,7 +57,7 @@ pub fn check_property_name(t: &[u8], at: usize) -> Checked
 
 // An array of strings.
 fn check_strings(t: &[u8], at: usize) -> Checked
-    ensures { λ r. ⌜ Checks (now (t .entry)) at (isListOf isString (valueAt (now (t .entry)) at)) r ⌝ }
+    ensures { λ r. ⌜ Checks (now (t .entry)) at (isListOf isJsonString (valueAt (now (t .entry)) at)) r ⌝ }
 {
     if tag(t, at) != ARRAY {
         return Checked::Failed;

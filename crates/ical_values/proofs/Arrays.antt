@@ -23,8 +23,8 @@ use Rattle.tape.proofs.Values.{no-array, list-head, list-tail, list-end, list-f
 use Rattle.tape.proofs.Walks.{array-some, elements-inside}
 use Rattle.values.specs.Sorts.{Sort, dateTime, float, geo, period, status, text}
 use Rattle.values.specs.Write.{isLettered, isTwo, isTwoOrThree, isArray, valueIs, elementsText, periodText, valueText}
-use Rattle.ical_values.specs.Parts.{partsAre, partsText}
-use Rattle.ical_values.specs.Valued.{taken}
+use Rattle.ical_values.specs.Parts.{partsAre, fieldsText}
+use Rattle.ical_values.specs.Valued.{allTaken}
 
 -- the elements of an array
 module _ (p : List Json → Bool) (t : List ℕ) (i : ℕ) where
@@ -128,22 +128,22 @@ pub geo-is : (j : Json) → partsAre 3 float j ≡ valueIs geo j
 unfolding partsAre valueIs
 geo-is j = rw (fun-ext two-parts)
 
-pub geo-text : (j : Json) → partsText float j ≡ valueText geo j
-unfolding partsText valueText elementsText
+pub geo-text : (j : Json) → fieldsText float j ≡ valueText geo j
+unfolding fieldsText valueText elementsText
 geo-text j = refl
 
 pub status-is : (j : Json) → partsAre 4 text j ≡ valueIs status j
 unfolding partsAre valueIs
 status-is j = rw (fun-ext three-parts)
 
-pub status-text : (j : Json) → partsText text j ≡ valueText status j
-unfolding partsText valueText elementsText
+pub status-text : (j : Json) → fieldsText text j ≡ valueText status j
+unfolding fieldsText valueText elementsText
 status-text j = refl
 
 -- the parts at a place
 module _ (s : Sort) (t : List ℕ) (i : ℕ) {a : ℕ} (x : After t i a) (q : tagAt t i ≡ tagArray) where
-  pub parts-text : joined (code ";") (map (valueText s) (listAt t a)) ≡ partsText s (valueAt t i)
-  unfolding partsText
+  pub parts-text : joined (code ";") (map (valueText s) (listAt t a)) ≡ fieldsText s (valueAt t i)
+  unfolding fieldsText
   parts-text = rw (elements-inside x q)
 
 pub parts-there : (limit n : ℕ) (t : List ℕ) (a : ℕ) → n ≡ min limit (length (listAt t a)) → 2 ≤ n → (tagAt t a ≡ tagEnd) → ⊥
@@ -174,6 +174,6 @@ module _ (limit : ℕ) (s : Sort) where
         pub too-full : n ≡ limit → partsAre limit s (valueAt t i) ≡ false
         too-full e = too-many (omega arith)
 
-        pub parts-taken : 2 ≤ n → ((n ≡ limit) → ⊥) → partsAre limit s (valueAt t i) ≡ taken true (valueIs s) (listAt t a)
-        unfolding taken
+        pub parts-taken : 2 ≤ n → ((n ≡ limit) → ⊥) → partsAre limit s (valueAt t i) ≡ allTaken true (valueIs s) (listAt t a)
+        unfolding allTaken
         parts-taken h l = parts-are ∙ rw (lt-ltb 1 (length (listAt t a)) (omega arith), lt-ltb (length (listAt t a)) limit (omega arith))

@@ -33,5 +33,5 @@ simple utcOffset = true
 unfoldable pub partsAre : ℕ → Sort → Json → Bool
 partsAre limit s j = isArray (λ vs. ltb 1 (length vs) and ltb (length vs) limit and all (valueIs s) vs) j
 
-unfoldable pub partsText : Sort → Json → List ℕ
-partsText s j = joined (code ";") (map (valueText s) (elements j))
+unfoldable pub fieldsText : Sort → Json → List ℕ
+fieldsText s j = joined (code ";") (map (valueText s) (elements j))

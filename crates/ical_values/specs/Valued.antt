@@ -29,13 +29,13 @@ ValueAs sort t i f out (Wrote e q) = (valueIs sort (valueAt t i) ≡ true) × Fo
 ValueAs sort t i f out Invalid = (valueIs sort (valueAt t i) ≡ false) × FrontKept (f .pen) out
 
 -- values that all pass the test p; exactly one, but for `several`
-unfoldable pub taken : Bool → (Json → Bool) → List Json → Bool
-taken several p vs = (several or single vs) and all p vs
+unfoldable pub allTaken : Bool → (Json → Bool) → List Json → Bool
+allTaken several p vs = (several or single vs) and all p vs
 
 -- the values of the group at i as w writes them, with `sep` between them, and e is behind its end
 abbrev pub ListedAs : ℕ → Bool → (Json → Bool) → (Json → List ℕ) → List ℕ → ℕ → FoldPen → List ℕ → Valued → Type 0
-ListedAs sep several p w t i f out (Wrote e q) = (taken several p (listAt t i) ≡ true) × Folded f (joined sep (map w (listAt t i))) (folding out q) × Left t i e
-ListedAs sep several p w t i f out Invalid = (taken several p (listAt t i) ≡ false) × FrontKept (f .pen) out
+ListedAs sep several p w t i f out (Wrote e q) = (allTaken several p (listAt t i) ≡ true) × Folded f (joined sep (map w (listAt t i))) (folding out q) × Left t i e
+ListedAs sep several p w t i f out Invalid = (allTaken several p (listAt t i) ≡ false) × FrontKept (f .pen) out
 
 -- the values of the group at i, and e is behind its end; without room for a recurrence rule none are taken
 abbrev pub ValuedAs : Bool → Bool → Sort → List ℕ → ℕ → FoldPen → List ℕ → Valued → Type 0

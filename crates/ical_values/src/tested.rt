@@ -5,11 +5,11 @@ ghost use Rattle.octets.specs.Basics.{_and_};
 ghost use Rattle.content.specs.Folding.{folding};
 ghost use Rattle.tape.specs.Decode.{tagAt};
 ghost use Rattle.json.specs.Tape.{tagEnd};
-ghost use Rattle.values.specs.Sorts.{splits};
+ghost use Rattle.values.specs.Sorts.{sortSplits};
 ghost use Rattle.values.specs.Write.{valueIs, valueText};
 ghost use Rattle.values.specs.Coded.{sortSaid};
 ghost use Rattle.ical_recur.specs.Room.{hasRoom};
-ghost use Rattle.ical_values.specs.Parts.{simple, partsAre, partsText};
+ghost use Rattle.ical_values.specs.Parts.{simple, partsAre, fieldsText};
 ghost use Rattle.ical_values.specs.Valued.{ListedAs, ValuedAs};
 use crate::Valued;
 use crate::single::write_one;
@@ -60,7 +60,7 @@ fn write_some(
 // Writes the array that stands alone in the group at `at`: two values of the sort or more, but fewer than `limit`, with semicolons between them.
 fn write_parts(out: &mut [u8], p: Folder, t: &[u8], at: usize, sort: Sort, limit: usize) -> Valued
     requires { ⌜ simple (sortSaid sort) ≡ true ⌝ }
-    ensures { λ r. ⌜ ListedAs 44 false (partsAre limit (sortSaid sort)) (partsText (sortSaid sort)) (now (t .entry)) at (folding (now (out .entry)) p) (now (out .exit)) r ⌝ }
+    ensures { λ r. ⌜ ListedAs 44 false (partsAre limit (sortSaid sort)) (fieldsText (sortSaid sort)) (now (t .entry)) at (folding (now (out .entry)) p) (now (out .exit)) r ⌝ }
 {
     if tag(t, at) != ARRAY {
         return Valued::Invalid;
@@ -85,7 +85,7 @@ fn write_parts(out: &mut [u8], p: Folder, t: &[u8], at: usize, sort: Sort, limit
 
 // There may be several values, or none.
 fn may_be_several(many: bool, sort: Sort) -> bool
-    ensures { λ r. ⌜ r ≡ (many and splits (sortSaid sort)) ⌝ }
+    ensures { λ r. ⌜ r ≡ (many and sortSplits (sortSaid sort)) ⌝ }
 {
     if many { sort.splits() } else { false }
 }

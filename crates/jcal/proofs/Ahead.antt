@@ -11,8 +11,8 @@ use Rattle.octets.specs.Answers.{Answer, refused, accepted, then}
 use Rattle.octets.proofs.Cases.{never, both}
 use Rattle.content.specs.Line.{Line}
 use Rattle.conversion_theory.specs.Tree.{Property}
-use Rattle.conversion_theory.specs.Structure.{Event, begins, ends, holds, stray}
-use Rattle.jcal.specs.Events.{eventsIn, LineAt, nameFrom, told, Tells}
+use Rattle.conversion_theory.specs.Structure.{Event, begins, ends, carries, stray}
+use Rattle.jcal.specs.Events.{eventsIn, LineAt, nameFrom, lineTold, TellsLine}
 use Rattle.jcal.specs.Order.{mayStand, endsHere, orderedFrom}
 use Rattle.jcal.specs.Walk.{isAccepted, reads, eventTested, eachTested, behindEnd, nextOf, levelAt, subsText}
 use Rattle.jcal.specs.Walked.{ready, Behind, SubNext, EndNext}
@@ -36,7 +36,7 @@ module _ (f : Line → Answer Property) where
   next-subs [] = rw (level-ends f [] [], level-none f 0)
   next-subs (begins n ∷ es) = refl
   next-subs (ends n ∷ es) = rw (level-ends f [] es, level-ends f n es)
-  next-subs (holds l ∷ es) = rw (level-holds f l es) (next-subs es)
+  next-subs (carries l ∷ es) = rw (level-holds f l es) (next-subs es)
   next-subs (stray ∷ es) = rw (level-stray f 0 es) (next-subs es)
 
   pub next-text : (first : Bool) (es : List (Event Line)) → subsText f first (nextOf es) ≡ subsText f first es
@@ -48,7 +48,7 @@ module _ (f : Line → Answer Property) where
   next-behind [] = refl
   next-behind (begins n ∷ es) = refl
   next-behind (ends n ∷ es) = refl
-  next-behind (holds l ∷ es) = next-behind es
+  next-behind (carries l ∷ es) = next-behind es
   next-behind (stray ∷ es) = next-behind es
 
   pub ready-next : (b k : Bool) (es : List (Event Line)) → ready f b k es ≡ true → ready f b true (nextOf es) ≡ true
@@ -57,8 +57,8 @@ module _ (f : Line → Answer Property) where
   ready-next false k [] h = refl
   ready-next b k (begins n ∷ es) h = h
   ready-next b k (ends n ∷ es) h = h
-  ready-next true k (holds l ∷ es) h = ready-next true false es (both (not k) (orderedFrom false es) h .1)
-  ready-next false k (holds l ∷ es) h = ready-next false k es (both (isAccepted (f l)) (all (reads f) es) h .1)
+  ready-next true k (carries l ∷ es) h = ready-next true false es (both (not k) (orderedFrom false es) h .1)
+  ready-next false k (carries l ∷ es) h = ready-next false k es (both (isAccepted (f l)) (all (reads f) es) h .1)
   ready-next b k (stray ∷ es) h = ready-next b k es h
 
   pub ready-behind : (b k : Bool) (es : List (Event Line)) → ready f b k es ≡ true → ready f b true (behindEnd 0 es) ≡ true
@@ -72,39 +72,39 @@ module _ (f : Line → Answer Property) where
   next-tested b [] h = sym (turn-passed f (ends []) [] refl)
   next-tested b (begins n ∷ es) h = refl
   next-tested b (ends n ∷ es) h = turn-passed f (ends n) es refl ∙ sym (turn-passed f (ends []) es refl)
-  next-tested true (holds l ∷ es) h = never h refl
-  next-tested false (holds l ∷ es) h =
+  next-tested true (carries l ∷ es) h = never h refl
+  next-tested false (carries l ∷ es) h =
       let a = both (isAccepted (f l)) (all (reads f) es) h in
-      turn-passed f (holds l) es (accepts-tested (f l) (a .0)) ∙ next-tested false es (a .1)
+      turn-passed f (carries l) es (accepts-tested (f l) (a .0)) ∙ next-tested false es (a .1)
   next-tested b (stray ∷ es) h = turn-passed f stray es refl ∙ next-tested b es h
 
 -- the walk to the END of a component, with `within` components open in it, and to what stands next
 module _ (s : List ℕ) (from i : ℕ) (low : from ≤ i) where
   module _ (within : ℕ) (g : behindEnd within (eventsIn (drop i s)) ≡ behindEnd 0 (eventsIn (drop from s))) where
     module _ (e : ℕ) (h : LineAt s i e) where
-      over : (k : Kind) → Tells s i e k → behindEnd within (told s i k ∷ eventsIn (drop (e + 1) s)) ≡ behindEnd 0 (eventsIn (drop from s))
+      over : (k : Kind) → TellsLine s i e k → behindEnd within (lineTold s i k ∷ eventsIn (drop (e + 1) s)) ≡ behindEnd 0 (eventsIn (drop from s))
       over k t = sym (ap (behindEnd within) (events-told s i e k h t)) ∙ g
 
-      pub over-opens : (n : ℕ) → Tells s i e (Opens n) → behindEnd (within + 1) (eventsIn (drop (e + 1) s)) ≡ behindEnd 0 (eventsIn (drop from s))
-      unfolding told behindEnd
+      pub over-opens : (n : ℕ) → TellsLine s i e (Opens n) → behindEnd (within + 1) (eventsIn (drop (e + 1) s)) ≡ behindEnd 0 (eventsIn (drop from s))
+      unfolding lineTold behindEnd
       over-opens n t = rw (add-one within) (over (Opens n) t)
 
-      pub over-closes : (n : ℕ) → Tells s i e (Closes n) → (within ≡ 0 → ⊥) → behindEnd (within - 1) (eventsIn (drop (e + 1) s)) ≡ behindEnd 0 (eventsIn (drop from s))
-      unfolding told behindEnd
+      pub over-closes : (n : ℕ) → TellsLine s i e (Closes n) → (within ≡ 0 → ⊥) → behindEnd (within - 1) (eventsIn (drop (e + 1) s)) ≡ behindEnd 0 (eventsIn (drop from s))
+      unfolding lineTold behindEnd
       over-closes n t z =
           let k : suc (within - 1) ≡ within = omega arith in
           ap (λ (w : ℕ). behindEnd w (ends (nameFrom s n) ∷ eventsIn (drop (e + 1) s))) k ∙ over (Closes n) t
 
-      pub over-end : (n : ℕ) → Tells s i e (Closes n) → within ≡ 0 → Behind s from (e + 1)
-      unfolding told behindEnd
+      pub over-end : (n : ℕ) → TellsLine s i e (Closes n) → within ≡ 0 → Behind s from (e + 1)
+      unfolding lineTold behindEnd
       over-end n t z = record { rest = rw z at (over (Closes n) t); further = omega (arith, h .ends) }
 
-      pub over-plain : Tells s i e Plain → behindEnd within (eventsIn (drop (e + 1) s)) ≡ behindEnd 0 (eventsIn (drop from s))
-      unfolding told behindEnd
+      pub over-plain : TellsLine s i e Plain → behindEnd within (eventsIn (drop (e + 1) s)) ≡ behindEnd 0 (eventsIn (drop from s))
+      unfolding lineTold behindEnd
       over-plain t = over Plain t
 
-      pub over-broken : Tells s i e Broken → behindEnd within (eventsIn (drop (e + 1) s)) ≡ behindEnd 0 (eventsIn (drop from s))
-      unfolding told behindEnd
+      pub over-broken : TellsLine s i e Broken → behindEnd within (eventsIn (drop (e + 1) s)) ≡ behindEnd 0 (eventsIn (drop from s))
+      unfolding lineTold behindEnd
       over-broken t = over Broken t
 
     pub over-none : length s ≤ i → Behind s from i
@@ -113,23 +113,23 @@ module _ (s : List ℕ) (from i : ℕ) (low : from ≤ i) where
 
   module _ (g : nextOf (eventsIn (drop i s)) ≡ nextOf (eventsIn (drop from s))) where
     module _ (e : ℕ) (h : LineAt s i e) where
-      upto : (k : Kind) → Tells s i e k → nextOf (told s i k ∷ eventsIn (drop (e + 1) s)) ≡ nextOf (eventsIn (drop from s))
+      upto : (k : Kind) → TellsLine s i e k → nextOf (lineTold s i k ∷ eventsIn (drop (e + 1) s)) ≡ nextOf (eventsIn (drop from s))
       upto k t = sym (ap nextOf (events-told s i e k h t)) ∙ g
 
-      pub next-plain : Tells s i e Plain → nextOf (eventsIn (drop (e + 1) s)) ≡ nextOf (eventsIn (drop from s))
-      unfolding told nextOf
+      pub next-plain : TellsLine s i e Plain → nextOf (eventsIn (drop (e + 1) s)) ≡ nextOf (eventsIn (drop from s))
+      unfolding lineTold nextOf
       next-plain t = upto Plain t
 
-      pub next-broken : Tells s i e Broken → nextOf (eventsIn (drop (e + 1) s)) ≡ nextOf (eventsIn (drop from s))
-      unfolding told nextOf
+      pub next-broken : TellsLine s i e Broken → nextOf (eventsIn (drop (e + 1) s)) ≡ nextOf (eventsIn (drop from s))
+      unfolding lineTold nextOf
       next-broken t = upto Broken t
 
-      pub next-opens : (n : ℕ) → Tells s i e (Opens n) → SubNext s from (eventsIn (drop from s)) n e
-      unfolding told nextOf
+      pub next-opens : (n : ℕ) → TellsLine s i e (Opens n) → SubNext s from (eventsIn (drop from s)) n e
+      unfolding lineTold nextOf
       next-opens n t = record { is = upto (Opens n) t; named = name-of s i e h (Opens n) t; further = omega (arith, h .ends) }
 
-      pub next-closes : (n : ℕ) → Tells s i e (Closes n) → EndNext s from (eventsIn (drop from s)) (e + 1)
-      unfolding told nextOf
+      pub next-closes : (n : ℕ) → TellsLine s i e (Closes n) → EndNext s from (eventsIn (drop from s)) (e + 1)
+      unfolding lineTold nextOf
       next-closes n t = record { is = upto (Closes n) t; further = omega (arith, h .ends) }
 
     pub next-none : length s ≤ i → EndNext s from (eventsIn (drop from s)) i

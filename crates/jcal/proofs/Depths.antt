@@ -14,7 +14,7 @@ use Rattle.octets.specs.Answers.{Answer}
 use Rattle.octets.proofs.Limits.{most-levels}
 use Rattle.content.specs.Line.{Line}
 use Rattle.conversion_theory.specs.Tree.{Property, levels, levelsIn}
-use Rattle.conversion_theory.specs.Structure.{Event, begins, ends, holds, stray, Nest, fresh, closed, inside, fault, left, nest, nestAfter}
+use Rattle.conversion_theory.specs.Structure.{Event, begins, ends, carries, stray, Nest, fresh, closed, inside, fault, left, nest, nestAfter}
 use Rattle.jcal.specs.Walk.{behindEnd, levelAt, componentAt}
 use Rattle.jcal.proofs.Levels.{level-ends, level-left, level-holds, level-passed, level-begins, level-entered}
 
@@ -32,7 +32,7 @@ unfolding nestAfter nest
 fault-stays k [] = refl
 fault-stays k (begins n ∷ es) = fault-stays k es
 fault-stays k (ends n ∷ es) = fault-stays k es
-fault-stays k (holds l ∷ es) = fault-stays k es
+fault-stays k (carries l ∷ es) = fault-stays k es
 fault-stays k (stray ∷ es) = fault-stays k es
 
 -- a fault on the way is none that closes
@@ -78,8 +78,8 @@ module _ (f : Line → Answer Property) where
   within-levels (ends x ∷ es) n [] h d (suc j) m z e = absurd (omega arith)
   within-levels (ends x ∷ es) n (y ∷ ns) h d (suc j) m z e = picked-not (same x n) 5 (left (y ∷ ns)) es h (λ t g.
       rw (level-left f j x es) (within-levels es y ns g (omega arith) j m z (omega arith)))
-  within-levels (holds l ∷ es) n ns h d zero m z e = rw (level-holds f l es) (within-levels es n ns h d zero m z e)
-  within-levels (holds l ∷ es) n ns h d (suc j) m z e = rw (level-passed f j l es) (within-levels es n ns h d (suc j) m z e)
+  within-levels (carries l ∷ es) n ns h d zero m z e = rw (level-holds f l es) (within-levels es n ns h d zero m z e)
+  within-levels (carries l ∷ es) n ns h d (suc j) m z e = rw (level-passed f j l es) (within-levels es n ns h d (suc j) m z e)
   within-levels (stray ∷ es) n ns h d j m z e = faulty 5 es h
 
 -- nothing stands behind the END of the outermost component
@@ -88,7 +88,7 @@ unfolding nestAfter nest
 closed-none [] h = refl
 closed-none (begins n ∷ es) h = faulty 5 es h
 closed-none (ends n ∷ es) h = faulty 5 es h
-closed-none (holds l ∷ es) h = faulty 5 es h
+closed-none (carries l ∷ es) h = faulty 5 es h
 closed-none (stray ∷ es) h = faulty 5 es h
 
 closed-behind : (es : List (Event Line)) (n : List ℕ) (ns : List (List ℕ)) → nestAfter (inside n ns) es ≡ closed → behindEnd (length ns) es ≡ []
@@ -97,7 +97,7 @@ closed-behind [] n ns h = refl
 closed-behind (begins x ∷ es) n ns h = picked (leb mostLevels (suc (length ns))) 6 (inside x (n ∷ ns)) es h (λ t g. closed-behind es x (n ∷ ns) g)
 closed-behind (ends x ∷ es) n [] h = picked-not (same x n) 5 (left []) es h (λ t g. closed-none es g)
 closed-behind (ends x ∷ es) n (y ∷ ns) h = picked-not (same x n) 5 (left (y ∷ ns)) es h (λ t g. closed-behind es y ns g)
-closed-behind (holds l ∷ es) n ns h = closed-behind es n ns h
+closed-behind (carries l ∷ es) n ns h = closed-behind es n ns h
 closed-behind (stray ∷ es) n ns h = faulty 5 es h
 
 -- lines that pass 5 and 6 begin with a component, which has at most the levels allowed, and are its lines alone
@@ -115,5 +115,5 @@ passes f (begins n ∷ es) h = picked-not (same n (octets "vcalendar")) 5 (insid
     let a = within-levels f es n [] g (rw most-levels (omega arith)) 0 1 (omega arith) refl in
     record { name = n; body = es; begun = refl; few = omega (arith, a); alone = closed-behind es n [] g })
 passes f (ends n ∷ es) h = faulty 5 es h
-passes f (holds l ∷ es) h = faulty 5 es h
+passes f (carries l ∷ es) h = faulty 5 es h
 passes f (stray ∷ es) h = faulty 5 es h

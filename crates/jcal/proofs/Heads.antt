@@ -17,7 +17,7 @@ use Rattle.octets.proofs.Positions.{here, ended}
 use Rattle.octets.proofs.Classes.{name-is, name-length, name-upper, upper-octet-other}
 use Rattle.content.specs.Line.{quoteAfter, bare, before, behind, pieces, paramOf, headed, lineOf}
 use Rattle.content.specs.Scan.{untilBare}
-use Rattle.content.specs.Parts.{others}
+use Rattle.content.specs.Parts.{otherPieces}
 use Rattle.content.proofs.Scanning.{bare-le, bare-take, bare-stop}
 use Rattle.content.proofs.Separators.{oneOf, skips, pieces-first}
 use Rattle.conversion_theory.specs.Structure.{bounds}
@@ -38,7 +38,7 @@ name-head : (l : List ℕ) → (lineOf l) .name ≡ head l
 unfolding lineOf headed
 name-head l = rw (skips (code ";") (code ":") false l .parts)
 
-params-head : (l : List ℕ) → (lineOf l) .params ≡ map paramOf (others (pieces (code ";") false (before (code ":") false (drop (length (head l)) l))))
+params-head : (l : List ℕ) → (lineOf l) .params ≡ map paramOf (otherPieces (pieces (code ";") false (before (code ":") false (drop (length (head l)) l))))
 unfolding lineOf headed
 params-head l = rw (skips (code ";") (code ":") false l .parts)
 
@@ -55,11 +55,11 @@ module _ (l : List ℕ) (n : ℕ) (h : length ((lineOf l) .name) ≡ n) where
   head-stops k = bare-stop (oneOf (code ";") (code ":")) l 0 n (sym head-length ∙ sym (zero-add (length (head l)))) k
 
   pub bounds-colon : n < length l → getD l n 0 ≡ code ":" → bounds (lineOf l) ≡ isName (drop (n + 1) l)
-  unfolding bounds filled before behind bare pieces others
+  unfolding bounds filled before behind bare pieces otherPieces
   bounds-colon k e = rw (params-head l, value-head l, head-length, here l n k, e)
 
-  semicolon-params : (s : List ℕ) → filled (map paramOf (others (pieces (code ";") false (before (code ":") false (code ";" ∷ s))))) ≡ true
-  unfolding filled before bare quoteAfter pieces cut others
+  semicolon-params : (s : List ℕ) → filled (map paramOf (otherPieces (pieces (code ";") false (before (code ":") false (code ";" ∷ s))))) ≡ true
+  unfolding filled before bare quoteAfter pieces cut otherPieces
   semicolon-params s = rw (pieces-first (code ";") false (before (code ":") false s))
 
   pub bounds-semicolon : n < length l → (getD l n 0 ≡ code ":" → ⊥) → bounds (lineOf l) ≡ false
@@ -70,7 +70,7 @@ module _ (l : List ℕ) (n : ℕ) (h : length ((lineOf l) .name) ≡ n) where
       (λ e. absurd (d (eqb-true (getD l n 0) (code ":") e)))
 
   pub bounds-none : length l ≤ n → bounds (lineOf l) ≡ false
-  unfolding bounds filled before behind bare pieces others isName
+  unfolding bounds filled before behind bare pieces otherPieces isName
   bounds-none k = rw (params-head l, value-head l, head-length, ended l n k)
 
 -- name octets are passed

@@ -13,10 +13,10 @@ use Rattle.json.specs.Tree.{Json, Items, noItems, item, itemsOf}
 use Rattle.json.specs.Print.{print, firstItem, moreItems}
 use Rattle.content.specs.Line.{Line}
 use Rattle.conversion_theory.specs.Tree.{Property, leaf, grow, levels, levelsIn}
-use Rattle.conversion_theory.specs.Structure.{Event, begins, ends, holds, stray}
+use Rattle.conversion_theory.specs.Structure.{Event, begins, ends, carries, stray}
 use Rattle.conversion_theory.specs.Growth.{behindEvent, eachProperty, Level, level, innermost, around, withProperty, withComponent, levelsFrom, outermost, treeOf}
 use Rattle.conversion_theory.specs.Jcal.{propertyJson, jcalOf, jcalsOf}
-use Rattle.jcal.specs.Walk.{propertyOr, isAccepted, readEvent, reads, behindEnd, outward, levelAt, componentAt, comma, listed, propertiesText, subsText, nameText}
+use Rattle.jcal.specs.Walk.{propertyOr, isAccepted, readEvent, reads, behindEnd, outward, levelAt, componentAt, comma, itemsRest, propertiesText, subsText, nameText}
 
 outward-none : (k : ℕ) → outward k [] ≡ []
 unfolding outward around
@@ -40,11 +40,11 @@ module _ (f : Line → Answer Property) where
   unfolding levelAt readEvent levelsFrom outward around
   level-left k n es = refl
 
-  pub level-holds : (l : Line) (es : List (Event Line)) → levelAt f 0 (holds l ∷ es) ≡ level (propertyOr (f l) ∷ (levelAt f 0 es) .properties) ((levelAt f 0 es) .subs)
+  pub level-holds : (l : Line) (es : List (Event Line)) → levelAt f 0 (carries l ∷ es) ≡ level (propertyOr (f l) ∷ (levelAt f 0 es) .properties) ((levelAt f 0 es) .subs)
   unfolding levelAt readEvent levelsFrom withProperty outward innermost
   level-holds l es = refl
 
-  pub level-passed : (k : ℕ) (l : Line) (es : List (Event Line)) → levelAt f (suc k) (holds l ∷ es) ≡ levelAt f (suc k) es
+  pub level-passed : (k : ℕ) (l : Line) (es : List (Event Line)) → levelAt f (suc k) (carries l ∷ es) ≡ levelAt f (suc k) es
   unfolding levelAt readEvent levelsFrom withProperty outward around
   level-passed k l es = refl
 
@@ -63,7 +63,7 @@ module _ (f : Line → Answer Property) where
   level-behind k (begins n ∷ es) = level-entered k n es ∙ level-behind (suc k) es
   level-behind zero (ends n ∷ es) = level-left 0 n es
   level-behind (suc k) (ends n ∷ es) = level-left (suc k) n es ∙ level-behind k es
-  level-behind k (holds l ∷ es) = level-passed k l es ∙ level-behind k es
+  level-behind k (carries l ∷ es) = level-passed k l es ∙ level-behind k es
   level-behind k (stray ∷ es) = level-stray (suc k) es ∙ level-behind k es
 
   -- the levels of a sub-component, and of what stands behind it
@@ -83,7 +83,7 @@ module _ (f : Line → Answer Property) where
   behind-within k (begins n ∷ es) = behind-within (suc k) es
   behind-within zero (ends n ∷ es) = refl
   behind-within (suc k) (ends n ∷ es) = behind-within k es
-  behind-within k (holds l ∷ es) = behind-within k es
+  behind-within k (carries l ∷ es) = behind-within k es
   behind-within k (stray ∷ es) = behind-within k es
 
   -- properties that are accepted stay so
@@ -93,17 +93,17 @@ module _ (f : Line → Answer Property) where
   reads-behind k (begins n ∷ es) h = reads-behind (suc k) es h
   reads-behind zero (ends n ∷ es) h = h
   reads-behind (suc k) (ends n ∷ es) h = reads-behind k es h
-  reads-behind k (holds l ∷ es) h = reads-behind k es (both (isAccepted (f l)) (all (reads f) es) h .1)
+  reads-behind k (carries l ∷ es) h = reads-behind k es (both (isAccepted (f l)) (all (reads f) es) h .1)
   reads-behind k (stray ∷ es) h = reads-behind k es h
 
 -- items one by one
-pub listed-none : (first : Bool) → listed first noItems ≡ octets "]"
-unfolding listed firstItem moreItems
+pub listed-none : (first : Bool) → itemsRest first noItems ≡ octets "]"
+unfolding itemsRest firstItem moreItems
 listed-none true = refl
 listed-none false = refl
 
-listed-item : (first : Bool) (j : Json) (js : Items) → listed first (item j js) ≡ comma first ++ (print j ++ listed false js)
-unfolding listed comma firstItem moreItems
+listed-item : (first : Bool) (j : Json) (js : Items) → itemsRest first (item j js) ≡ comma first ++ (print j ++ itemsRest false js)
+unfolding itemsRest comma firstItem moreItems
 listed-item true j js = refl
 listed-item false j js = refl
 
@@ -126,7 +126,7 @@ module _ (f : Line → Answer Property) (first : Bool) where
   properties-begins n es = rw (level-begins f n es, level-behind f 0 es)
 
   pub properties-holds : (l : Line) (es : List (Event Line))
-      → propertiesText f first (holds l ∷ es) ≡ comma first ++ (print (propertyJson (propertyOr (f l))) ++ propertiesText f false es)
+      → propertiesText f first (carries l ∷ es) ≡ comma first ++ (print (propertyJson (propertyOr (f l))) ++ propertiesText f false es)
   unfolding propertiesText itemsOf
   properties-holds l es = rw (level-holds f l es) (listed-item first _ _)
 
@@ -143,7 +143,7 @@ module _ (f : Line → Answer Property) (first : Bool) where
 -- the text of a component: its name, its properties, its sub-components
 pub component-text : (f : Line → Answer Property) (n : List ℕ) (es : List (Event Line))
     → print (jcalOf (componentAt f n es)) ≡ (nameText n ++ (propertiesText f true es ++ octets ",[")) ++ (subsText f true es ++ octets "]")
-unfolding componentAt jcalOf print firstItem moreItems nameText propertiesText subsText listed
+unfolding componentAt jcalOf print firstItem moreItems nameText propertiesText subsText itemsRest
 component-text f n es = simp append-assoc
 
 -- an answer that is accepted
@@ -173,7 +173,7 @@ module _ (f : Line → Answer Property) where
   grown (ends n ∷ es) ps h = behind-accepted (ends n) (eachProperty f es) ps h (λ qs q e.
       let g = grown es qs q in
       record { levels = rw (← e) (ap (λ (ls : List Level). level [] leaf ∷ ls) (g .levels)); accepts = g .accepts })
-  grown (holds l ∷ es) ps h = then-accepted (f l) (λ b. behindEvent (holds b) (eachProperty f es)) ps h (λ b r m. behind-accepted (holds b) (eachProperty f es) ps m (λ qs q e.
+  grown (carries l ∷ es) ps h = then-accepted (f l) (λ b. behindEvent (carries b) (eachProperty f es)) ps h (λ b r m. behind-accepted (carries b) (eachProperty f es) ps m (λ qs q e.
       let g = grown es qs q in
       record { levels = rw (← e, r) (ap (withProperty b) (g .levels)); accepts = rw r (g .accepts) }))
   grown (stray ∷ es) ps h = let g = grown es ps h in record { levels = g .levels; accepts = g .accepts }

@@ -10,9 +10,9 @@ use Rattle.octets.proofs.Cases.{never, both, and-assoc, and-true-right}
 use Rattle.json.specs.Tree.{itemsOf}
 use Rattle.content.specs.Line.{Line}
 use Rattle.conversion_theory.specs.Tree.{Property}
-use Rattle.conversion_theory.specs.Structure.{Event, begins, ends, holds, stray}
-use Rattle.jcal.specs.Events.{eventsIn, LineAt, told, Tells}
-use Rattle.jcal.specs.Order.{mayStand, endsHere, orderedFrom, Keeps, Ends}
+use Rattle.conversion_theory.specs.Structure.{Event, begins, ends, carries, stray}
+use Rattle.jcal.specs.Events.{eventsIn, LineAt, lineTold, TellsLine}
+use Rattle.jcal.specs.Order.{mayStand, endsHere, orderedFrom, OrderKept, EndTold}
 use Rattle.jcal.specs.declared.events.Kind.{Kind}
 use Rattle.jcal.specs.Walk.{behindEnd, levelAt, propertiesText}
 use Rattle.jcal.proofs.Stacks.{events-none, events-told}
@@ -24,7 +24,7 @@ ordered-behind b k [] h = refl
 ordered-behind b k (begins n ∷ es) h = ordered-behind false (suc k) es h
 ordered-behind b zero (ends n ∷ es) h = h
 ordered-behind b (suc k) (ends n ∷ es) h = ordered-behind true k es h
-ordered-behind b k (holds l ∷ es) h = ordered-behind false k es (both (not b) (orderedFrom false es) h .1)
+ordered-behind b k (carries l ∷ es) h = ordered-behind false k es (both (not b) (orderedFrom false es) h .1)
 ordered-behind b k (stray ∷ es) h = ordered-behind b k es h
 
 -- directly behind an END line, or in a component within
@@ -41,8 +41,8 @@ module _ (f : Line → Answer Property) where
   none-left zero b (ends n ∷ es) l h = rw (level-ends f n es)
   none-left (suc zero) b (ends n ∷ es) l h = rw (level-left f 0 n es) (none-left 0 true es refl h)
   none-left (suc (suc k)) b (ends n ∷ es) l h = rw (level-left f (suc k) n es) (none-left (suc k) true es tt h)
-  none-left zero b (holds a ∷ es) l h = never (both (not b) (orderedFrom false es) h .0) (rw l)
-  none-left (suc k) b (holds a ∷ es) l h = rw (level-passed f k a es) (none-left (suc k) false es tt (both (not b) (orderedFrom false es) h .1))
+  none-left zero b (carries a ∷ es) l h = never (both (not b) (orderedFrom false es) h .0) (rw l)
+  none-left (suc k) b (carries a ∷ es) l h = rw (level-passed f k a es) (none-left (suc k) false es tt (both (not b) (orderedFrom false es) h .1))
   none-left k b (stray ∷ es) l h = rw (level-stray f k es) (none-left k b es l h)
 
   -- the first sub-component ends the properties
@@ -52,10 +52,10 @@ module _ (f : Line → Answer Property) where
 
 -- one line more, and none
 module _ (s : List ℕ) (i : ℕ) (kept behind : Bool) where
-  pub order-on : (e : ℕ) (k : Kind) (still ended : Bool) → LineAt s i e → Tells s i e k → Keeps kept behind k still → Ends behind k ended
+  pub order-on : (e : ℕ) (k : Kind) (still ended : Bool) → LineAt s i e → TellsLine s i e k → OrderKept kept behind k still → EndTold behind k ended
       → (kept and orderedFrom behind (eventsIn (drop i s))) ≡ (still and orderedFrom ended (eventsIn (drop (e + 1) s)))
   unfolding orderedFrom
-  order-on e k still ended h t x y = rw (events-told s i e k h t, x s i, y s i) (sym (and-assoc kept (mayStand behind (told s i k)) _))
+  order-on e k still ended h t x y = rw (events-told s i e k h t, x s i, y s i) (sym (and-assoc kept (mayStand behind (lineTold s i k)) _))
 
   pub order-end : length s ≤ i → (kept and orderedFrom behind (eventsIn (drop i s))) ≡ kept
   unfolding orderedFrom

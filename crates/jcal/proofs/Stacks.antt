@@ -23,9 +23,9 @@ use Rattle.content.specs.Buffer.{isLf}
 use Rattle.content.proofs.Scanning.{scan-is}
 use Rattle.content.proofs.Buffer.{line-here, lines-none}
 use Rattle.content.proofs.Walking.{same-lower}
-use Rattle.conversion_theory.specs.Structure.{Event, begins, ends, holds, stray, fresh, closed, inside, fault, left, nest, nestAfter, verdict}
-use Rattle.jcal.specs.Events.{eventAt, eventsIn, lineFrom, LineAt, nameFrom, told, Named, Tells}
-use Rattle.jcal.specs.Nesting.{stack, inner, nestOf, aroundOf, NestsBehind, paired, Judged}
+use Rattle.conversion_theory.specs.Structure.{Event, begins, ends, carries, stray, fresh, closed, inside, fault, left, nest, nestAfter, verdict}
+use Rattle.jcal.specs.Events.{eventAt, eventsIn, lineFrom, LineAt, nameFrom, lineTold, Named, TellsLine}
+use Rattle.jcal.specs.Nesting.{stack, inner, nestOf, aroundOf, NestsBehind, pairing, Judged}
 use Rattle.jcal.specs.declared.events.Kind.{Kind}
 use Rattle.jcal.specs.declared.events.Kind.the-variants.{Opens, Closes, Plain, Broken}
 use Rattle.jcal.specs.declared.nesting.Nesting.{Nesting}
@@ -81,7 +81,7 @@ Else Broken = Unit {0}
 -- what a line makes of the open components
 module _ (s xs : List ℕ) (room : length xs ≡ mostLevels) where
   pub first-else : (k : Kind) → Else k → NestsBehind s xs fresh k (Wrong NotPaired)
-  unfolding nestOf nest told
+  unfolding nestOf nest lineTold
   first-else (Opens n) f i = absurd f
   first-else (Closes n) f i = record { is = refl; few = few 0 (omega arith); room = room }
   first-else Plain f i = record { is = refl; few = few 0 (omega arith); room = room }
@@ -93,17 +93,17 @@ module _ (s xs : List ℕ) (room : length xs ≡ mostLevels) where
     vcalendar-is b q = ap (λ (n : List ℕ). same n (octets "vcalendar")) (sym (name-part s at e (t .ends))) ∙ sym (same-lower (take (e - at) (drop at s)) (octets "VCALENDAR")) ∙ q
 
     pub first-opens : sameName (take (e - at) (drop at s)) (octets "VCALENDAR") ≡ true → NestsBehind s (set xs 0 at) fresh (Opens at) (Within 0)
-    unfolding nestOf inner stack nest told
+    unfolding nestOf inner stack nest lineTold
     first-opens q i =
         record { is = rw (vcalendar-is true q, getD-set-same xs 0 at 0 (omega (arith, most-levels))); few = few 0 (omega arith); room = rw length-set room }
 
     pub first-other : sameName (take (e - at) (drop at s)) (octets "VCALENDAR") ≡ false → NestsBehind s xs fresh (Opens at) (Wrong NotPaired)
-    unfolding nestOf nest told
+    unfolding nestOf nest lineTold
     first-other q i = record { is = rw (vcalendar-is false q); few = few 0 (omega arith); room = room }
 
   module _ (at d : ℕ) where
-    opens-on : (i : ℕ) → leb mostLevels (suc (length (stack s xs d))) ≡ false → nest (inner s xs d) (told s i (Opens at)) ≡ inside (nameFrom s at) (nameFrom s (getD xs d 0) ∷ stack s xs d)
-    unfolding inner nest told
+    opens-on : (i : ℕ) → leb mostLevels (suc (length (stack s xs d))) ≡ false → nest (inner s xs d) (lineTold s i (Opens at)) ≡ inside (nameFrom s at) (nameFrom s (getD xs d 0) ∷ stack s xs d)
+    unfolding inner nest lineTold
     opens-on i m = rw m
 
     pub inner-opens : d + 1 < 8 → NestsBehind s (set xs (d + 1) at) (inner s xs d) (Opens at) (Within (d + 1))
@@ -113,7 +113,7 @@ module _ (s xs : List ℕ) (room : length xs ≡ mostLevels) where
         record { is = inner-set s xs d at (omega (arith, most-levels)) ∙ sym (opens-on i m); few = few (d + 1) h; room = rw length-set room }
 
     pub inner-deep : 8 ≤ d + 1 → NestsBehind s xs (inner s xs d) (Opens at) (Wrong TooDeep)
-    unfolding nestOf inner nest told
+    unfolding nestOf inner nest lineTold
     inner-deep h i =
         let m : leb mostLevels (suc (length (stack s xs d))) ≡ true = rw (stack-length s xs d, most-levels) (le-leb 8 (suc d) (omega arith)) in
         record { is = rw m; few = few 0 (omega arith); room = room }
@@ -123,12 +123,12 @@ module _ (s xs : List ℕ) (room : length xs ≡ mostLevels) where
     closes-is b q = ap (λ (n : List ℕ). same n (nameFrom s (getD xs d 0))) (sym (name-part s at e (t .ends))) ∙ q
 
     pub inner-other : same (lower (take (e - at) (drop at s))) (nameFrom s (getD xs d 0)) ≡ false → NestsBehind s xs (inner s xs d) (Closes at) (Wrong NotPaired)
-    unfolding nestOf inner nest told
+    unfolding nestOf inner nest lineTold
     inner-other q i = record { is = rw (closes-is false q); few = few 0 (omega arith); room = room }
 
     module _ (q : same (lower (take (e - at) (drop at s))) (nameFrom s (getD xs d 0)) ≡ true) where
       pub inner-last : d ≡ 0 → NestsBehind s xs (inner s xs d) (Closes at) Complete
-      unfolding nestOf inner nest told
+      unfolding nestOf inner nest lineTold
       inner-last z i = record { is = rw (closes-is true q, z) (unfold left stack in refl); few = few 0 (omega arith); room = room }
 
       left-at : (k : ℕ) → d ≡ suc k → left (stack s xs d) ≡ inner s xs k
@@ -136,15 +136,15 @@ module _ (s xs : List ℕ) (room : length xs ≡ mostLevels) where
       left-at k z = rw z
 
       pub inner-closes : (d ≡ 0 → ⊥) → d < mostLevels → NestsBehind s xs (inner s xs d) (Closes at) (Within (d - 1))
-      unfolding nestOf nest told
+      unfolding nestOf nest lineTold
       inner-closes z h i = record { is = unfold inner in (sym (rw (closes-is true q) (left-at (d - 1) (omega arith)))); few = omega (arith, h); room = room }
 
   pub inner-plain : (d : ℕ) → d < mostLevels → NestsBehind s xs (inner s xs d) Plain (Within d)
-  unfolding nestOf inner nest told
+  unfolding nestOf inner nest lineTold
   inner-plain d h i = record { is = refl; few = h; room = room }
 
   pub inner-broken : (d : ℕ) → NestsBehind s xs (inner s xs d) Broken (Wrong NotPaired)
-  unfolding nestOf inner nest told
+  unfolding nestOf inner nest lineTold
   inner-broken d i = record { is = refl; few = few 0 (omega arith); room = room }
 
 -- behind the outermost component, and behind a fault
@@ -152,23 +152,23 @@ nest-closed : (e : Event Line) → nest closed e ≡ fault 5
 unfolding nest
 nest-closed (begins m) = refl
 nest-closed (ends m) = refl
-nest-closed (holds a) = refl
+nest-closed (carries a) = refl
 nest-closed stray = refl
 
 nest-fault : (k : ℕ) (e : Event Line) → nest (fault k) e ≡ fault k
 unfolding nest
 nest-fault k (begins m) = refl
 nest-fault k (ends m) = refl
-nest-fault k (holds a) = refl
+nest-fault k (carries a) = refl
 nest-fault k stray = refl
 
 pub complete-on : (s xs : List ℕ) → length xs ≡ mostLevels → (k : Kind) → NestsBehind s xs (nestOf s xs Complete) k (Wrong NotPaired)
 unfolding nestOf
-complete-on s xs room k i = record { is = sym (nest-closed (told s i k)); few = few 0 (omega arith); room = room }
+complete-on s xs room k i = record { is = sym (nest-closed (lineTold s i k)); few = few 0 (omega arith); room = room }
 
 pub wrong-on : (s xs : List ℕ) → length xs ≡ mostLevels → (r : Refusal) (k : Kind) → NestsBehind s xs (nestOf s xs (Wrong r)) k (Wrong r)
 unfolding nestOf
-wrong-on s xs room r k i = record { is = sym (nest-fault (number r) (told s i k)); few = few 0 (omega arith); room = room }
+wrong-on s xs room r k i = record { is = sym (nest-fault (number r) (lineTold s i k)); few = few 0 (omega arith); room = room }
 
 -- the events from a line on
 pub events-here : (s : List ℕ) (i e : ℕ) → LineAt s i e → eventsIn (drop i s) ≡ eventAt (lineFrom s i) ∷ eventsIn (drop (e + 1) s)
@@ -180,11 +180,11 @@ unfolding eventsIn
 events-none s i h = rw (lines-none s i h)
 
 -- the events at a line of which is told
-pub events-told : (s : List ℕ) (i e : ℕ) (k : Kind) → LineAt s i e → Tells s i e k → eventsIn (drop i s) ≡ told s i k ∷ eventsIn (drop (e + 1) s)
+pub events-told : (s : List ℕ) (i e : ℕ) (k : Kind) → LineAt s i e → TellsLine s i e k → eventsIn (drop i s) ≡ lineTold s i k ∷ eventsIn (drop (e + 1) s)
 events-told s i e k h t = rw (t .is) (events-here s i e h)
 
 -- one line more
-pub nests-on : (s xs ys : List ℕ) (i e : ℕ) (t u : Nesting) (k : Kind) → LineAt s i e → Tells s i e k → NestsBehind s ys (nestOf s xs t) k u
+pub nests-on : (s xs ys : List ℕ) (i e : ℕ) (t u : Nesting) (k : Kind) → LineAt s i e → TellsLine s i e k → NestsBehind s ys (nestOf s xs t) k u
     → nestAfter (nestOf s xs t) (eventsIn (drop i s)) ≡ nestAfter (nestOf s ys u) (eventsIn (drop (e + 1) s))
 unfolding nestAfter
 nests-on s xs ys i e t u k h l n = rw (events-told s i e k h l, n i .is)
@@ -196,19 +196,19 @@ nests-end s xs i t h = rw (events-none s i h)
 -- the answer behind the last line
 module _ (b : Bool) where
   pub judged-unbegun : Judged Unbegun b (Failed NotPaired)
-  unfolding paired nestOf verdict
+  unfolding pairing nestOf verdict
   judged-unbegun s xs = refl
 
   pub judged-within : (d : ℕ) → Judged (Within d) b (Failed NotPaired)
-  unfolding paired nestOf inner verdict
+  unfolding pairing nestOf inner verdict
   judged-within d s xs = refl
 
   pub judged-complete : Judged Complete b (Paired b)
-  unfolding paired nestOf verdict
+  unfolding pairing nestOf verdict
   judged-complete s xs = refl
 
   pub judged-wrong : (r : Refusal) → Judged (Wrong r) b (Failed r)
-  unfolding paired nestOf verdict
+  unfolding pairing nestOf verdict
   judged-wrong r s xs = refl
 
 -- a nesting under another name

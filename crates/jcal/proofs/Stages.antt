@@ -25,24 +25,24 @@ use Rattle.types.proofs.Reading.{Read-table, rows-written, rows-refused}
 use Rattle.content.specs.Line.{Line, lineOf}
 use Rattle.content.specs.Lines.{linesOf, laidOut}
 use Rattle.content.specs.Form.{formed}
-use Rattle.content.specs.Buffer.{linesIn}
+use Rattle.content.specs.Buffer.{bufferLines}
 use Rattle.content.specs.Reading.{tested, linesTold, LaidWithin, ReadLines}
 use Rattle.content.specs.declared.reading.Lines.{Lines}
 use Rattle.content.specs.declared.reading.Lines.the-variants.{Laid, NotClean, NotFormed, NoRoom}
 use Rattle.content.proofs.Unfolding.{laid-short}
 use Rattle.conversion_theory.specs.Tree.{Property, Component, levels}
-use Rattle.conversion_theory.specs.Structure.{Event, begins, ends, holds, stray, Nest, fresh, closed, inside, fault, nestAfter, verdict, structured}
+use Rattle.conversion_theory.specs.Structure.{Event, begins, ends, carries, stray, Nest, fresh, closed, inside, fault, nestAfter, verdict, structured}
 use Rattle.conversion_theory.specs.Growth.{behindEvent, eachProperty, treeOf}
 use Rattle.conversion_theory.specs.Jcal.{jcalOf}
 use Rattle.conversion_theory.specs.Property.{readProperty}
 use Rattle.conversion_theory.specs.ToJcal.{readLinesBy, readLines, reading, toJcal}
-use Rattle.jcal.specs.Events.{eventsIn, lineFrom, LineAt, nameFrom, told, Tells}
+use Rattle.jcal.specs.Events.{eventsIn, lineFrom, LineAt, nameFrom, lineTold, TellsLine}
 use Rattle.jcal.specs.Walk.{isAccepted, reads, eventTested, eachTested, behindEnd, nextOf, componentAt}
-use Rattle.jcal.specs.Walked.{ready, placeOf, Stands}
+use Rattle.jcal.specs.Walked.{ready, placeOf, PartWritten}
 use Rattle.jcal.specs.declared.components.Next.{Next}
 use Rattle.jcal.specs.Order.{mayStand, endsHere, orderedFrom, ordered}
 use Rattle.jcal.specs.Stages.{propertiesJcal, eventsJcal, linesJcal}
-use Rattle.jcal.specs.Nesting.{paired}
+use Rattle.jcal.specs.Nesting.{pairing}
 use Rattle.jcal.specs.declared.nesting.Structure.{Structure}
 use Rattle.jcal.specs.declared.nesting.Structure.the-variants.{Paired, Failed}
 use Rattle.jcal.specs.declared.events.Kind.the-variants.{Opens, Closes, Plain, Broken}
@@ -109,13 +109,13 @@ verdict-closed (inside m ms) a b e = not-accepted (sym e)
 verdict-closed (fault k) a b e = not-accepted (sym e)
 
 -- what a returned `Structure` says, where it is known which
-pub structure-passed : {r : Structure} {b : Bool} (es : List (Event Line)) → paired r ≡ verdict (nestAfter fresh es) (ordered es) → r ≡ Paired b → (nestAfter fresh es ≡ closed) × (b ≡ ordered es)
-unfolding paired
+pub structure-passed : {r : Structure} {b : Bool} (es : List (Event Line)) → pairing r ≡ verdict (nestAfter fresh es) (ordered es) → r ≡ Paired b → (nestAfter fresh es ≡ closed) × (b ≡ ordered es)
+unfolding pairing
 structure-passed {r} {b} es e q = verdict-closed (nestAfter fresh es) (ordered es) b (rw q at e)
 
 module _ (f : Line → Answer Property) (es : List (Event Line)) where
-  pub structure-failed : {r : Structure} {w : Refusal} → paired r ≡ verdict (nestAfter fresh es) (ordered es) → r ≡ Failed w → refused (number w) ≡ eventsJcal f es
-  unfolding eventsJcal structured paired
+  pub structure-failed : {r : Structure} {w : Refusal} → pairing r ≡ verdict (nestAfter fresh es) (ordered es) → r ≡ Failed w → refused (number w) ≡ eventsJcal f es
+  unfolding eventsJcal structured pairing
   structure-failed {r} {w} e q = verdict-refused (nestAfter fresh es) (ordered es) es (propertiesJcal f) (number w) (rw q at e)
 
   pub pairs : nestAfter fresh es ≡ closed → propertiesJcal f es ≡ eventsJcal f es
@@ -166,10 +166,10 @@ module _ (f : Line → Answer Property) where
     pub lines-roomless : r ≡ NoRoom → refused 10 ≡ linesJcal f (linesOf text)
     lines-roomless q = lines-failed 10 (unfold linesTold in rw q)
 
-    lines-accepted : (n : ℕ) → linesTold after r ≡ accepted (linesIn (take n after)) → eventsJcal f (eventsIn (take (n - 0) (drop 0 after))) ≡ linesJcal f (linesOf text)
+    lines-accepted : (n : ℕ) → linesTold after r ≡ accepted (bufferLines (take n after)) → eventsJcal f (eventsIn (take (n - 0) (drop 0 after))) ≡ linesJcal f (linesOf text)
     unfolding linesJcal readLinesBy tested eventsJcal eventsIn
     lines-accepted n e =
-        let t = tested-accepted (all clean (linesOf text)) (all formed (linesOf text)) (linesOf text) (linesIn (take n after)) _ (λ c. accepted (print (jcalOf c))) (sym e ∙ told-tested) in
+        let t = tested-accepted (all clean (linesOf text)) (all formed (linesOf text)) (linesOf text) (bufferLines (take n after)) _ (λ c. accepted (print (jcalOf c))) (sym e ∙ told-tested) in
         sym (t .1 ∙ events-tree _ ∙ rw (upto after n, t .0))
 
     pub lines-laid : (n : ℕ) → r ≡ Laid n → eventsJcal f (eventsIn (take (n - 0) (drop 0 after))) ≡ linesJcal f (linesOf text)
@@ -210,7 +210,7 @@ not-fresh {ℓ} : {P : Type ℓ} → _≡_ {A = Nest} fresh closed → P
 not-fresh e = let z : _≡_ {A = ℕ} 0 1 = cc in absurd (omega arith)
 
 pub some-line : (s : List ℕ) → nestAfter fresh (eventsIn s) ≡ closed → 0 < length s
-unfolding eventsIn linesIn nestAfter
+unfolding eventsIn bufferLines nestAfter
 some-line [] h = not-fresh h
 some-line (c ∷ s) h = omega arith
 
@@ -223,16 +223,16 @@ module _ (s : List ℕ) (e : ℕ) (h : LineAt s 0 e) (p : nestAfter fresh (event
       let b : v ≡ begins (g .name) = cc in
       k (g .name) b
 
-  pub closes-first {ℓ} : {P : Type ℓ} (n : ℕ) → Tells s 0 e (Closes n) → P
-  unfolding told
+  pub closes-first {ℓ} : {P : Type ℓ} (n : ℕ) → TellsLine s 0 e (Closes n) → P
+  unfolding lineTold
   closes-first n t = other-first (ends (nameFrom s n)) (events-told s 0 e (Closes n) h t) (λ m q. let z : _≡_ {A = ℕ} 0 1 = cc in absurd (omega arith))
 
-  pub plain-first {ℓ} : {P : Type ℓ} → Tells s 0 e Plain → P
-  unfolding told
-  plain-first t = other-first (holds (lineOf (lineFrom s 0))) (events-told s 0 e Plain h t) (λ m q. let z : _≡_ {A = ℕ} 0 1 = cc in absurd (omega arith))
+  pub plain-first {ℓ} : {P : Type ℓ} → TellsLine s 0 e Plain → P
+  unfolding lineTold
+  plain-first t = other-first (carries (lineOf (lineFrom s 0))) (events-told s 0 e Plain h t) (λ m q. let z : _≡_ {A = ℕ} 0 1 = cc in absurd (omega arith))
 
-  pub broken-first {ℓ} : {P : Type ℓ} → Tells s 0 e Broken → P
-  unfolding told
+  pub broken-first {ℓ} : {P : Type ℓ} → TellsLine s 0 e Broken → P
+  unfolding lineTold
   broken-first t = other-first stray (events-told s 0 e Broken h t) (λ m q. let z : _≡_ {A = ℕ} 0 1 = cc in absurd (omega arith))
 
 module _ (f : Line → Answer Property) (s : List ℕ) (e : ℕ) (h : LineAt s 0 e) (p : nestAfter fresh (eventsIn s) ≡ closed) where
@@ -242,9 +242,9 @@ module _ (f : Line → Answer Property) (s : List ℕ) (e : ℕ) (h : LineAt s 0
   begun : Passes f (eventsIn s)
   begun = passes f (eventsIn s) p
 
-  module _ (n : ℕ) (t : Tells s 0 e (Opens n)) where
+  module _ (n : ℕ) (t : TellsLine s 0 e (Opens n)) where
     first-opens : eventsIn s ≡ begins (nameFrom s n) ∷ next
-    unfolding told
+    unfolding lineTold
     first-opens = events-told s 0 e (Opens n) h t
 
     pub calendar-few : levels (componentAt f (nameFrom s n) next) ≤ mostLevels
@@ -280,6 +280,6 @@ module _ (f : Line → Answer Property) (s : List ℕ) (e : ℕ) (h : LineAt s 0
         let a : eachTested f (nextOf (behindEnd 0 next)) ≡ accepted tt = ap (λ (es : List (Event Line)). eachTested f (nextOf es)) calendar-alone ∙ (unfold nextOf eachProperty behindEvent then in refl) in
         calendar-grows (properties-passed f (eventsIn s) (sym (calendar-tested ∙ r ∙ a)))
 
-    pub calendar-placed : (o out : List ℕ) (r : Next) → Stands f s (e + 1) next (behindEnd 0 next) (pen o 0) (print (jcalOf (componentAt f (nameFrom s n) next))) out r
+    pub calendar-placed : (o out : List ℕ) (r : Next) → PartWritten f s (e + 1) next (behindEnd 0 next) (pen o 0) (print (jcalOf (componentAt f (nameFrom s n) next))) out r
         → finished (placeOf r) out ≡ answer (propertiesJcal f (eventsIn s)) o
     calendar-placed o out r z = finished-answer o (print (jcalOf (componentAt f (nameFrom s n) next))) out (placeOf r) (z .wrote) ∙ ap (λ (a : Answer (List ℕ)). answer a o) (calendar-text (z .tested))

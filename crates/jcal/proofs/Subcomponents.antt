@@ -17,7 +17,7 @@ use Rattle.conversion_theory.specs.Jcal.{jcalOf}
 use Rattle.jcal.specs.Events.{eventsIn, nameFrom, Named}
 use Rattle.jcal.specs.Order.{mayStand, endsHere, orderedFrom}
 use Rattle.jcal.specs.Walk.{reads, eventTested, eachTested, behindEnd, nextOf, levelAt, componentAt, comma, propertiesText, subsText, nameText}
-use Rattle.jcal.specs.Walked.{ready, Finds, placeOf, Found, Stands, Places}
+use Rattle.jcal.specs.Walked.{ready, Finds, placeOf, Found, PartWritten, PartPlaced}
 use Rattle.jcal.specs.declared.components.Next.{Next}
 use Rattle.jcal.specs.declared.components.Next.the-variants.{Sub, End, Refused}
 use Rattle.jcal.proofs.Levels.{few-opens, behind-within, subs-ends, subs-begins, component-text}
@@ -31,7 +31,7 @@ Told (Sub n e at) = Unit {0}
 Told (End j at) = Unit {0}
 Told (Refused why) = ⊥
 
-wrote-told : (f : Line → Answer Property) (s : List ℕ) (i : ℕ) (es fs : List (Event Line)) (p : Pen) (text out : List ℕ) (r : Next) → Told r → Places f s i es fs p text out r
+wrote-told : (f : Line → Answer Property) (s : List ℕ) (i : ℕ) (es fs : List (Event Line)) (p : Pen) (text out : List ℕ) (r : Next) → Told r → PartPlaced f s i es fs p text out r
     → Wrote p text (pen out (placeOf r))
 wrote-told f s i es fs p text out (Sub n e at) k z = z .wrote
 wrote-told f s i es fs p text out (End j at) k z = z .wrote
@@ -80,12 +80,12 @@ module _ (f : Line → Answer Property) (s : List ℕ) (from : ℕ) (b : Bool) (
 
 -- the first one
 module _ (f : Line → Answer Property) (s : List ℕ) (from : ℕ) (b : Bool) (es : List (Event Line)) (left : ℕ) (n : List ℕ) (p : Pen) (text out : List ℕ) where
-  start-stands : (r : Next) → Told r → Stands f s from es es p text out r → ready f b false es ≡ true → levels (componentAt f n es) ≤ left → Going f s from b es r out left true out r
+  start-stands : (r : Next) → Told r → PartWritten f s from es es p text out r → ready f b false es ≡ true → levels (componentAt f n es) ≤ left → Going f s from b es r out left true out r
   unfolding levels componentAt
   start-stands r t z h k =
       going-next f s from b es r out left from es true out r (omega arith) (z .finds) (subs-next f s from b es r out left true false es (pen out (placeOf r)) t leads-start refl (z .tested) h k)
 
-  pub going-start : (r : Next) → Places f s from es es p text out r → ready f b false es ≡ true → levels (componentAt f n es) ≤ left → Going f s from b es r out left true out r
+  pub going-start : (r : Next) → PartPlaced f s from es es p text out r → ready f b false es ≡ true → levels (componentAt f n es) ≤ left → Going f s from b es r out left true out r
   going-start (Sub m e at) z h k = start-stands (Sub m e at) tt z h k
   going-start (End j at) z h k = start-stands (End j at) tt z h k
   going-start (Refused why) z h k = z
@@ -124,26 +124,26 @@ module _ (f : Line → Answer Property) (s : List ℕ) (from : ℕ) (b : Bool) (
     unfolding eventTested
     sub-tested = g .2 .tested ∙ turn-passed f (begins (nameFrom s n)) next refl
 
-    sub-stands : (m : Pen) (o : List ℕ) (r : Next) → Wrote (pen out at) (comma first) m → Stands f s (e + 1) next (behindEnd 0 next) m (print (jcalOf sub)) o r
+    sub-stands : (m : Pen) (o : List ℕ) (r : Next) → Wrote (pen out at) (comma first) m → PartWritten f s (e + 1) next (behindEnd 0 next) m (print (jcalOf sub)) o r
         → Going f s from b es r₀ out₀ left false o r
     sub-stands m o r w z =
         going-next f s from b es r₀ out₀ left (e + 1) (behindEnd 0 next) false o r (omega (arith, g .1)) (z .finds)
         (subs-next f s from b es r₀ out₀ left false true (behindEnd 0 next) (pen o (placeOf r)) (g .2 .begun) (leads-on (leads-on (g .2 .leads) w sub-text) (z .wrote) refl) sub-behind (sub-tested ∙ z .tested) (ready-behind f b false next sub-ready) (sub-levels .2))
 
-    pub sub-less : (m : Pen) (o : List ℕ) (r : Next) → Places f s (e + 1) next (behindEnd 0 next) m (print (jcalOf sub)) o r → behindIt s r < suc (length s - e)
+    pub sub-less : (m : Pen) (o : List ℕ) (r : Next) → PartPlaced f s (e + 1) next (behindEnd 0 next) m (print (jcalOf sub)) o r → behindIt s r < suc (length s - e)
     sub-less m o (Sub k j a) z = omega (arith, z .finds .named .high, z .finds .further)
     sub-less m o (End j a) z = omega arith
     sub-less m o (Refused why) z = omega arith
 
-    pub sub-goes : (m : Pen) (o : List ℕ) (r : Next) → Wrote (pen out at) (comma first) m → Places f s (e + 1) next (behindEnd 0 next) m (print (jcalOf sub)) o r
+    pub sub-goes : (m : Pen) (o : List ℕ) (r : Next) → Wrote (pen out at) (comma first) m → PartPlaced f s (e + 1) next (behindEnd 0 next) m (print (jcalOf sub)) o r
         → Going f s from b es r₀ out₀ left false o r
     sub-goes m o (Sub k j a) w z = sub-stands m o (Sub k j a) w z
     sub-goes m o (End j a) w z = sub-stands m o (End j a) w z
     sub-goes m o (Refused why) w z = sub-tested ∙ z
 
   -- the END of the component
-  pub sub-ends : (j at : ℕ) → Going f s from b es r₀ out₀ left first out (End j at) → (n : List ℕ) (p m : Pen) → Wrote p (nameText n) m → Places f s from es es m (propertiesText f true es ++ octets ",[") out₀ r₀
-      → (o : List ℕ) (a : ℕ) → Wrote (pen out at) (octets "]]") (pen o a) → (r : Next) → Found s j a r → Places f s from es (behindEnd 0 es) p (print (jcalOf (componentAt f n es))) o r
+  pub sub-ends : (j at : ℕ) → Going f s from b es r₀ out₀ left first out (End j at) → (n : List ℕ) (p m : Pen) → Wrote p (nameText n) m → PartPlaced f s from es es m (propertiesText f true es ++ octets ",[") out₀ r₀
+      → (o : List ℕ) (a : ℕ) → Wrote (pen out at) (octets "]]") (pen o a) → (r : Next) → Found s j a r → PartPlaced f s from es (behindEnd 0 es) p (print (jcalOf (componentAt f n es))) o r
   unfolding ready orderedFrom mayStand endsHere all reads eventTested behindEnd
   sub-ends j at g n p m v w o a x r z =
       let rest = eventsIn (drop j s) in

@@ -13,7 +13,7 @@ use Rattle.content.specs.Scan.{until}
 use Rattle.content.specs.Buffer.{isLf}
 use Rattle.content.proofs.Scanning.{scan-is, scan-high}
 use Rattle.conversion_theory.specs.Structure.{bounds, eventOf}
-use Rattle.jcal.specs.Events.{lineFrom, LineAt, nameFrom, told, NameOf, Tells}
+use Rattle.jcal.specs.Events.{lineFrom, LineAt, nameFrom, lineTold, NameOf, TellsLine}
 use Rattle.jcal.specs.declared.events.Kind.{Kind}
 use Rattle.jcal.specs.declared.events.Kind.the-variants.{Opens, Closes, Plain, Broken}
 use Rattle.jcal.proofs.Heads.{alike-length, Bound, bound-at}
@@ -31,7 +31,7 @@ until-drop stop (suc v) [] h = refl
 until-drop stop (suc v) (c ∷ s) h = rest-by stop (stop c) v c s (until-drop stop v s) h
 
 -- a kind under another name
-pub told-as : {s : List ℕ} {i e : ℕ} {k m : Kind} → Tells s i e k → k ≡ m → Tells s i e m
+pub told-as : {s : List ℕ} {i e : ℕ} {k m : Kind} → TellsLine s i e k → k ≡ m → TellsLine s i e m
 told-as t q = rw q at t
 
 module _ (s : List ℕ) (i e : ℕ) (h : LineAt s i e) where
@@ -43,7 +43,7 @@ module _ (s : List ℕ) (i e : ℕ) (h : LineAt s i e) where
   line-high = scan-high isLf s i e (h .ends) (omega (arith, h .within))
 
   -- the name in a line of which is told
-  pub name-of : (k : Kind) → Tells s i e k → NameOf s e k
+  pub name-of : (k : Kind) → TellsLine s i e k → NameOf s e k
   name-of (Opens n) t = record { low = t .within; high = line-high; ends = t .ends }
   name-of (Closes n) t = record { low = t .within; high = line-high; ends = t .ends }
   name-of Plain t = tt
@@ -81,8 +81,8 @@ module _ (s : List ℕ) (i e : ℕ) (h : LineAt s i e) where
   bound-of : (w : List ℕ) → named w ≡ true → bound ≡ true → Bound (lineFrom s i) (length w)
   bound-of w q b = bound-at (lineFrom s i) (length w) (alike-length _ _ (named-is w true q)) (bound-is true b)
 
-  pub tells-opens : named (octets "BEGIN") ≡ true → bound ≡ true → Tells s i e (Opens (i + 6))
-  unfolding told nameFrom eventOf
+  pub tells-opens : named (octets "BEGIN") ≡ true → bound ≡ true → TellsLine s i e (Opens (i + 6))
+  unfolding lineTold nameFrom eventOf
   tells-opens q b =
       let k = bound-of (octets "BEGIN") q b in
       record {
@@ -91,13 +91,13 @@ module _ (s : List ℕ) (i e : ℕ) (h : LineAt s i e) where
         ends = rest-ends 5 k;
       }
 
-  pub tells-broken : named (octets "BEGIN") ≡ true → bound ≡ false → Tells s i e Broken
-  unfolding told eventOf
+  pub tells-broken : named (octets "BEGIN") ≡ true → bound ≡ false → TellsLine s i e Broken
+  unfolding lineTold eventOf
   tells-broken q b = record { is = rw (named-is (octets "BEGIN") true q, bound-is false b); within = omega (arith, h .ends); ends = h .ends }
 
   module _ (n : named (octets "BEGIN") ≡ false) where
-    pub tells-closes : named (octets "END") ≡ true → bound ≡ true → Tells s i e (Closes (i + 4))
-    unfolding told nameFrom eventOf
+    pub tells-closes : named (octets "END") ≡ true → bound ≡ true → TellsLine s i e (Closes (i + 4))
+    unfolding lineTold nameFrom eventOf
     tells-closes q b =
         let k = bound-of (octets "END") q b in
         record {
@@ -106,11 +106,11 @@ module _ (s : List ℕ) (i e : ℕ) (h : LineAt s i e) where
           ends = rest-ends 3 k;
         }
 
-    pub tells-broken-end : named (octets "END") ≡ true → bound ≡ false → Tells s i e Broken
-    unfolding told eventOf
+    pub tells-broken-end : named (octets "END") ≡ true → bound ≡ false → TellsLine s i e Broken
+    unfolding lineTold eventOf
     tells-broken-end q b =
         record { is = rw (named-is (octets "BEGIN") false n, named-is (octets "END") true q, bound-is false b); within = omega (arith, h .ends); ends = h .ends }
 
-    pub tells-plain : named (octets "END") ≡ false → Tells s i e Plain
-    unfolding told eventOf
+    pub tells-plain : named (octets "END") ≡ false → TellsLine s i e Plain
+    unfolding lineTold eventOf
     tells-plain q = record { is = rw (named-is (octets "BEGIN") false n, named-is (octets "END") false q); within = omega (arith, h .ends); ends = h .ends }

@@ -7,23 +7,23 @@ use Rattle.octets.specs.Answers.{Answer, refused, accepted, then, number}
 use Rattle.octets.specs.declared.Refusal.{Refusal}
 use Rattle.content.specs.Line.{Line, lineOf}
 use Rattle.conversion_theory.specs.Tree.{Property}
-use Rattle.conversion_theory.specs.Structure.{Event, begins, ends, holds, stray}
+use Rattle.conversion_theory.specs.Structure.{Event, begins, ends, carries, stray}
 use Rattle.conversion_theory.specs.Growth.{behindEvent, eachProperty}
-use Rattle.jcal_properties.specs.Passed.{passed}
+use Rattle.jcal_properties.specs.Passed.{testSaid}
 use Rattle.jcal_properties.specs.declared.Tested.{Tested}
 use Rattle.jcal_properties.specs.declared.Tested.the-variants.{Passed, Failed}
-use Rattle.jcal.specs.Events.{eventAt, eventsIn, lineFrom, LineAt, told, Tells}
+use Rattle.jcal.specs.Events.{eventAt, eventsIn, lineFrom, LineAt, lineTold, TellsLine}
 use Rattle.jcal.specs.Walk.{eventTested, eachTested}
 use Rattle.jcal.specs.declared.events.Kind.the-variants.{Opens, Closes, Plain, Broken}
 use Rattle.jcal.proofs.Stacks.{events-here, events-none}
 
 -- what a returned `Tested` says, where it is known which
-pub passed-as : {r : Tested} {a : Answer (Unit {0})} → passed r ≡ a → r ≡ Passed → accepted tt ≡ a
-unfolding passed
+pub passed-as : {r : Tested} {a : Answer (Unit {0})} → testSaid r ≡ a → r ≡ Passed → accepted tt ≡ a
+unfolding testSaid
 passed-as e q = rw q at e
 
-pub failed-as : {r : Tested} {w : Refusal} {a : Answer (Unit {0})} → passed r ≡ a → r ≡ Failed w → refused (number w) ≡ a
-unfolding passed
+pub failed-as : {r : Tested} {w : Refusal} {a : Answer (Unit {0})} → testSaid r ≡ a → r ≡ Failed w → refused (number w) ≡ a
+unfolding testSaid
 failed-as e q = rw q at e
 
 behind-tested : (e : Event Property) (a : Answer (List (Event Property))) → then (behindEvent e a) (λ _. accepted (tt {0})) ≡ then a (λ _. accepted tt)
@@ -32,16 +32,16 @@ behind-tested e (refused n) = refl
 behind-tested e (accepted es) = refl
 
 module _ (f : Line → Answer Property) where
-  holds-tested : (a : Answer Property) (es : List (Event Line)) → then (then a (λ b. behindEvent (holds b) (eachProperty f es))) (λ _. accepted tt) ≡ then (then a (λ _. accepted (tt {0}))) (λ _. eachTested f es)
+  holds-tested : (a : Answer Property) (es : List (Event Line)) → then (then a (λ b. behindEvent (carries b) (eachProperty f es))) (λ _. accepted tt) ≡ then (then a (λ _. accepted (tt {0}))) (λ _. eachTested f es)
   unfolding then
   holds-tested (refused n) es = refl
-  holds-tested (accepted b) es = behind-tested (holds b) (eachProperty f es)
+  holds-tested (accepted b) es = behind-tested (carries b) (eachProperty f es)
 
   turn : (e : Event Line) (es : List (Event Line)) → eachTested f (e ∷ es) ≡ then (eventTested f e) (λ _. eachTested f es)
   unfolding eachProperty eventTested
   turn (begins n) es = behind-tested (begins n) (eachProperty f es) ∙ (unfold then in refl)
   turn (ends n) es = behind-tested (ends n) (eachProperty f es) ∙ (unfold then in refl)
-  turn (holds l) es = holds-tested (f l) es
+  turn (carries l) es = holds-tested (f l) es
   turn stray es = unfold then in refl
 
   -- an event that passes, and one that fails
@@ -65,18 +65,18 @@ module _ (f : Line → Answer Property) where
 
 -- the test of a line of which is told
 module _ (f : Line → Answer Property) (s : List ℕ) (i e : ℕ) where
-  pub opens-tested : (n : ℕ) → Tells s i e (Opens n) → accepted tt ≡ eventTested f (eventAt (lineFrom s i))
-  unfolding told eventTested
+  pub opens-tested : (n : ℕ) → TellsLine s i e (Opens n) → accepted tt ≡ eventTested f (eventAt (lineFrom s i))
+  unfolding lineTold eventTested
   opens-tested n t = rw (← t .is)
 
-  pub closes-tested : (n : ℕ) → Tells s i e (Closes n) → accepted tt ≡ eventTested f (eventAt (lineFrom s i))
-  unfolding told eventTested
+  pub closes-tested : (n : ℕ) → TellsLine s i e (Closes n) → accepted tt ≡ eventTested f (eventAt (lineFrom s i))
+  unfolding lineTold eventTested
   closes-tested n t = rw (← t .is)
 
-  pub broken-tested : Tells s i e Broken → accepted tt ≡ eventTested f (eventAt (lineFrom s i))
-  unfolding told eventTested
+  pub broken-tested : TellsLine s i e Broken → accepted tt ≡ eventTested f (eventAt (lineFrom s i))
+  unfolding lineTold eventTested
   broken-tested t = rw (← t .is)
 
-  pub plain-tested : Tells s i e Plain → then (f (lineOf (lineFrom s i))) (λ _. accepted (tt {0})) ≡ eventTested f (eventAt (lineFrom s i))
-  unfolding told eventTested
+  pub plain-tested : TellsLine s i e Plain → then (f (lineOf (lineFrom s i))) (λ _. accepted (tt {0})) ≡ eventTested f (eventAt (lineFrom s i))
+  unfolding lineTold eventTested
   plain-tested t = rw (← t .is)

@@ -13,15 +13,15 @@ use Rattle.octets.proofs.Pen.{then as behind-it, Leads, leads-start, leads-on, 
 use Rattle.types.specs.Table.{Table}
 use Rattle.content.specs.Line.{Line, lineOf}
 use Rattle.conversion_theory.specs.Tree.{Property}
-use Rattle.conversion_theory.specs.Structure.{Event, begins, ends, holds, stray}
+use Rattle.conversion_theory.specs.Structure.{Event, begins, ends, carries, stray}
 use Rattle.conversion_theory.specs.Property.{readProperty}
 use Rattle.jcal_properties.specs.Placed.{Places as PlacesProperty}
 use Rattle.jcal_properties.specs.declared.Placed.{Placed}
 use Rattle.jcal_properties.specs.declared.Placed.the-variants.{At, Failed}
-use Rattle.jcal.specs.Events.{eventsIn, lineFrom, LineAt, nameFrom, told, Tells}
+use Rattle.jcal.specs.Events.{eventsIn, lineFrom, LineAt, nameFrom, lineTold, TellsLine}
 use Rattle.jcal.specs.Order.{mayStand, endsHere, orderedFrom}
 use Rattle.jcal.specs.Walk.{propertyOr, isAccepted, reads, eventTested, eachTested, nextOf, comma, propertiesText}
-use Rattle.jcal.specs.Walked.{ready, ItemStands, PlacesItem, Behind, EndNext, Finds, placeOf, Places}
+use Rattle.jcal.specs.Walked.{ready, ItemStands, PlacesItem, Behind, EndNext, Finds, placeOf, PartPlaced}
 use Rattle.jcal.specs.declared.components.Next.{Next}
 use Rattle.jcal.specs.declared.components.Next.the-variants.{Sub, End, Refused}
 use Rattle.jcal.specs.declared.events.Kind.{Kind}
@@ -47,7 +47,7 @@ finds-from s i j es fs (Refused why) l v z = z
 
 -- a part of a component is written, and what stands next is found
 pub places-found : (f : Line → Answer Property) (s : List ℕ) (i : ℕ) (es fs : List (Event Line)) (p : Pen) (text out : List ℕ) (r : Next)
-    → Finds s i fs r → Wrote p text (pen out (placeOf r)) → eachTested f es ≡ eachTested f (nextOf fs) → Places f s i es fs p text out r
+    → Finds s i fs r → Wrote p text (pen out (placeOf r)) → eachTested f es ≡ eachTested f (nextOf fs) → PartPlaced f s i es fs p text out r
 places-found f s i es fs p text out (Sub n e at) z w t = record { finds = z; wrote = w; tested = t }
 places-found f s i es fs p text out (End k at) z w t = record { finds = z; wrote = w; tested = t }
 places-found f s i es fs p text out (Refused why) z w t = absurd z
@@ -65,12 +65,12 @@ pub record Held (f : Line → Answer Property) (b : Bool) (es : List (Event Line
 pub held-start : (f : Line → Answer Property) (b : Bool) (es : List (Event Line)) (p : Pen) → ready f b false es ≡ true → Held f b es p es true p
 held-start f b es p h = record { leads = leads-start; whole = h; fit = h; passed = λ _. (refl, refl) }
 
-ready-held : (f : Line → Answer Property) (b : Bool) (l : Line) (fs : List (Event Line)) → ready f b false (holds l ∷ fs) ≡ true → ready f b false fs ≡ true
+ready-held : (f : Line → Answer Property) (b : Bool) (l : Line) (fs : List (Event Line)) → ready f b false (carries l ∷ fs) ≡ true → ready f b false fs ≡ true
 unfolding ready orderedFrom mayStand endsHere all reads
 ready-held f true l fs h = h
 ready-held f false l fs h = both (isAccepted (f l)) (all (reads f) fs) h .1
 
-ready-accepts : (f : Line → Answer Property) (l : Line) (fs : List (Event Line)) → ready f false false (holds l ∷ fs) ≡ true → isAccepted (f l) ≡ true
+ready-accepts : (f : Line → Answer Property) (l : Line) (fs : List (Event Line)) → ready f false false (carries l ∷ fs) ≡ true → isAccepted (f l) ≡ true
 unfolding ready all reads
 ready-accepts f l fs h = both (isAccepted (f l)) (all (reads f) fs) h .0
 
@@ -90,16 +90,16 @@ module _ (f : Line → Answer Property) (s : List ℕ) (from : ℕ) (b : Bool) (
     abbrev next : List (Event Line)
     next = eventsIn (drop (e + 1) s)
 
-    here : (k : Kind) → Tells s i e k → Held f b es p (told s i k ∷ next) first q
+    here : (k : Kind) → TellsLine s i e k → Held f b es p (lineTold s i k ∷ next) first q
     here k t = rw (events-told s i e k h t) at g
 
     -- a property
-    module _ (t : Tells s i e Plain) where
+    module _ (t : TellsLine s i e Plain) where
       abbrev line : Line
       line = lineOf (lineFrom s i)
 
-      holds-here : Held f b es p (holds line ∷ next) first q
-      unfolding told
+      holds-here : Held f b es p (carries line ∷ next) first q
+      unfolding lineTold
       holds-here = here Plain t
 
       pub held-item : (r : Pen) → ItemStands (f line) first q r → Held f b es p next false r
@@ -108,24 +108,24 @@ module _ (f : Line → Answer Property) (s : List ℕ) (from : ℕ) (b : Bool) (
         leads = leads-on (holds-here .leads) (w .wrote) (and-more (properties-holds f first line next) ∙ simp append-assoc);
         whole = g .whole;
         fit = ready-held f b line next (holds-here .fit);
-        passed = λ o. (holds-here .passed o .0, holds-here .passed o .1 ∙ turn-passed f (holds line) next (accepts-tested (f line) (w .accepts)));
+        passed = λ o. (holds-here .passed o .0, holds-here .passed o .1 ∙ turn-passed f (carries line) next (accepts-tested (f line) (w .accepts)));
       }
 
-      held-refused-by : (o : Bool) → Held f o es p (holds line ∷ next) first q → (n : ℕ) → f line ≡ refused n → eachTested f es ≡ refused n
+      held-refused-by : (o : Bool) → Held f o es p (carries line ∷ next) first q → (n : ℕ) → f line ≡ refused n → eachTested f es ≡ refused n
       unfolding eventTested then
-      held-refused-by true x n r = x .passed refl .1 ∙ turn-failed f (holds line) next n (rw r)
+      held-refused-by true x n r = x .passed refl .1 ∙ turn-failed f (carries line) next n (rw r)
       held-refused-by false x n r = not-refused (f line) n (ready-accepts f line next (x .fit)) r
 
       pub held-refused : (n : ℕ) → f line ≡ refused n → eachTested f es ≡ refused n
       held-refused n r = held-refused-by b holds-here n r
 
     -- a BEGIN
-    module _ (n : ℕ) (t : Tells s i e (Opens n)) where
+    module _ (n : ℕ) (t : TellsLine s i e (Opens n)) where
       begins-here : Held f b es p (begins (nameFrom s n) ∷ next) first q
-      unfolding told
+      unfolding lineTold
       begins-here = here (Opens n) t
 
-      pub held-sub : b ≡ true → from ≤ i → (out : List ℕ) (at : ℕ) → Wrote q (octets "],[") (pen out at) → Places f s from es es p (propertiesText f true es ++ octets ",[") out (Sub n e at)
+      pub held-sub : b ≡ true → from ≤ i → (out : List ℕ) (at : ℕ) → Wrote q (octets "],[") (pen out at) → PartPlaced f s from es es p (propertiesText f true es ++ octets ",[") out (Sub n e at)
       unfolding ready nextOf orderedFrom mayStand endsHere
       held-sub o l out at w =
           let x : Held f true es p (begins (nameFrom s n) ∷ next) first q = rw o at begins-here in
@@ -147,25 +147,25 @@ module _ (f : Line → Answer Property) (s : List ℕ) (from : ℕ) (b : Bool) (
           }
 
     -- the END of the component
-    module _ (n : ℕ) (t : Tells s i e (Closes n)) where
+    module _ (n : ℕ) (t : TellsLine s i e (Closes n)) where
       ends-here : Held f b es p (ends (nameFrom s n) ∷ next) first q
-      unfolding told
+      unfolding lineTold
       ends-here = here (Closes n) t
 
       pub ends-next : b ≡ true → from ≤ i → EndNext s from es (e + 1)
       unfolding nextOf
       ends-next o l = record { is = ends-here .passed o .0; further = omega (arith, h .ends) }
 
-      pub held-ends : (out : List ℕ) (r : Next) → Finds s from es r → Wrote q (octets "],[") (pen out (placeOf r)) → Places f s from es es p (propertiesText f true es ++ octets ",[") out r
+      pub held-ends : (out : List ℕ) (r : Next) → Finds s from es r → Wrote q (octets "],[") (pen out (placeOf r)) → PartPlaced f s from es es p (propertiesText f true es ++ octets ",[") out r
       unfolding ready orderedFrom mayStand endsHere
       held-ends out r z w =
           places-found f s from es es p _ out r z (leads-last (ends-here .leads) w (and-more (properties-ends f first (nameFrom s n) next)))
           (up-to b (ends (nameFrom s n) ∷ next) ends-here (ends-here .fit))
 
     -- a BEGIN or END that is neither
-    module _ (t : Tells s i e Broken) where
+    module _ (t : TellsLine s i e Broken) where
       stray-here : Held f b es p (stray ∷ next) first q
-      unfolding told
+      unfolding lineTold
       stray-here = here Broken t
 
       pub held-broken : Held f b es p next first q
@@ -186,7 +186,7 @@ module _ (f : Line → Answer Property) (s : List ℕ) (from : ℕ) (b : Bool) (
     unfolding nextOf
     none-next o k = record { is = rw (events-none s i l) (none-here .passed o .0); further = k }
 
-    pub held-none : (out : List ℕ) (r : Next) → Finds s from es r → Wrote q (octets "],[") (pen out (placeOf r)) → Places f s from es es p (propertiesText f true es ++ octets ",[") out r
+    pub held-none : (out : List ℕ) (r : Next) → Finds s from es r → Wrote q (octets "],[") (pen out (placeOf r)) → PartPlaced f s from es es p (propertiesText f true es ++ octets ",[") out r
     held-none out r z w =
         places-found f s from es es p _ out r z (leads-last (none-here .leads) w (and-more (properties-none f first)))
         (up-to b [] none-here (ready-none f b))

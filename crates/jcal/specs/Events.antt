@@ -6,8 +6,8 @@ use lib.ListN.{length, drop}
 use Rattle.octets.specs.Classes.{lower}
 use Rattle.content.specs.Line.{Line, lineOf}
 use Rattle.content.specs.Scan.{until}
-use Rattle.content.specs.Buffer.{isLf, linesIn}
-use Rattle.conversion_theory.specs.Structure.{Event, begins, ends, holds, stray, eventOf}
+use Rattle.content.specs.Buffer.{isLf, bufferLines}
+use Rattle.conversion_theory.specs.Structure.{Event, begins, ends, carries, stray, eventOf}
 use Rattle.jcal.specs.declared.events.Kind.{Kind}
 use Rattle.jcal.specs.declared.events.Kind.the-variants.{Opens, Closes, Plain, Broken}
 
@@ -15,7 +15,7 @@ abbrev pub eventAt : List ℕ → Event Line
 eventAt l = eventOf (lineOf l)
 
 unfoldable pub eventsIn : List ℕ → List (Event Line)
-eventsIn s = map eventAt (linesIn s)
+eventsIn s = map eventAt (bufferLines s)
 
 -- the line of a buffer that begins at i, or the rest of one from there on
 unfoldable pub lineFrom : List ℕ → ℕ → List ℕ
@@ -31,11 +31,11 @@ unfoldable pub nameFrom : List ℕ → ℕ → List ℕ
 nameFrom s i = lower (lineFrom s i)
 
 -- what a returned `Kind` says of the line at i
-unfoldable pub told : List ℕ → ℕ → Kind → Event Line
-told s i (Opens n) = begins (nameFrom s n)
-told s i (Closes n) = ends (nameFrom s n)
-told s i Plain = holds (lineOf (lineFrom s i))
-told s i Broken = stray
+unfoldable pub lineTold : List ℕ → ℕ → Kind → Event Line
+lineTold s i (Opens n) = begins (nameFrom s n)
+lineTold s i (Closes n) = ends (nameFrom s n)
+lineTold s i Plain = carries (lineOf (lineFrom s i))
+lineTold s i Broken = stray
 
 -- the name of a component stands from n to e, up to the end of its line
 pub record Named (s : List ℕ) (n e : ℕ) : Type 0 where
@@ -57,11 +57,11 @@ restOf i (Closes n) = n
 restOf i Plain = i
 restOf i Broken = i
 
-pub record Tells (s : List ℕ) (i e : ℕ) (k : Kind) : Type 0 where
-  pub is : told s i k ≡ eventAt (lineFrom s i)
+pub record TellsLine (s : List ℕ) (i e : ℕ) (k : Kind) : Type 0 where
+  pub is : lineTold s i k ≡ eventAt (lineFrom s i)
   pub within : restOf i k ≤ e
   pub ends : e ≡ restOf i k + length (until isLf (drop (restOf i k) s))
 
 -- the first line begins a component, whose name stands from n to e
 abbrev pub Outermost : List ℕ → ℕ → ℕ → Type 0
-Outermost s e n = Tells s 0 e (Opens n)
+Outermost s e n = TellsLine s 0 e (Opens n)

@@ -7,7 +7,7 @@ use lib.ListN.{length, getD}
 use Rattle.octets.specs.Limits.{mostLevels}
 use Rattle.octets.specs.Answers.{Answer, refused, accepted, number}
 use Rattle.conversion_theory.specs.Structure.{Nest, fresh, closed, inside, fault, nest, verdict}
-use Rattle.jcal.specs.Events.{nameFrom, told}
+use Rattle.jcal.specs.Events.{nameFrom, lineTold}
 use Rattle.jcal.specs.declared.events.Kind.{Kind}
 use Rattle.jcal.specs.declared.nesting.Nesting.{Nesting}
 use Rattle.jcal.specs.declared.nesting.Nesting.the-variants.{Unbegun, Within, Complete, Wrong}
@@ -43,13 +43,13 @@ pub record Nests (s xs : List ℕ) (n : Nest) (t : Nesting) : Type 0 where
 
 -- behind a line that is told of, wherever it begins
 abbrev pub NestsBehind : List ℕ → List ℕ → Nest → Kind → Nesting → Type 0
-NestsBehind s xs n k t = (i : ℕ) → Nests s xs (nest n (told s i k)) t
+NestsBehind s xs n k t = (i : ℕ) → Nests s xs (nest n (lineTold s i k)) t
 
 -- what is answered: whether the lines are in order, or a refusal
-unfoldable pub paired : Structure → Answer Bool
-paired (Paired b) = accepted b
-paired (Failed r) = refused (number r)
+unfoldable pub pairing : Structure → Answer Bool
+pairing (Paired b) = accepted b
+pairing (Failed r) = refused (number r)
 
 -- the answer behind the last line
 abbrev pub Judged : Nesting → Bool → Structure → Type 0
-Judged t b r = (s xs : List ℕ) → paired r ≡ verdict (nestOf s xs t) b
+Judged t b r = (s xs : List ℕ) → pairing r ≡ verdict (nestOf s xs t) b

@@ -4,22 +4,22 @@ use mathlib.Core.Path.{_≡_}
 use mathlib.Core.Bool.{Bool, true, false, not}
 use mathlib.Core.List.{List, [], _∷_}
 use Rattle.octets.specs.Basics.{_and_}
-use Rattle.conversion_theory.specs.Structure.{Event, begins, ends, holds, stray}
-use Rattle.jcal.specs.Events.{told}
+use Rattle.conversion_theory.specs.Structure.{Event, begins, ends, carries, stray}
+use Rattle.jcal.specs.Events.{lineTold}
 use Rattle.jcal.specs.declared.events.Kind.{Kind}
 
 -- the line may stand here, directly behind an END line or not
 unfoldable pub mayStand : {A : Type 0} → Bool → Event A → Bool
 mayStand behind (begins n) = true
 mayStand behind (ends n) = true
-mayStand behind (holds a) = not behind
+mayStand behind (carries a) = not behind
 mayStand behind stray = true
 
 -- the next line stands directly behind an END line
 unfoldable pub endsHere : {A : Type 0} → Bool → Event A → Bool
 endsHere behind (begins n) = false
 endsHere behind (ends n) = true
-endsHere behind (holds a) = false
+endsHere behind (carries a) = false
 endsHere behind stray = behind
 
 unfoldable pub orderedFrom : {A : Type 0} → Bool → List (Event A) → Bool
@@ -30,8 +30,8 @@ unfoldable pub ordered : {A : Type 0} → List (Event A) → Bool
 ordered es = orderedFrom false es
 
 -- the two tests at a line that is told of
-abbrev pub Keeps : Bool → Bool → Kind → Bool → Type 0
-Keeps kept behind k r = (s : List ℕ) (i : ℕ) → r ≡ (kept and mayStand behind (told s i k))
+abbrev pub OrderKept : Bool → Bool → Kind → Bool → Type 0
+OrderKept kept behind k r = (s : List ℕ) (i : ℕ) → r ≡ (kept and mayStand behind (lineTold s i k))
 
-abbrev pub Ends : Bool → Kind → Bool → Type 0
-Ends behind k r = (s : List ℕ) (i : ℕ) → r ≡ endsHere behind (told s i k)
+abbrev pub EndTold : Bool → Kind → Bool → Type 0
+EndTold behind k r = (s : List ℕ) (i : ℕ) → r ≡ endsHere behind (lineTold s i k)

@@ -8,7 +8,7 @@ use Rattle.json.specs.Tree.{Items, itemsOf}
 use Rattle.json.specs.Print.{firstItem, moreItems, printString}
 use Rattle.content.specs.Line.{Line}
 use Rattle.conversion_theory.specs.Tree.{Property, property, Component, component}
-use Rattle.conversion_theory.specs.Structure.{Event, begins, ends, holds, stray}
+use Rattle.conversion_theory.specs.Structure.{Event, begins, ends, carries, stray}
 use Rattle.conversion_theory.specs.Growth.{eachProperty, Level, innermost, around, levelsFrom}
 use Rattle.conversion_theory.specs.Jcal.{propertyJson, jcalsOf}
 
@@ -25,21 +25,21 @@ isAccepted (accepted a) = true
 unfoldable pub readEvent : (Line → Answer Property) → Event Line → Event Property
 readEvent f (begins n) = begins n
 readEvent f (ends n) = ends n
-readEvent f (holds l) = holds (propertyOr (f l))
+readEvent f (carries l) = carries (propertyOr (f l))
 readEvent f stray = stray
 
 -- f accepts the property, if it is one
 unfoldable pub reads : (Line → Answer Property) → Event Line → Bool
 reads f (begins n) = true
 reads f (ends n) = true
-reads f (holds l) = isAccepted (f l)
+reads f (carries l) = isAccepted (f l)
 reads f stray = true
 
 -- 7, 8 or 9 of a line, if it is a property
 unfoldable pub eventTested : (Line → Answer Property) → Event Line → Answer (Unit {0})
 eventTested f (begins n) = accepted tt
 eventTested f (ends n) = accepted tt
-eventTested f (holds l) = then (f l) (λ _. accepted tt)
+eventTested f (carries l) = then (f l) (λ _. accepted tt)
 eventTested f stray = accepted tt
 
 -- 7, 8 or 9 of all lines, at the first property in fault
@@ -52,7 +52,7 @@ behindEnd k [] = []
 behindEnd k (begins n ∷ es) = behindEnd (suc k) es
 behindEnd zero (ends n ∷ es) = es
 behindEnd (suc k) (ends n ∷ es) = behindEnd k es
-behindEnd k (holds l ∷ es) = behindEnd k es
+behindEnd k (carries l ∷ es) = behindEnd k es
 behindEnd k (stray ∷ es) = behindEnd k es
 
 -- the events from the next sub-component or END of a component on, an END without its name; an END where no line is left
@@ -60,7 +60,7 @@ unfoldable pub nextOf : List (Event Line) → List (Event Line)
 nextOf [] = ends [] ∷ []
 nextOf (begins n ∷ es) = begins n ∷ es
 nextOf (ends n ∷ es) = ends [] ∷ es
-nextOf (holds l ∷ es) = nextOf es
+nextOf (carries l ∷ es) = nextOf es
 nextOf (stray ∷ es) = nextOf es
 
 unfoldable pub outward : ℕ → List Level → List Level
@@ -80,14 +80,14 @@ unfoldable pub comma : Bool → List ℕ
 comma first = pick first [] (octets ",")
 
 -- items and what closes them, where the first is due or some stand already
-unfoldable pub listed : Bool → Items → List ℕ
-listed first js = pick first (firstItem js) (moreItems js)
+unfoldable pub itemsRest : Bool → Items → List ℕ
+itemsRest first js = pick first (firstItem js) (moreItems js)
 
 unfoldable pub propertiesText : (Line → Answer Property) → Bool → List (Event Line) → List ℕ
-propertiesText f first es = listed first (itemsOf (map propertyJson ((levelAt f 0 es) .properties)))
+propertiesText f first es = itemsRest first (itemsOf (map propertyJson ((levelAt f 0 es) .properties)))
 
 unfoldable pub subsText : (Line → Answer Property) → Bool → List (Event Line) → List ℕ
-subsText f first es = listed first (jcalsOf ((levelAt f 0 es) .subs))
+subsText f first es = itemsRest first (jcalsOf ((levelAt f 0 es) .subs))
 
 -- a component up to its properties
 unfoldable pub nameText : List ℕ → List ℕ

@@ -71,13 +71,13 @@ pub record Ended (s : List ℕ) (i : ℕ) (p : Pen) (out : List ℕ) (r : Next) 
   pub wrote : Wrote p (octets "],[") (pen out (placeOf r))
 
 -- a text is written, what stands next in fs is found, and no property of es before it is in fault
-pub record Stands (f : Line → Answer Property) (s : List ℕ) (i : ℕ) (es fs : List (Event Line)) (p : Pen) (text out : List ℕ) (r : Next) : Type 0 where
+pub record PartWritten (f : Line → Answer Property) (s : List ℕ) (i : ℕ) (es fs : List (Event Line)) (p : Pen) (text out : List ℕ) (r : Next) : Type 0 where
   pub finds : Finds s i fs r
   pub wrote : Wrote p text (pen out (placeOf r))
   pub tested : eachTested f es ≡ eachTested f (nextOf fs)
 
 -- by what is answered of a part of a component: it is written, or the first property in fault
-abbrev pub Places : (Line → Answer Property) → List ℕ → ℕ → List (Event Line) → List (Event Line) → Pen → List ℕ → List ℕ → Next → Type 0
-Places f s i es fs p text out (Sub n e at) = Stands f s i es fs p text out (Sub n e at)
-Places f s i es fs p text out (End j at) = Stands f s i es fs p text out (End j at)
-Places f s i es fs p text out (Refused why) = eachTested f es ≡ refused (number why)
+abbrev pub PartPlaced : (Line → Answer Property) → List ℕ → ℕ → List (Event Line) → List (Event Line) → Pen → List ℕ → List ℕ → Next → Type 0
+PartPlaced f s i es fs p text out (Sub n e at) = PartWritten f s i es fs p text out (Sub n e at)
+PartPlaced f s i es fs p text out (End j at) = PartWritten f s i es fs p text out (End j at)
+PartPlaced f s i es fs p text out (Refused why) = eachTested f es ≡ refused (number why)

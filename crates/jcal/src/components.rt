@@ -16,7 +16,7 @@ ghost use Rattle.conversion_theory.specs.Property.{readProperty};
 ghost use Rattle.conversion_theory.specs.Jcal.{jcalOf};
 ghost use Rattle.jcal.specs.Events.{eventsIn, LineAt, nameFrom, Named, Outermost};
 ghost use Rattle.jcal.specs.Walk.{behindEnd, componentAt, comma, propertiesText, nameText};
-ghost use Rattle.jcal.specs.Walked.{ready, PlacesItem, Behind, EndNext, Found, Ended, Places};
+ghost use Rattle.jcal.specs.Walked.{ready, PlacesItem, Behind, EndNext, Found, Ended, PartPlaced};
 ghost use Rattle.jcal.specs.Stages.{propertiesJcal};
 use crate::events::Kind;
 use crate::events::kind_at;
@@ -143,7 +143,7 @@ fn place_properties(
     at: usize,
 ) -> Next
     requires { ⌜ ready (readProperty (tableIn (now rows))) in_order false (eventsIn (drop from (now buf))) ≡ true ⌝ }
-    ensures { λ r. ⌜ Places (readProperty (tableIn (now (rows .entry)))) (now (buf .entry)) from (eventsIn (drop from (now (buf .entry)))) (eventsIn (drop from (now (buf .entry)))) (pen (now (out .entry)) at) (propertiesText (readProperty (tableIn (now (rows .entry)))) true (eventsIn (drop from (now (buf .entry)))) ++ octets ",[") (now (out .exit)) r ⌝ }
+    ensures { λ r. ⌜ PartPlaced (readProperty (tableIn (now (rows .entry)))) (now (buf .entry)) from (eventsIn (drop from (now (buf .entry)))) (eventsIn (drop from (now (buf .entry)))) (pen (now (out .entry)) at) (propertiesText (readProperty (tableIn (now (rows .entry)))) true (eventsIn (drop from (now (buf .entry)))) ++ octets ",[") (now (out .exit)) r ⌝ }
 {
     let mut to = at;
     let mut i = from;
@@ -187,7 +187,7 @@ fn place_component(
     requires { ⌜ Named (now buf) name e ⌝ }
     requires { ⌜ ready (readProperty (tableIn (now rows))) in_order false (eventsIn (drop (e + 1) (now buf))) ≡ true ⌝ }
     requires { ⌜ levels (componentAt (readProperty (tableIn (now rows))) (nameFrom (now buf) name) (eventsIn (drop (e + 1) (now buf)))) ≤ left ⌝ }
-    ensures { λ r. ⌜ Places (readProperty (tableIn (now (rows .entry)))) (now (buf .entry)) (e + 1) (eventsIn (drop (e + 1) (now (buf .entry)))) (behindEnd 0 (eventsIn (drop (e + 1) (now (buf .entry))))) (pen (now (out .entry)) at) (print (jcalOf (componentAt (readProperty (tableIn (now (rows .entry)))) (nameFrom (now (buf .entry)) name) (eventsIn (drop (e + 1) (now (buf .entry))))))) (now (out .exit)) r ⌝ }
+    ensures { λ r. ⌜ PartPlaced (readProperty (tableIn (now (rows .entry)))) (now (buf .entry)) (e + 1) (eventsIn (drop (e + 1) (now (buf .entry)))) (behindEnd 0 (eventsIn (drop (e + 1) (now (buf .entry))))) (pen (now (out .entry)) at) (print (jcalOf (componentAt (readProperty (tableIn (now (rows .entry)))) (nameFrom (now (buf .entry)) name) (eventsIn (drop (e + 1) (now (buf .entry))))))) (now (out .exit)) r ⌝ }
 {
     let a = open_component(&*buf, name, e, out, at);
     let mut next = place_properties(&*buf, &*rows, e + 1, in_order, out, a);

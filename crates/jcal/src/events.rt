@@ -8,7 +8,7 @@ ghost use Rattle.octets.specs.Classes.{isName, sameName};
 ghost use Rattle.content.specs.Line.{lineOf};
 ghost use Rattle.content.specs.Scan.{untilBare};
 ghost use Rattle.conversion_theory.specs.Structure.{bounds};
-ghost use Rattle.jcal.specs.Events.{LineAt, Tells};
+ghost use Rattle.jcal.specs.Events.{LineAt, TellsLine};
 use octets::is_name;
 use octets::same_name;
 
@@ -64,7 +64,7 @@ fn has_bounds(line: &[u8], n: usize) -> bool
 // What the line from i to e is.
 pub(crate) fn kind_at(buf: &[u8], i: usize, e: usize) -> Kind
     requires { ⌜ LineAt (now buf) i e ⌝ }
-    ensures { λ r. ⌜ Tells (now (buf .entry)) i e r ⌝ }
+    ensures { λ r. ⌜ TellsLine (now (buf .entry)) i e r ⌝ }
 {
     let line = &buf[i..e];
     if is_called(line, b"BEGIN") {

@@ -7,8 +7,8 @@ ghost use Rattle.octets.specs.Classes.{lower};
 ghost use Rattle.octets.specs.Limits.{mostLevels};
 ghost use Rattle.conversion_theory.specs.Structure.{fresh, nestAfter, verdict};
 ghost use Rattle.jcal.specs.Events.{eventsIn, nameFrom, NameOf};
-ghost use Rattle.jcal.specs.Nesting.{inner, nestOf, aroundOf, NestsBehind, paired, Judged};
-ghost use Rattle.jcal.specs.Order.{ordered, Keeps, Ends};
+ghost use Rattle.jcal.specs.Nesting.{inner, nestOf, aroundOf, NestsBehind, pairing, Judged};
+ghost use Rattle.jcal.specs.Order.{ordered, OrderKept, EndTold};
 use crate::events::Kind;
 use crate::events::kind_at;
 use content::line_end;
@@ -109,7 +109,7 @@ fn after_line(buf: &[u8], e: usize, kind: Kind, nesting: Nesting, names: &mut [u
 
 // Lines in order stay so, unless a property stands directly behind an END line.
 fn keeps_order(in_order: bool, behind: bool, kind: Kind) -> bool
-    ensures { λ r. ⌜ Keeps in_order behind kind r ⌝ }
+    ensures { λ r. ⌜ OrderKept in_order behind kind r ⌝ }
 {
     match kind {
         Kind::Opens(_) => in_order,
@@ -121,7 +121,7 @@ fn keeps_order(in_order: bool, behind: bool, kind: Kind) -> bool
 
 // The next line stands directly behind an END line.
 fn is_behind(behind: bool, kind: Kind) -> bool
-    ensures { λ r. ⌜ Ends behind kind r ⌝ }
+    ensures { λ r. ⌜ EndTold behind kind r ⌝ }
 {
     match kind {
         Kind::Opens(_) => false,
@@ -145,7 +145,7 @@ fn at_end(nesting: Nesting, in_order: bool) -> Structure
 
 // Tests 5 and 6, at the first line in fault, and whether the lines are in order.
 pub fn test_structure(buf: &[u8]) -> Structure
-    ensures { λ r. ⌜ paired r ≡ verdict (nestAfter fresh (eventsIn (now (buf .entry)))) (ordered (eventsIn (now (buf .entry)))) ⌝ }
+    ensures { λ r. ⌜ pairing r ≡ verdict (nestAfter fresh (eventsIn (now (buf .entry)))) (ordered (eventsIn (now (buf .entry)))) ⌝ }
 {
     let mut names = [0usize; 8];
     let mut nesting = Nesting::Unbegun;

@@ -5,7 +5,7 @@ ghost use Rattle.types.specs.Laid.{tableIn};
 ghost use Rattle.conversion_theory.specs.Property.{readProperty};
 ghost use Rattle.conversion_theory.specs.Growth.{eachProperty};
 ghost use Rattle.jcal.specs.Events.{eventAt, eventsIn, lineFrom, LineAt};
-ghost use Rattle.jcal_properties.specs.Passed.{passed};
+ghost use Rattle.jcal_properties.specs.Passed.{testSaid};
 ghost use Rattle.jcal.specs.Walk.{eventTested};
 use crate::events::Kind;
 use crate::events::kind_at;
@@ -16,7 +16,7 @@ use jcal_properties::test_property;
 // Tests 7, 8 and 9 of the line from i to e, if it is a property.
 fn test_line(buf: &[u8], i: usize, e: usize, rows: &[u8]) -> Tested
     requires { ⌜ LineAt (now buf) i e ⌝ }
-    ensures { λ r. ⌜ passed r ≡ eventTested (readProperty (tableIn (now (rows .entry)))) (eventAt (lineFrom (now (buf .entry)) i)) ⌝ }
+    ensures { λ r. ⌜ testSaid r ≡ eventTested (readProperty (tableIn (now (rows .entry)))) (eventAt (lineFrom (now (buf .entry)) i)) ⌝ }
 {
     match kind_at(buf, i, e) {
         Kind::Opens(_) => Tested::Passed,
@@ -28,7 +28,7 @@ fn test_line(buf: &[u8], i: usize, e: usize, rows: &[u8]) -> Tested
 
 // Tests 7, 8 and 9, at the first property in fault.
 pub(crate) fn test_properties(buf: &[u8], rows: &[u8]) -> Tested
-    ensures { λ r. ⌜ passed r ≡ then (eachProperty (readProperty (tableIn (now (rows .entry)))) (eventsIn (now (buf .entry)))) (λ _. accepted tt) ⌝ }
+    ensures { λ r. ⌜ testSaid r ≡ then (eachProperty (readProperty (tableIn (now (rows .entry)))) (eventsIn (now (buf .entry)))) (λ _. accepted tt) ⌝ }
 {
     let mut i = 0;
     while i < buf.len() {

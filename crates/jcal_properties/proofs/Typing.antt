@@ -25,8 +25,8 @@ use Rattle.types.specs.Codes.{typeName}
 use Rattle.types.specs.Table.{Row, Table, find}
 use Rattle.types.proofs.Types.{name-lower, nameless}
 use Rattle.content.specs.Line.{Param, Line, pieces, lineOf}
-use Rattle.content.specs.Parts.{others, paramsIn, lineAt, Cut}
-use Rattle.content.specs.Kinds.{kindOf, Bounded}
+use Rattle.content.specs.Parts.{otherPieces, paramsIn, lineAt, Cut}
+use Rattle.content.specs.Kinds.{valueTypeSaid, Bounded}
 use Rattle.content.specs.declared.parts.Parts.{Parts}
 use Rattle.content.specs.declared.params.ValueType.{ValueType}
 use Rattle.content.specs.declared.params.ValueType.the-variants.{Absent, Named, Faulty}
@@ -38,7 +38,7 @@ use Rattle.conversion_theory.specs.Tree.{Property, property}
 use Rattle.conversion_theory.specs.Property.{typeOf, codeOf, manyOf, encodingFits, readAs, readProperty}
 use Rattle.conversion_theory.specs.Jcal.{propertyJson}
 use Rattle.jcal_properties.specs.Passed.{paramsTested}
-use Rattle.jcal_properties.specs.Placed.{lineWith, PlacesValues, FrontStands, Stands, Places}
+use Rattle.jcal_properties.specs.Placed.{lineWith, PlacesValues, FrontStands, PropertyWritten, Places}
 use Rattle.jcal_properties.specs.declared.Placed.{Placed}
 use Rattle.jcal_properties.specs.declared.Placed.the-variants.{At, Failed}
 use Rattle.jcal_properties.specs.Shown.{namedType, frontText}
@@ -122,16 +122,16 @@ unfolding paramsTested unless
 params-twice t a h = rw h
 
 module _ (s : List ℕ) (t : Bool) (k : ValueType) (h : t ≡ false) where
-  pub params-absent : k ≡ Absent → accepted tt ≡ paramsTested t (kindOf s k)
-  unfolding paramsTested unless then kindOf
+  pub params-absent : k ≡ Absent → accepted tt ≡ paramsTested t (valueTypeSaid s k)
+  unfolding paramsTested unless then valueTypeSaid
   params-absent q = rw (h, q)
 
-  pub params-named : (a e : ℕ) → k ≡ Named a e → accepted tt ≡ paramsTested t (kindOf s k)
-  unfolding paramsTested unless then kindOf
+  pub params-named : (a e : ℕ) → k ≡ Named a e → accepted tt ≡ paramsTested t (valueTypeSaid s k)
+  unfolding paramsTested unless then valueTypeSaid
   params-named a e q = rw (h, q)
 
-  pub params-faulty : k ≡ Faulty → refused 7 ≡ paramsTested t (kindOf s k)
-  unfolding paramsTested unless then kindOf
+  pub params-faulty : k ≡ Faulty → refused 7 ≡ paramsTested t (valueTypeSaid s k)
+  unfolding paramsTested unless then valueTypeSaid
   params-faulty q = rw (h, q)
 
 -- what number 7 leaves of the reading
@@ -195,7 +195,7 @@ unfolding frontText print firstMember membersOf withoutValue
 plain-front n = append-assoc (octets "[") (printString (lower n)) (octets ",{},")
 
 pub no-params : (s : List ℕ) → length s ≡ 0 → paramsIn s ≡ []
-unfolding paramsIn pieces others
+unfolding paramsIn pieces otherPieces
 no-params [] e = refl
 no-params (x ∷ s) e = absurd (omega arith)
 
@@ -205,7 +205,7 @@ pub values-wrote : (o : Option (List Json)) {p m : Pen} (out : List ℕ) (q : �
 values-wrote o out q v w = (v .0, v .1, behind (v .2) w)
 
 -- the answer of a property that is placed as its test
-pub stands-passed : (t : Table) (l : Line) {p q : Pen} → Stands t l p q → accepted (tt {0}) ≡ then (readProperty t l) (λ _. accepted tt)
+pub stands-passed : (t : Table) (l : Line) {p q : Pen} → PropertyWritten t l p q → accepted (tt {0}) ≡ then (readProperty t l) (λ _. accepted tt)
 unfolding then
 stands-passed t l z = rw (z .read)
 

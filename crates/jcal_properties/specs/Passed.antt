@@ -7,9 +7,9 @@ use Rattle.octets.specs.Answers.{Answer, refused, accepted, then, unless, numbe
 use Rattle.jcal_properties.specs.declared.Tested.{Tested}
 use Rattle.jcal_properties.specs.declared.Tested.the-variants.{Passed, Failed}
 
-unfoldable pub passed : Tested → Answer (Unit {0})
-passed Passed = accepted tt
-passed (Failed r) = refused (number r)
+unfoldable pub testSaid : Tested → Answer (Unit {0})
+testSaid Passed = accepted tt
+testSaid (Failed r) = refused (number r)
 
 -- number 7: whether a parameter name stands twice, and the type that VALUE names
 unfoldable pub paramsTested : Bool → Answer (Option (List ℕ)) → Answer (Unit {0})

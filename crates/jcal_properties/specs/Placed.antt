@@ -45,11 +45,11 @@ Fronts row n ps p out (To c q) = FrontStands row n ps c p (pen out q)
 Fronts row n ps p out (Fails why) = ((t : Table) (v : List ℕ) → row ≡ find t n → readProperty t (lineWith n ps v) ≡ refused (number why)) × FrontKept p out
 
 -- the property of a line is read, and written from p to q
-pub record Stands (t : Table) (l : Line) (p q : Pen) : Type 0 where
+pub record PropertyWritten (t : Table) (l : Line) (p q : Pen) : Type 0 where
   pub property : Property
   pub read : readProperty t l ≡ accepted property
   pub wrote : Wrote p (print (propertyJson property)) q
 
 abbrev pub Places : Table → Line → Pen → List ℕ → Placed → Type 0
-Places t l p out (At q) = Stands t l p (pen out q)
+Places t l p out (At q) = PropertyWritten t l p (pen out q)
 Places t l p out (Failed why) = (readProperty t l ≡ refused (number why)) × FrontKept p out

@@ -12,10 +12,10 @@ ghost use Rattle.types.specs.Laid.{tableIn, rowFound};
 ghost use Rattle.content.specs.Line.{lineOf};
 ghost use Rattle.content.specs.Parts.{paramsIn};
 ghost use Rattle.content.specs.Parameters.{nameTwice};
-ghost use Rattle.content.specs.Kinds.{kindOf, Bounded};
+ghost use Rattle.content.specs.Kinds.{valueTypeSaid, Bounded};
 ghost use Rattle.values.specs.Read.{valuesOf};
 ghost use Rattle.conversion_theory.specs.Property.{typeOf, codeOf, manyOf, encodingFits, readProperty};
-ghost use Rattle.jcal_properties.specs.Passed.{passed, paramsTested};
+ghost use Rattle.jcal_properties.specs.Passed.{testSaid, paramsTested};
 ghost use Rattle.jcal_properties.specs.Placed.{Fronts, PlacesValues, Places};
 ghost use Rattle.jcal_properties.specs.Shown.{namedType, frontText};
 use crate::Placed;
@@ -57,7 +57,7 @@ fn default_code(found: Found) -> u8
 // The code of the type: VALUE's, else the name's default.
 fn code_of(found: Found, params: &[u8], kind: ValueType) -> u8
     requires { ⌜ Bounded (length (now params)) kind ⌝ }
-    ensures { λ r. ⌜ r ≡ codeOf (rowFound found) (namedType (kindOf (now (params .entry)) kind)) ⌝ }
+    ensures { λ r. ⌜ r ≡ codeOf (rowFound found) (namedType (valueTypeSaid (now (params .entry)) kind)) ⌝ }
 {
     match kind {
         ValueType::Absent => default_code(found),
@@ -89,7 +89,7 @@ fn encoding_fits(code: u8, encoded: bool) -> bool
 
 // Number 7: no parameter name stands twice, and VALUE names a type where it stands.
 fn params_fit(params: &[u8], kind: ValueType) -> bool
-    ensures { λ r. ⌜ pick r (accepted tt) (refused 7) ≡ paramsTested (nameTwice (paramsIn (now (params .entry)))) (kindOf (now (params .entry)) kind) ⌝ }
+    ensures { λ r. ⌜ pick r (accepted tt) (refused 7) ≡ paramsTested (nameTwice (paramsIn (now (params .entry)))) (valueTypeSaid (now (params .entry)) kind) ⌝ }
 {
     if name_twice(params) {
         return false;
@@ -129,7 +129,7 @@ fn put_default(found: Found, out: &mut [u8], at: usize) -> usize
 // Writes the name of the type.
 fn put_type(found: Found, params: &[u8], kind: ValueType, out: &mut [u8], at: usize) -> usize
     requires { ⌜ Bounded (length (now params)) kind ⌝ }
-    ensures { λ r. ⌜ Wrote (pen (now (out .entry)) at) (printString (typeOf (rowFound found) (namedType (kindOf (now (params .entry)) kind)))) (pen (now (out .exit)) r) ⌝ }
+    ensures { λ r. ⌜ Wrote (pen (now (out .entry)) at) (printString (typeOf (rowFound found) (namedType (valueTypeSaid (now (params .entry)) kind)))) (pen (now (out .exit)) r) ⌝ }
 {
     match kind {
         ValueType::Absent => put_default(found, out, at),
@@ -214,7 +214,7 @@ pub fn place_property(line: &[u8], rows: &[u8], out: &mut [u8], at: usize) -> Pl
 
 // Tests a property by 7, 8 and 9 alone: it is written where there is no room.
 pub fn test_property(line: &[u8], rows: &[u8]) -> Tested
-    ensures { λ r. ⌜ passed r ≡ then (readProperty (tableIn (now (rows .entry))) (lineOf (now (line .entry)))) (λ _. accepted tt) ⌝ }
+    ensures { λ r. ⌜ testSaid r ≡ then (readProperty (tableIn (now (rows .entry))) (lineOf (now (line .entry)))) (λ _. accepted tt) ⌝ }
 {
     let mut none = [0u8; 1];
     match place_property(line, rows, &mut none, 0) {

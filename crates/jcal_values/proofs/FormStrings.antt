@@ -22,24 +22,24 @@ use Rattle.calendar.proofs.Fixed.{says-none, says-some, formFor}
 use Rattle.calendar.proofs.Readback.{form-fitted}
 use Rattle.json.specs.Tree.{Json, str}
 use Rattle.json.specs.Print.{printString, print}
-use Rattle.json.specs.Promise.{bareOctet}
+use Rattle.json.specs.Promise.{asIsOctet}
 use Rattle.jcal_values.proofs.Quoting.{quoted-bare, bare-class}
 
 -- a place that takes such octets alone
 unfoldable bareSlot : Slot → Bool
 bareSlot digit = true
 bareSlot sign = true
-bareSlot (letter l) = bareOctet l
-bareSlot (added a) = bareOctet a
+bareSlot (letter l) = asIsOctet l
+bareSlot (added a) = asIsOctet a
 
-takes-bare : (p : Slot) (x : ℕ) → bareSlot p ≡ true → takes p x ≡ true → bareOctet x ≡ true
+takes-bare : (p : Slot) (x : ℕ) → bareSlot p ≡ true → takes p x ≡ true → asIsOctet x ≡ true
 unfolding bareSlot takes
 takes-bare digit x r e = bare-class isDigit (unfold isDigit between in refl) (unfold isDigit between in refl) (unfold isDigit between in refl) (unfold isDigit between in refl) x e
 takes-bare sign x r e = bare-class isSign (unfold isSign in refl) (unfold isSign in refl) (unfold isSign in refl) (unfold isSign in refl) x e
 takes-bare (letter l) x r e = rw (eqb-true x l e) r
 takes-bare (added a) x r e = rw (eqb-true x a e) r
 
-fits-bare : (f : List Slot) (t : List ℕ) → all bareSlot f ≡ true → fits f t ≡ true → all bareOctet t ≡ true
+fits-bare : (f : List Slot) (t : List ℕ) → all bareSlot f ≡ true → fits f t ≡ true → all asIsOctet t ≡ true
 unfolding fits all
 fits-bare [] [] r h = refl
 fits-bare [] (x ∷ t) r h = absurd (false≢true h)
@@ -50,7 +50,7 @@ fits-bare (p ∷ f) (x ∷ t) r h =
     and-true (takes-bare p x (a .0) (b .0)) (fits-bare f t (a .1) (b .1))
 
 form-bare : (f : Form) (b : Bool) → all bareSlot (formFor f b) ≡ true
-unfolding all bareSlot bareOctet dateForm clockForm utc timeForm dateTimeForm offsetForm
+unfolding all bareSlot asIsOctet dateForm clockForm utc timeForm dateTimeForm offsetForm
 form-bare Date b = refl
 form-bare Time true = refl
 form-bare Time false = refl

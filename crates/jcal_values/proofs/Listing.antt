@@ -25,7 +25,7 @@ use Rattle.values.specs.Shown.{valuesJson}
 use Rattle.jcal_texts.specs.Trying.{Tried}
 use Rattle.jcal_texts.specs.declared.Attempt.the-variants.{Invalid}
 use Rattle.jcal_texts.proofs.Going.{Going, going-start, going-on}
-use Rattle.jcal_values.specs.Parts.{firstEnd, pieces}
+use Rattle.jcal_values.specs.Parts.{firstEnd, valuePieces}
 use Rattle.jcal_values.proofs.Lists.{pieces-more, pieces-last}
 
 each-filled : (f : List ℕ → Option Json) (ls : List (List ℕ)) → (ls ≡ [] → ⊥) → each f ls ≡ some [] → ⊥
@@ -57,8 +57,8 @@ module _ (many : Bool) where
   others-left j none m = refl
   others-left j (some vs) m = rw m
 
-pieces-filled : (b : Bool) (s : List ℕ) → pieces b s ≡ [] → ⊥
-unfolding pieces
+pieces-filled : (b : Bool) (s : List ℕ) → valuePieces b s ≡ [] → ⊥
+unfolding valuePieces
 pieces-filled true s e = split-filled (code ",") s e
 pieces-filled false s e = let z : _≡_ {A = ℕ} 0 1 = cc in omega arith
 
@@ -78,19 +78,19 @@ module _ (s : List ℕ) (i e : ℕ) where
   pub inside : e < length (ahead s i) → e < length s - i
   inside h = rw (from s i, length-drop i s) at h
 
-  last-piece : (b : Bool) → e ≡ firstEnd b (ahead s i) → length (ahead s i) ≤ e → pieces b (drop i s) ≡ value ∷ []
-  unfolding firstEnd pieces
+  last-piece : (b : Bool) → e ≡ firstEnd b (ahead s i) → length (ahead s i) ≤ e → valuePieces b (drop i s) ≡ value ∷ []
+  unfolding firstEnd valuePieces
   last-piece true is h = pieces-last (code ",") s i e is h
   last-piece false is h = ap (λ (l : List ℕ). l ∷ []) (sym (upto (ahead s i) e ∙ take-all e (ahead s i) h ∙ from s i))
 
-  more-pieces : (b : Bool) → e ≡ firstEnd b (ahead s i) → e < length (ahead s i) → pieces b (drop i s) ≡ value ∷ pieces b (drop (i + e + 1) s)
-  unfolding firstEnd pieces
+  more-pieces : (b : Bool) → e ≡ firstEnd b (ahead s i) → e < length (ahead s i) → valuePieces b (drop i s) ≡ value ∷ valuePieces b (drop (i + e + 1) s)
+  unfolding firstEnd valuePieces
   more-pieces true is h = pieces-more (code ",") s i e is h
   more-pieces false is h = absurd (omega arith)
 
 module _ (f : List ℕ → Option Json) (many b : Bool) (s : List ℕ) where
   abbrev values : List ℕ → Option (List Json)
-  values l = guard (λ vs. many or single vs) (each f (pieces b l))
+  values l = guard (λ vs. many or single vs) (each f (valuePieces b l))
 
   -- what is read and written up to i
   pub record Listed (p q : Pen) (i : ℕ) : Type 0 where
@@ -102,11 +102,11 @@ module _ (f : List ℕ → Option Json) (many b : Bool) (s : List ℕ) where
 
   -- a turn, which reads the value at i
   module _ {p q : Pen} {i : ℕ} (g : Listed p q i) (e : ℕ) (is : e ≡ firstEnd b (ahead s i)) where
-    last : length (ahead s i) ≤ e → each f (pieces b (drop i s)) ≡ both? _∷_ (f (value s i e)) (some [])
+    last : length (ahead s i) ≤ e → each f (valuePieces b (drop i s)) ≡ both? _∷_ (f (value s i e)) (some [])
     unfolding each
     last h = rw (last-piece s i e b is h)
 
-    more : e < length (ahead s i) → each f (pieces b (drop i s)) ≡ both? _∷_ (f (value s i e)) (each f (pieces b (drop (i + e + 1) s)))
+    more : e < length (ahead s i) → each f (valuePieces b (drop i s)) ≡ both? _∷_ (f (value s i e)) (each f (valuePieces b (drop (i + e + 1) s)))
     unfolding each
     more h = rw (more-pieces s i e b is h)
 
@@ -126,7 +126,7 @@ module _ (f : List ℕ → Option Json) (many b : Bool) (s : List ℕ) where
           (v .0, v .1, leads-end (leads-on (v .2) u refl) refl)
 
       pub value-alone : e < length (ahead s i) → many ≡ false → Tried (values s) valuesJson p (r .buf) Invalid
-      value-alone h m = (g .going .fails (ap (fit many) (more h) ∙ not-alone many _ _ (each-filled f (pieces b (drop (i + e + 1) s)) (pieces-filled b _)) m), front-wrote (then (g .written .1) u))
+      value-alone h m = (g .going .fails (ap (fit many) (more h) ∙ not-alone many _ _ (each-filled f (valuePieces b (drop (i + e + 1) s)) (pieces-filled b _)) m), front-wrote (then (g .written .1) u))
 
       pub value-on : e < length (ahead s i) → many ≡ true → Listed p r (i + e + 1)
       unfolding valuesJson

@@ -12,7 +12,7 @@ use Rattle.octets.specs.Optional.{each}
 use Rattle.octets.proofs.Optional.{each-none, each-is}
 use Rattle.octets.proofs.Pieces.{split-filled}
 use Rattle.octets.proofs.Positions.{from, upto}
-use Rattle.calendar.specs.Walk.{before}
+use Rattle.calendar.specs.Walk.{beforeFirst}
 use Rattle.calendar.proofs.Pieces.{before-take, split-more, split-last, scanned}
 use Rattle.json.specs.Tree.{Json, arr, itemsOf}
 use Rattle.json.specs.Print.{print, firstItem}
@@ -20,11 +20,11 @@ use Rattle.values.specs.Shown.{valuesJson, listShown}
 use Rattle.jcal_values.proofs.Quoting.{items-json}
 
 -- a turn, which passes the piece at i
-module _ (sep : ℕ) (s : List ℕ) (i e : ℕ) (is : e ≡ length (before sep (take (length s - i) (drop i s)))) where
+module _ (sep : ℕ) (s : List ℕ) (i e : ℕ) (is : e ≡ length (beforeFirst sep (take (length s - i) (drop i s)))) where
   abbrev rest : List ℕ
   rest = drop i s
 
-  piece : before sep rest ≡ take (e - 0) (drop 0 (take (length s - i) rest))
+  piece : beforeFirst sep rest ≡ take (e - 0) (drop 0 (take (length s - i) rest))
   piece = before-take sep rest ∙ ap (λ (n : ℕ). take n rest) (sym (scanned sep s i e is)) ∙ sym (ap (λ (l : List ℕ). take (e - 0) (drop 0 l)) (from s i) ∙ upto rest e)
 
   pub pieces-more : e < length (take (length s - i) (drop i s)) → split sep (drop i s) ≡ take (e - 0) (drop 0 (take (length s - i) (drop i s))) ∷ split sep (drop (i + e + 1) s)
@@ -32,9 +32,9 @@ module _ (sep : ℕ) (s : List ℕ) (i e : ℕ) (is : e ≡ length (before sep (
       let is′ = scanned sep s i e is in
       let h′ : e < length rest = rw (from s i) at h in
       let n : i + (e + 1) ≡ i + e + 1 = omega arith in
-      let d : drop (length (before sep rest) + 1) rest ≡ drop (i + e + 1) s = ap (λ (m : ℕ). drop (m + 1) rest) (sym is′) ∙ drop-drop (e + 1) i s ∙ ap (λ (m : ℕ). drop m s) n in
+      let d : drop (length (beforeFirst sep rest) + 1) rest ≡ drop (i + e + 1) s = ap (λ (m : ℕ). drop (m + 1) rest) (sym is′) ∙ drop-drop (e + 1) i s ∙ ap (λ (m : ℕ). drop m s) n in
       split-more sep rest (rw (← is′) h′)
-      ∙ ap (λ (l : List ℕ). before sep rest ∷ split sep l) d
+      ∙ ap (λ (l : List ℕ). beforeFirst sep rest ∷ split sep l) d
       ∙ ap (λ (l : List ℕ). l ∷ split sep (drop (i + e + 1) s)) piece
 
   pub pieces-last : length (take (length s - i) (drop i s)) ≤ e → split sep (drop i s) ≡ take (e - 0) (drop 0 (take (length s - i) (drop i s))) ∷ []

@@ -14,14 +14,14 @@ use Rattle.octets.proofs.Cases.{cases, never}
 use Rattle.octets.proofs.Optional.{missing, some-same, when-is, map-is, both-is}
 use Rattle.calendar.specs.Dates.{dateTimeOf}
 use Rattle.calendar.specs.Durations.{durationIs, durationOf, forwardIs, periodEndOf}
-use Rattle.calendar.specs.Walk.{before}
+use Rattle.calendar.specs.Walk.{beforeFirst}
 use Rattle.calendar.proofs.Pieces.{split-upper}
 use Rattle.json.specs.Tree.{Json, num, str, arr, truth, falsity, noItems, item}
 use Rattle.json.specs.Print.{printString, print, firstItem, moreItems}
 use Rattle.values.specs.Simple.{binaryIs, booleanOf, floatOf, integerOf}
 use Rattle.values.specs.Read.{readBinary, asString, asNumber, geoOf, readGeo, periodOf, readPeriod}
 use Rattle.values.specs.Single.{isPair}
-use Rattle.values.specs.Shown.{behind, stringShown, booleanShown, floatShown, arrayShown, geoShown, endShown, periodShown}
+use Rattle.values.specs.Shown.{behindFirst, stringShown, booleanShown, floatShown, arrayShown, geoShown, endShown, periodShown}
 use Rattle.values.proofs.Halves.{pair-split, geo-none, period-none, slash-uncased}
 
 pub binary-shown : (s : List ℕ) (j : Json) → readBinary s ≡ some j → printString s ≡ print j
@@ -64,7 +64,7 @@ geo-shown s j h = cases (isPair (split (code ";") s))
     (λ t. by (unfold readGeo geoOf in (rw (pair-split (code ";") s t) at h)))
     (λ t. never (ap isSome h ∙ unfold isSome in refl) (geo-none s t))
   where
-    by : both? (λ x y. arr (item (num x) (item (num y) noItems))) (floatOf (before (code ";") s)) (floatOf (behind (code ";") s)) ≡ some j → geoShown s ≡ print j
+    by : both? (λ x y. arr (item (num x) (item (num y) noItems))) (floatOf (beforeFirst (code ";") s)) (floatOf (behindFirst (code ";") s)) ≡ some j → geoShown s ≡ print j
     by e = both-is _ _ _ j e (λ x y a b q. unfold geoShown in (rw (← q) (array-two _ _ (num x) (num y) (unfold print in float-is _ x a) (unfold print in float-is _ y b))))
 
 end-is : (s y : List ℕ) → periodEndOf (upper s) ≡ some y → endShown s ≡ printString y
@@ -84,5 +84,5 @@ period-shown s j h = cases (isPair (split (code "/") s))
     (λ t. by (unfold readPeriod periodOf in (rw (split-upper (code "/") slash-uncased s, pair-split (code "/") s t) at h)))
     (λ t. never (ap isSome h ∙ unfold isSome in refl) (period-none s t))
   where
-    by : both? (λ x y. arr (item (str x) (item (str y) noItems))) (dateTimeOf (upper (before (code "/") s))) (periodEndOf (upper (behind (code "/") s))) ≡ some j → periodShown s ≡ print j
+    by : both? (λ x y. arr (item (str x) (item (str y) noItems))) (dateTimeOf (upper (beforeFirst (code "/") s))) (periodEndOf (upper (behindFirst (code "/") s))) ≡ some j → periodShown s ≡ print j
     by e = both-is _ _ _ j e (λ x y a b q. unfold periodShown in (rw (← q) (array-two _ _ (str x) (str y) (unfold print in start-is _ x a) (unfold print in end-is _ y b))))

@@ -13,28 +13,28 @@ use Rattle.octets.proofs.Cases.{cases, never, both, neither, apart}
 use Rattle.calendar.specs.Texts.{octetsIn, textSaid, Says}
 use Rattle.calendar.specs.declared.texts.Text.{Text}
 use Rattle.json.specs.Print.{escaped, quoted, printString}
-use Rattle.json.specs.Promise.{bareOctet}
+use Rattle.json.specs.Promise.{asIsOctet}
 use Rattle.values.specs.Shown.{stringShown}
 pub use Rattle.jcal_texts.proofs.Counts.{items-json}
 
-escaped-bare : (b : ℕ) → bareOctet b ≡ true → escaped b ≡ b ∷ []
-unfolding escaped bareOctet
+escaped-bare : (b : ℕ) → asIsOctet b ≡ true → escaped b ≡ b ∷ []
+unfolding escaped asIsOctet
 escaped-bare b e =
     let w = neither (eqb b 34) (eqb b 92 or eqb b 10 or eqb b 9) (not-true _ e) in
     let v = neither (eqb b 92) (eqb b 10 or eqb b 9) (w .1) in
     let u = neither (eqb b 10) (eqb b 9) (v .1) in
     rw (w .0, v .0, u .0, u .1)
 
-pub quoted-bare : (xs : List ℕ) → all bareOctet xs ≡ true → quoted xs ≡ xs ++ code "\"" ∷ []
+pub quoted-bare : (xs : List ℕ) → all asIsOctet xs ≡ true → quoted xs ≡ xs ++ code "\"" ∷ []
 unfolding all quoted
 quoted-bare [] h = refl
 quoted-bare (x ∷ xs) h =
-    let b = both (bareOctet x) (all bareOctet xs) h in
+    let b = both (asIsOctet x) (all asIsOctet xs) h in
     rw (escaped-bare x (b .0), quoted-bare xs (b .1))
 
 -- a class without the octets that are escaped
-pub bare-class : (p : ℕ → Bool) → p 34 ≡ false → p 92 ≡ false → p 10 ≡ false → p 9 ≡ false → (c : ℕ) → p c ≡ true → bareOctet c ≡ true
-unfolding bareOctet
+pub bare-class : (p : ℕ → Bool) → p 34 ≡ false → p 92 ≡ false → p 10 ≡ false → p 9 ≡ false → (c : ℕ) → p c ≡ true → asIsOctet c ≡ true
+unfolding asIsOctet
 bare-class p a b d e c h = rw (apart p c 34 h a, apart p c 92 h b, apart p c 10 h d, apart p c 9 h e)
 
 -- a short text that says what was read

@@ -19,8 +19,8 @@ use Rattle.octets.proofs.Classes.{lower-upper}
 use Rattle.octets.proofs.Optional.{when-is, map-is, each-none, each-is}
 use Rattle.octets.proofs.Pieces.{Free, split-free, split-filled, split-last as split-alone}
 use Rattle.calendar.specs.Dates.{momentOf}
-use Rattle.calendar.specs.Recurrence.{Sort, frequency, moment, count, weekday, ordinal, numbers, Key, key, keys, untilOf, itemOf, Part, partsOf}
-use Rattle.calendar.specs.Walk.{before, keyAt, firstPart, itemShown}
+use Rattle.calendar.specs.Recurrence.{PartSort, frequency, moment, count, weekday, ordinal, numbers, Key, key, keys, untilOf, itemOf, Part, partsOf}
+use Rattle.calendar.specs.Walk.{beforeFirst, keyAt, firstPart, itemShown}
 use Rattle.calendar.proofs.Again.{value-octets}
 use Rattle.calendar.proofs.Octets.{itemOctet}
 use Rattle.calendar.proofs.Pieces.{before-all, split-more, split-last, comma-uncased, semicolon-uncased, split-upper}
@@ -28,27 +28,27 @@ use Rattle.calendar.proofs.Showing.{item-shown}
 use Rattle.calendar.proofs.Walk.{readPart, readParts, rule-parts, walked}
 use Rattle.json.specs.Tree.{Json, arr, obj, itemsOf}
 use Rattle.json.specs.Print.{printString, printKey, print, firstMember, moreMembers}
-use Rattle.json.specs.Promise.{bareOctet}
+use Rattle.json.specs.Promise.{asIsOctet}
 use Rattle.content.specs.Parameters.{plainOr}
 use Rattle.values.specs.Recur.{itemJson, partMembers, recurOf}
-use Rattle.values.specs.Shown.{stringShown, itemJsonShown, listShown, itemsShown, keyShown, partShown, recurShown}
+use Rattle.values.specs.Shown.{stringShown, itemJsonShown, listShown, itemsShown, keyShown, partJsonShown, recurShown}
 use Rattle.jcal_values.proofs.Quoting.{quoted-bare, bare-class, end-moment}
 use Rattle.jcal_values.proofs.Lists.{listed-json, array-json}
 
 -- a value of a part
-item-bare : (c : ℕ) → itemOctet c ≡ true → bareOctet c ≡ true
+item-bare : (c : ℕ) → itemOctet c ≡ true → asIsOctet c ≡ true
 unfolding itemOctet isUpper isDigit isSign between
 item-bare = bare-class itemOctet refl refl refl refl
 
-word-json : (k : Sort) (s x : List ℕ) → itemOf k (upper s) ≡ some x → code "\"" ∷ (itemShown k s ++ code "\"" ∷ []) ≡ printString x
+word-json : (k : PartSort) (s x : List ℕ) → itemOf k (upper s) ≡ some x → code "\"" ∷ (itemShown k s ++ code "\"" ∷ []) ≡ printString x
 unfolding printString
-word-json k s x h = rw (item-shown k s x h, quoted-bare x (all-weaker itemOctet bareOctet item-bare x (value-octets k (upper s) x h)))
+word-json k s x h = rw (item-shown k s x h, quoted-bare x (all-weaker itemOctet asIsOctet item-bare x (value-octets k (upper s) x h)))
 
 moment-json : (s x : List ℕ) → untilOf (upper s) ≡ some x → stringShown (momentOf (upper s)) ≡ printString (given x (λ t. t) (momentOf x))
 unfolding untilOf
 moment-json s x h = let w = when-is (isSome (momentOf (upper s))) (upper s) x h in rw (← (w .1)) (end-moment (upper s) (momentOf (upper s)) (w .0))
 
-item-json : (k : Sort) (s x : List ℕ) → itemOf k (upper s) ≡ some x → itemJsonShown k s ≡ print (itemJson k x)
+item-json : (k : PartSort) (s x : List ℕ) → itemOf k (upper s) ≡ some x → itemJsonShown k s ≡ print (itemJson k x)
 unfolding itemJsonShown itemJson print
 item-json frequency s x h = word-json frequency s x h
 item-json moment s x h = moment-json s x (unfold itemOf in h)
@@ -63,7 +63,7 @@ unfolding each
 each-upper f [] = refl
 each-upper f (l ∷ ls) = rw (each-upper f ls)
 
-module _ (k : Sort) where
+module _ (k : PartSort) where
   abbrev R : List ℕ → Option (List ℕ)
   R l = itemOf k (upper l)
 
@@ -87,9 +87,9 @@ module _ (k : Sort) where
   unfolding itemsShown listShown
   values-json v vs h =
       let g : each R (split (code ",") v) ≡ some vs = sym (ap (each (itemOf k)) (split-upper (code ",") comma-uncased v) ∙ each-upper (itemOf k) (split (code ",") v)) ∙ h in
-      cases (ltb (length (before (code ",") v)) (length v))
-      (λ t. let m = split-more (code ",") v (ltb-true _ (length v) t) in rw (t, m) (array (before (code ",") v) _ (split-filled (code ",") _) vs (rw m at g)))
-      (λ t. let l = ltb-false (length (before (code ",") v)) (length v) t in
+      cases (ltb (length (beforeFirst (code ",") v)) (length v))
+      (λ t. let m = split-more (code ",") v (ltb-true _ (length v) t) in rw (t, m) (array (beforeFirst (code ",") v) _ (split-filled (code ",") _) vs (rw m at g)))
+      (λ t. let l = ltb-false (length (beforeFirst (code ",") v)) (length v) t in
       let m : split (code ",") v ≡ v ∷ [] = split-last (code ",") v l ∙ ap (λ (x : List ℕ). x ∷ []) (before-all (code ",") v l) in
       rw t (plain v vs (rw m at g)))
 
@@ -100,11 +100,11 @@ all-at p [] d h e i = e
 all-at p (k ∷ ks) d h e zero = both (p k) (all p ks) h .0
 all-at p (k ∷ ks) d h e (suc i) = all-at p ks d (both (p k) (all p ks) h .1) e i
 
-key-bare : (i : ℕ) → all bareOctet (lower ((keyAt i) .name)) ≡ true
-unfolding keyAt keys all bareOctet lower lowerOctet isUpper between
-key-bare i = all-at (λ (k : Key). all bareOctet (lower (k .name))) keys (key [] frequency) refl refl i
+key-bare : (i : ℕ) → all asIsOctet (lower ((keyAt i) .name)) ≡ true
+unfolding keyAt keys all asIsOctet lower lowerOctet isUpper between
+key-bare i = all-at (λ (k : Key). all asIsOctet (lower (k .name))) keys (key [] frequency) refl refl i
 
-key-json : (n k : List ℕ) → lower n ≡ k → all bareOctet k ≡ true → keyShown n ≡ printKey k
+key-json : (n k : List ℕ) → lower n ≡ k → all asIsOctet k ≡ true → keyShown n ≡ printKey k
 unfolding keyShown printKey printString
 key-json n k e h = rw (e, quoted-bare k h) (ap (λ (l : List ℕ). code "\"" ∷ l) (sym (append-assoc k (code "\"" ∷ []) (octets ":"))))
 
@@ -114,37 +114,37 @@ unfolding readParts each both?
 piece-read p q f h = rw (split-upper (code ";") semicolon-uncased p, split-alone (code ";") p f, h)
 
 part-json : (p : List ℕ) (q : Part) → Free (code ";") p → readPart (upper p) ≡ some q
-    → partShown p ≡ printKey (lower (q .name)) ++ print (plainOr (map (itemJson (q .sort)) (q .values)))
-unfolding partShown
+    → partJsonShown p ≡ printKey (lower (q .name)) ++ print (plainOr (map (itemJson (q .sort)) (q .values)))
+unfolding partJsonShown
 part-json p q f h =
     let w = walked p (q ∷ []) (piece-read p q f h) in
     let e : w .this ≡ q = cc (w .whole) in
     let v = take ((firstPart p) .to - (firstPart p) .from) (drop ((firstPart p) .from) p) in
     let n : lower (take ((firstPart p) .name) p) ≡ lower ((w .this) .name) = sym (lower-upper (take ((firstPart p) .name) p)) ∙ ap lower (w .written) in
-    let b : all bareOctet (lower ((w .this) .name)) ≡ true = ap (λ (l : List ℕ). all bareOctet (lower l)) (w .name) ∙ key-bare ((firstPart p) .key) in
+    let b : all asIsOctet (lower ((w .this) .name)) ≡ true = ap (λ (l : List ℕ). all asIsOctet (lower l)) (w .name) ∙ key-bare ((firstPart p) .key) in
     rw (← e, ← (w .sort), key-json _ _ n b, values-json ((w .this) .sort) v ((w .this) .values) (w .values))
 
 -- the parts
-part-first : (l : List ℕ) (c : Part) (rest : List ℕ) → partShown l ≡ printKey (lower (c .name)) ++ print (plainOr (map (itemJson (c .sort)) (c .values)))
-    → partShown l ++ rest ≡ printKey (lower (c .name)) ++ (print (plainOr (map (itemJson (c .sort)) (c .values))) ++ rest)
+part-first : (l : List ℕ) (c : Part) (rest : List ℕ) → partJsonShown l ≡ printKey (lower (c .name)) ++ print (plainOr (map (itemJson (c .sort)) (c .values)))
+    → partJsonShown l ++ rest ≡ printKey (lower (c .name)) ++ (print (plainOr (map (itemJson (c .sort)) (c .values))) ++ rest)
 part-first l c rest e = rw e (append-assoc (printKey (lower (c .name))) (print (plainOr (map (itemJson (c .sort)) (c .values)))) rest)
 
 parts-json : (l : List ℕ) (ls : List (List ℕ)) (ps : List Part) → All (Free (code ";")) (l ∷ ls) → each readPart (map upper (l ∷ ls)) ≡ some ps
-    → joined (code ",") (map partShown (l ∷ ls)) ++ octets "}" ≡ firstMember (partMembers ps)
+    → joined (code ",") (map partJsonShown (l ∷ ls)) ++ octets "}" ≡ firstMember (partMembers ps)
 unfolding joined partMembers firstMember moreMembers
 parts-json l [] ps f h = each-is readPart (upper l) [] ps h (λ c cs a b q. rw (← q, each-none readPart cs b) (part-first l c (octets "}") (part-json l c (f .0) a)))
 parts-json l (m ∷ ls) ps f h = each-is readPart (upper l) (map upper (m ∷ ls)) ps h (λ c cs a b q. rw (← q)
-    (append-assoc (partShown l) (code "," ∷ joined (code ",") (map partShown (m ∷ ls))) (octets "}")
+    (append-assoc (partJsonShown l) (code "," ∷ joined (code ",") (map partJsonShown (m ∷ ls))) (octets "}")
     ∙ part-first l c _ (part-json l c (f .0) a)
     ∙ ap (λ (x : List ℕ). printKey (lower (c .name)) ++ (print (plainOr (map (itemJson (c .sort)) (c .values))) ++ x)) (others cs (parts-json m ls cs (f .1) b) b)))
   where
-    others : (cs : List Part) → joined (code ",") (map partShown (m ∷ ls)) ++ octets "}" ≡ firstMember (partMembers cs) → each readPart (map upper (m ∷ ls)) ≡ some cs
-        → code "," ∷ (joined (code ",") (map partShown (m ∷ ls)) ++ octets "}") ≡ moreMembers (partMembers cs)
+    others : (cs : List Part) → joined (code ",") (map partJsonShown (m ∷ ls)) ++ octets "}" ≡ firstMember (partMembers cs) → each readPart (map upper (m ∷ ls)) ≡ some cs
+        → code "," ∷ (joined (code ",") (map partJsonShown (m ∷ ls)) ++ octets "}") ≡ moreMembers (partMembers cs)
     others [] e b = each-is readPart (upper m) (map upper ls) [] b (λ d ds x y q. let z : _≡_ {A = ℕ} 0 1 = cc in absurd (omega arith))
     others (d ∷ ds) e b = ap (λ (x : List ℕ). code "," ∷ x) e
 
 pieces-json : (ls : List (List ℕ)) (ps : List Part) → (ls ≡ [] → ⊥) → All (Free (code ";")) ls → each readPart (map upper ls) ≡ some ps
-    → joined (code ",") (map partShown ls) ++ octets "}" ≡ firstMember (partMembers ps)
+    → joined (code ",") (map partJsonShown ls) ++ octets "}" ≡ firstMember (partMembers ps)
 pieces-json [] ps n f h = absurd (n refl)
 pieces-json (l ∷ ls) ps n f h = parts-json l ls ps f h
 

@@ -8,19 +8,19 @@ use Rattle.octets.specs.Optional.{map?, both?, each}
 use Rattle.octets.specs.Classes.{between}
 use Rattle.types.specs.Codes as typed
 use Rattle.json.specs.Tree.{Json, str}
-use Rattle.values.specs.Sorts.{Sort, plain, binary, boolean, date, dateTime, duration, float, geo, integer, period, recur, text, status, time, utcOffset, splits}
+use Rattle.values.specs.Sorts.{Sort, plain, binary, boolean, date, dateTime, duration, float, geo, integer, period, recur, text, status, time, utcOffset, sortSplits}
 use Rattle.values.specs.Texts.{texts}
 use Rattle.values.specs.Read.{alone, listed, readValues}
 use Rattle.values.specs.Single.{readOne, isText}
-use Rattle.jcal_values.specs.Parts.{pieces}
+use Rattle.jcal_values.specs.Parts.{valuePieces}
 
 alone-each : (o : Option Json) → alone o ≡ both? _∷_ o (some [])
 unfolding alone map? both?
 alone-each none = refl
 alone-each (some j) = refl
 
-pub sorted : (sort : Sort) (s : List ℕ) → readValues sort s ≡ pick (isText sort) (map? (map str) (texts s)) (each (readOne sort) (pieces (splits sort) s))
-unfolding readValues listed readOne isText splits typed.splits between pieces each
+pub sorted : (sort : Sort) (s : List ℕ) → readValues sort s ≡ pick (isText sort) (map? (map str) (texts s)) (each (readOne sort) (valuePieces (sortSplits sort) s))
+unfolding readValues listed readOne isText sortSplits typed.typeSplits between valuePieces each
 sorted plain s = alone-each _
 sorted binary s = alone-each _
 sorted boolean s = refl

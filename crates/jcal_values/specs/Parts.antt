@@ -6,17 +6,17 @@ use mathlib.Core.List.{List, [], _∷_, _++_}
 use lib.ListN.{length}
 use Rattle.octets.specs.Basics.{octets}
 use Rattle.octets.specs.Pieces.{split}
-use Rattle.calendar.specs.Recurrence.{Sort as Kind}
-use Rattle.calendar.specs.Walk.{before, itemShown}
+use Rattle.calendar.specs.Recurrence.{PartSort as Kind}
+use Rattle.calendar.specs.Walk.{beforeFirst, itemShown}
 use Rattle.values.specs.Shown.{listShown}
 
 -- the values between commas, or one alone; and where the first ends
-unfoldable pub pieces : Bool → List ℕ → List (List ℕ)
-pieces true s = split (code ",") s
-pieces false s = s ∷ []
+unfoldable pub valuePieces : Bool → List ℕ → List (List ℕ)
+valuePieces true s = split (code ",") s
+valuePieces false s = s ∷ []
 
 unfoldable pub firstEnd : Bool → List ℕ → ℕ
-firstEnd true s = length (before (code ",") s)
+firstEnd true s = length (beforeFirst (code ",") s)
 firstEnd false s = length s
 
 abbrev pub commaList : (List ℕ → List ℕ) → List ℕ → List ℕ

@@ -3,14 +3,14 @@ ghost use mathlib.Core.Path.{_≡_};
 ghost use Rattle.octets.specs.Basics.{_or_, single};
 ghost use Rattle.octets.specs.Optional.{isSome, guard, each};
 ghost use Rattle.octets.specs.Pen.{pen};
-ghost use Rattle.values.specs.Sorts.{splits};
+ghost use Rattle.values.specs.Sorts.{sortSplits};
 ghost use Rattle.values.specs.Read.{readValues};
 ghost use Rattle.values.specs.Single.{readOne};
 ghost use Rattle.values.specs.Shown.{valuesJson};
 ghost use Rattle.values.specs.Coded.{sortSaid};
 ghost use Rattle.jcal_texts.specs.Trying.{Tried};
 ghost use Rattle.jcal_values.specs.Attempts.{Attempted};
-ghost use Rattle.jcal_values.specs.Parts.{firstEnd, pieces};
+ghost use Rattle.jcal_values.specs.Parts.{firstEnd, valuePieces};
 use crate::single::put_tested_one;
 use calendar::parts::find;
 use jcal_texts::Attempt;
@@ -20,7 +20,7 @@ use values::Sort;
 
 // Where the first value ends: at a comma, where values of the sort split.
 fn value_end(sort: Sort, s: &[u8]) -> usize
-    ensures { λ r. ⌜ r ≡ firstEnd (splits (sortSaid sort)) (now (s .entry)) ⌝ }
+    ensures { λ r. ⌜ r ≡ firstEnd (sortSplits (sortSaid sort)) (now (s .entry)) ⌝ }
 {
     if sort.splits() {
         return find(s, b',');
@@ -30,7 +30,7 @@ fn value_end(sort: Sort, s: &[u8]) -> usize
 
 // Tests values that are read one by one, one only where there may not be many, and writes each with a comma before it.
 fn put_tested_list(out: &mut [u8], at: usize, sort: Sort, many: bool, raw: &[u8]) -> Attempt
-    ensures { λ r. ⌜ Tried (guard (λ vs. many or single vs) (each (readOne (sortSaid sort)) (pieces (splits (sortSaid sort)) (now (raw .entry))))) valuesJson (pen (now (out .entry)) at) (now (out .exit)) r ⌝ }
+    ensures { λ r. ⌜ Tried (guard (λ vs. many or single vs) (each (readOne (sortSaid sort)) (valuePieces (sortSplits (sortSaid sort)) (now (raw .entry))))) valuesJson (pen (now (out .entry)) at) (now (out .exit)) r ⌝ }
 {
     let mut p = at;
     let mut i = 0;

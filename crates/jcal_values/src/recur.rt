@@ -1,7 +1,7 @@
 // The recurrence object of jCal, written from a recurrence rule.
 ghost use Rattle.octets.specs.Pen.{pen, Wrote};
-ghost use Rattle.calendar.specs.Walk.{sortSaid};
-ghost use Rattle.values.specs.Shown.{itemJsonShown, itemsShown, keyShown, partShown, recurShown};
+ghost use Rattle.calendar.specs.Walk.{partSortSaid};
+ghost use Rattle.values.specs.Shown.{itemJsonShown, itemsShown, keyShown, partJsonShown, recurShown};
 ghost use Rattle.jcal_values.specs.Parts.{commaList, semicolonList, wordShown};
 use crate::forms::put_short;
 use calendar::items::put_item;
@@ -16,7 +16,7 @@ use octets::put_lower;
 
 // Writes a value of a part between quotes.
 fn put_quoted(out: &mut [u8], at: usize, sort: ItemSort, s: &[u8]) -> usize
-    ensures { λ r. ⌜ Wrote (pen (now (out .entry)) at) (wordShown (sortSaid sort) (now (s .entry))) (pen (now (out .exit)) r) ⌝ }
+    ensures { λ r. ⌜ Wrote (pen (now (out .entry)) at) (wordShown (partSortSaid sort) (now (s .entry))) (pen (now (out .exit)) r) ⌝ }
 {
     let first = put(out, at, b'"');
     let close = put_item(out, first, sort, s);
@@ -25,7 +25,7 @@ fn put_quoted(out: &mut [u8], at: usize, sort: ItemSort, s: &[u8]) -> usize
 
 // Writes a value of a part.
 fn put_item_json(out: &mut [u8], at: usize, sort: ItemSort, s: &[u8]) -> usize
-    ensures { λ r. ⌜ Wrote (pen (now (out .entry)) at) (itemJsonShown (sortSaid sort) (now (s .entry))) (pen (now (out .exit)) r) ⌝ }
+    ensures { λ r. ⌜ Wrote (pen (now (out .entry)) at) (itemJsonShown (partSortSaid sort) (now (s .entry))) (pen (now (out .exit)) r) ⌝ }
 {
     match sort {
         ItemSort::Frequency => put_quoted(out, at, sort, &*s),
@@ -39,7 +39,7 @@ fn put_item_json(out: &mut [u8], at: usize, sort: ItemSort, s: &[u8]) -> usize
 
 // Writes the values of a part with a comma between them.
 fn put_item_list(out: &mut [u8], at: usize, sort: ItemSort, v: &[u8]) -> usize
-    ensures { λ r. ⌜ Wrote (pen (now (out .entry)) at) (commaList (itemJsonShown (sortSaid sort)) (now (v .entry))) (pen (now (out .exit)) r) ⌝ }
+    ensures { λ r. ⌜ Wrote (pen (now (out .entry)) at) (commaList (itemJsonShown (partSortSaid sort)) (now (v .entry))) (pen (now (out .exit)) r) ⌝ }
 {
     let mut p = at;
     let mut i = 0;
@@ -57,7 +57,7 @@ fn put_item_list(out: &mut [u8], at: usize, sort: ItemSort, v: &[u8]) -> usize
 
 // Writes the values of a part: one plain, several as an array.
 fn put_items(out: &mut [u8], at: usize, sort: ItemSort, v: &[u8]) -> usize
-    ensures { λ r. ⌜ Wrote (pen (now (out .entry)) at) (itemsShown (sortSaid sort) (now (v .entry))) (pen (now (out .exit)) r) ⌝ }
+    ensures { λ r. ⌜ Wrote (pen (now (out .entry)) at) (itemsShown (partSortSaid sort) (now (v .entry))) (pen (now (out .exit)) r) ⌝ }
 {
     if find(v, b',') >= v.len() {
         return put_item_json(out, at, sort, v);
@@ -78,7 +78,7 @@ fn put_key(out: &mut [u8], at: usize, name: &[u8]) -> usize
 
 // Writes a part as a member.
 fn put_part(out: &mut [u8], at: usize, s: &[u8]) -> usize
-    ensures { λ r. ⌜ Wrote (pen (now (out .entry)) at) (partShown (now (s .entry))) (pen (now (out .exit)) r) ⌝ }
+    ensures { λ r. ⌜ Wrote (pen (now (out .entry)) at) (partJsonShown (now (s .entry))) (pen (now (out .exit)) r) ⌝ }
 {
     let part = first_part(s);
     let name = part.name;
@@ -90,7 +90,7 @@ fn put_part(out: &mut [u8], at: usize, s: &[u8]) -> usize
 
 // Writes the parts with a comma between them.
 fn put_parts(out: &mut [u8], at: usize, s: &[u8]) -> usize
-    ensures { λ r. ⌜ Wrote (pen (now (out .entry)) at) (semicolonList partShown (now (s .entry))) (pen (now (out .exit)) r) ⌝ }
+    ensures { λ r. ⌜ Wrote (pen (now (out .entry)) at) (semicolonList partJsonShown (now (s .entry))) (pen (now (out .exit)) r) ⌝ }
 {
     let mut p = at;
     let mut i = 0;

@@ -10,7 +10,7 @@ use denote.Enum.Declared.{tagOf}
 use lib.ListN.{length, drop}
 use Rattle.octets.specs.Pen.{Pen, pen, Wrote}
 use Rattle.octets.proofs.Pen as pens
-use Rattle.json.specs.Reads.{Out, ok, deep, bad, fmap, then}
+use Rattle.json.specs.Reads.{Out, ok, deep, bad, fmap, andThen}
 use Rattle.json.specs.Promise.{Agrees, read, too-deep, not-json, FoundAt, found, missing}
 use Rattle.json.specs.declared.Step.{Step}
 use Rattle.json.specs.declared.Step.the-variants.{Read, TooDeep, NotJson}
@@ -90,10 +90,10 @@ no-read h = ⊎-elim (λ y. omega arith) (λ y. omega arith) h
 
 -- what is read first fails, and so does the whole
 pub agrees-fails : {A B : Type 0} {f : A → List ℕ} {g : B → List ℕ} {text : List ℕ} {low low′ : ℕ} {p p′ : Pen} {t : List ℕ} {o : Out A} {v : Step} (k : A → List ℕ → Out B)
-    → OneOf (1 ∷ 2 ∷ []) (tagOf the-type v) → Agrees f text low p t o v → Agrees g text low′ p′ t (then o k) v
+    → OneOf (1 ∷ 2 ∷ []) (tagOf the-type v) → Agrees f text low p t o v → Agrees g text low′ p′ t (andThen o k) v
 agrees-fails k h (read a w l b wr) = absurd (no-read h)
-agrees-fails {A} {B} k h (too-deep w) = too-deep (ap (λ (x : Out A). then x k) w)
-agrees-fails {A} {B} k h (not-json w) = not-json (ap (λ (x : Out A). then x k) w)
+agrees-fails {A} {B} k h (too-deep w) = too-deep (ap (λ (x : Out A). andThen x k) w)
+agrees-fails {A} {B} k h (not-json w) = not-json (ap (λ (x : Out A). andThen x k) w)
 
 -- a loop reads on: whatever answers for the reading from i with the pen q answers for the reading from i₀ with the pen p
 pub record Going {A : Type 0} (f : A → List ℕ) (R : List ℕ → Out A) (text : List ℕ) (low : ℕ) (p : Pen) (i₀ : ℕ) (q : Pen) (i : ℕ) : Type 0 where

@@ -14,8 +14,8 @@ use Rattle.octets.proofs.Cases.{cases}
 use Rattle.octets.proofs.Pen as pens
 use Rattle.octets.proofs.Positions.{here, ended}
 use Rattle.json.specs.Tree.{Json}
-use Rattle.json.specs.Reads.{Out, bad, fmap, then, isSpace, skip, word}
-use Rattle.json.specs.Reader.{Mark, comma, close, odd, markOf, key, pair, afterElement, onMark, elements, elementsFrom, group}
+use Rattle.json.specs.Reads.{Out, bad, fmap, andThen, isSpace, skipSpace, literal}
+use Rattle.json.specs.Reader.{Separator, comma, close, odd, separatorOf, memberKey, pair, afterElement, onMark, elementsUpTo, elementsFrom, bracketed}
 use Rattle.json.specs.Tape.{tagEnd, serString, ser}
 use Rattle.json.specs.Promise.{Run, Agrees}
 use Rattle.json.specs.declared.Step.{Step}
@@ -32,50 +32,50 @@ abbrev pub Shortens : {A : Type 0} → (List ℕ → Out A) → Type 0
 Shortens P = (s : List ℕ) → Gives (λ _ t. length t < length s) (P s)
 
 unfoldable pub several : {A : Type 0} → ℕ → (List ℕ → Out A) → List ℕ → Out (List A)
-several end P s = elements end P (suc (length s)) s
+several end P s = elementsUpTo end P (suc (length s)) s
 
 module _ {A : Type 0} (end : ℕ) (P : List ℕ → Out A) (h : Shortens P) where
   -- what follows an element
   abbrev After : (List ℕ → Out (List A)) → A → List ℕ → Out (List A)
-  After more a s = onMark end (λ m u. afterElement m more a u) (skip s)
+  After more a s = onMark end (λ m u. afterElement m more a u) (skipSpace s)
 
   after-alike : (more more′ : List ℕ → Out (List A)) (a : A) (t : List ℕ) → ((u : List ℕ) → length u < length t → more u ≡ more′ u) → After more a t ≡ After more′ a t
-  after-alike more more′ a t e = go (skip t) (skip-less t)
+  after-alike more more′ a t e = go (skipSpace t) (skip-less t)
     where
-      mark : (m : Mark) (u : List ℕ) → length u < length t → afterElement m more a u ≡ afterElement m more′ a u
-      mark comma u l = unfold afterElement in ap (fmap (λ w. a ∷ w)) (e (skip u) (omega (arith, skip-less u)))
+      mark : (m : Separator) (u : List ℕ) → length u < length t → afterElement m more a u ≡ afterElement m more′ a u
+      mark comma u l = unfold afterElement in ap (fmap (λ w. a ∷ w)) (e (skipSpace u) (omega (arith, skip-less u)))
       mark close u l = unfold afterElement in refl
       mark odd u l = unfold afterElement in refl
 
       go : (v : List ℕ) → length v ≤ length t → onMark end (λ m u. afterElement m more a u) v ≡ onMark end (λ m u. afterElement m more′ a u) v
       go [] l = unfold onMark in refl
-      go (b ∷ u) l = unfold onMark in mark (markOf end b) u (omega arith)
+      go (b ∷ u) l = unfold onMark in mark (separatorOf end b) u (omega arith)
 
-  elements-enough : (n m : ℕ) (s : List ℕ) → length s < n → length s < m → elements end P n s ≡ elements end P m s
-  unfolding elements
+  elements-enough : (n m : ℕ) (s : List ℕ) → length s < n → length s < m → elementsUpTo end P n s ≡ elementsUpTo end P m s
+  unfolding elementsUpTo
   elements-enough zero m s k l = absurd (omega arith)
   elements-enough (suc n) zero s k l = absurd (omega arith)
   elements-enough (suc n) (suc m) s k l = then-alike (P s) _ _
-      (gives-weaker _ _ (P s) (h s) (λ a t w. after-alike (elements end P n) (elements end P m) a t (λ u v. elements-enough n m u (omega arith) (omega arith))))
+      (gives-weaker _ _ (P s) (h s) (λ a t w. after-alike (elementsUpTo end P n) (elementsUpTo end P m) a t (λ u v. elements-enough n m u (omega arith) (omega arith))))
 
   -- an element, and what follows it
-  several-step : (s : List ℕ) → several end P s ≡ then (P s) (After (several end P))
-  unfolding several elements
+  several-step : (s : List ℕ) → several end P s ≡ andThen (P s) (After (several end P))
+  unfolding several elementsUpTo
   several-step s = then-alike (P s) _ _
-      (gives-weaker _ _ (P s) (h s) (λ a t w. after-alike (elements end P (length s)) (several end P) a t (λ u v. elements-enough (length s) (suc (length u)) u (omega arith) (omega arith))))
+      (gives-weaker _ _ (P s) (h s) (λ a t w. after-alike (elementsUpTo end P (length s)) (several end P) a t (λ u v. elements-enough (length s) (suc (length u)) u (omega arith) (omega arith))))
 
 -- what follows `[` or `{`, by the octet at i, behind white space
 module _ {A : Type 0} (f : A → List ℕ) (end : ℕ) (P : List ℕ → Out A) (text : List ℕ) {at i : ℕ} (blank : Run isSpace text at i) where
-  group-ends : getD text i 0 ≡ end → 0 < end → group end P (drop at text) ≡ fmap (λ _. []) (word (end ∷ []) (drop i text))
-  unfolding group elementsFrom word
+  group-ends : getD text i 0 ≡ end → 0 < end → bracketed end P (drop at text) ≡ fmap (λ _. []) (literal (end ∷ []) (drop i text))
+  unfolding bracketed elementsFrom literal
   group-ends e z = rw (← (skip-run text blank), here text i (inside-is text i end e z), eq-eqb _ end e)
 
-  pub group-none : {low : ℕ} {p : Pen} {t : List ℕ} {r : Step} → getD text i 0 ≡ end → 0 < end → Agrees (λ _. tagEnd ∷ []) text low p t (word (end ∷ []) (drop i text)) r → Agrees (serList f) text low p t (group end P (drop at text)) r
+  pub group-none : {low : ℕ} {p : Pen} {t : List ℕ} {r : Step} → getD text i 0 ≡ end → 0 < end → Agrees (λ _. tagEnd ∷ []) text low p t (literal (end ∷ []) (drop i text)) r → Agrees (serList f) text low p t (bracketed end P (drop at text)) r
   unfolding serList
   group-none {low} e z x = agrees-by (group-ends e z) (le-refl low) (agrees-map (serList f) (λ _. []) (λ _. refl) x)
 
-  pub group-some : P [] ≡ bad → ((getD text i 0 ≡ end) → ⊥) → group end P (drop at text) ≡ several end P (drop i text)
-  unfolding group elementsFrom several elements
+  pub group-some : P [] ≡ bad → ((getD text i 0 ≡ end) → ⊥) → bracketed end P (drop at text) ≡ several end P (drop i text)
+  unfolding bracketed elementsFrom several elementsUpTo
   group-some none n = cases (ltb i (length text))
       (λ h. rw (← (skip-run text blank), here text i (ltb-true i (length text) h), ne-eqb _ end n))
       (λ h. rw (← (skip-run text blank), ended text i (ltb-false i (length text) h), none))
@@ -98,25 +98,25 @@ module _ {A : Type 0} (f : A → List ℕ) (end : ℕ) (P : List ℕ → Out A) 
         tape w = unfold serList in refl
 
         step : onMark end (λ m u. afterElement m (several end P) (x .it) u) (drop n text) ≡ fmap (λ w. x .it ∷ w) (several end P (drop i′ text))
-        step = unfold onMark markOf afterElement in rw (here text n (inside-is text n 44 c (omega arith)), c, ← (skip-run text next))
+        step = unfold onMark separatorOf afterElement in rw (here text n (inside-is text n 44 c (omega arith)), c, ← (skip-run text next))
 
-    element-last : ((getD text n 0 ≡ 44) → ⊥) → onMark end (λ m u. afterElement m (several end P) (x .it) u) (drop n text) ≡ fmap (λ _. x .it ∷ []) (word (end ∷ []) (drop n text))
-    unfolding onMark markOf afterElement word
+    element-last : ((getD text n 0 ≡ 44) → ⊥) → onMark end (λ m u. afterElement m (several end P) (x .it) u) (drop n text) ≡ fmap (λ _. x .it ∷ []) (literal (end ∷ []) (drop n text))
+    unfolding onMark separatorOf afterElement literal
     element-last c = cases (ltb n (length text))
         (λ k. rw (here text n (ltb-true n (length text) k), ne-eqb _ 44 c) (cases (eqb (getD text n 0) end) (λ y. rw y) (λ y. rw y)))
         (λ k. rw (ended text n (ltb-false n (length text) k)))
 
-    pub element-close : {t₁ : List ℕ} {r : Step} → ((getD text n 0 ≡ 44) → ⊥) → low ≤ n + 1 → Agrees (λ _. tagEnd ∷ []) text (n + 1) (pen t to) t₁ (word (end ∷ []) (drop n text)) r → Agrees (serList f) text low p t₁ (several end P (drop i₀ text)) r
+    pub element-close : {t₁ : List ℕ} {r : Step} → ((getD text n 0 ≡ 44) → ⊥) → low ≤ n + 1 → Agrees (λ _. tagEnd ∷ []) text (n + 1) (pen t to) t₁ (literal (end ∷ []) (drop n text)) r → Agrees (serList f) text low p t₁ (several end P (drop i₀ text)) r
     unfolding serList
     element-close {t₁} {r} c k y = g .goes t₁ r (agrees-by (element-then ∙ element-last c) k (agrees-after (serList f) (λ _. x .it ∷ []) (x .wrote) (λ _. refl) y))
 
 -- a key and its value
 module _ (P : List ℕ → Out Json) {text : List ℕ} {p : Pen} {t : List ℕ} (i : ℕ) where
-  pub pair-agrees : {t₁ : List ℕ} {a to : ℕ} {v : Step} → HasRead serString text (i + 1) p t (key (drop i text)) a to → Agrees ser text (a + 1) (pen t to) t₁ (P (drop a text)) v → Agrees serPair text (i + 1) p t₁ (pair P (drop i text)) v
+  pub pair-agrees : {t₁ : List ℕ} {a to : ℕ} {v : Step} → HasRead serString text (i + 1) p t (memberKey (drop i text)) a to → Agrees ser text (a + 1) (pen t to) t₁ (P (drop a text)) v → Agrees serPair text (i + 1) p t₁ (pair P (drop i text)) v
   unfolding pair
-  pair-agrees {a = a} x y = agrees-by {low = a + 1} (ap (λ (o : Out (List ℕ)). then o (λ k s. fmap (λ j. record { key = k; it = j }) (P s))) (x .is)) (omega (arith, x .above))
+  pair-agrees {a = a} x y = agrees-by {low = a + 1} (ap (λ (o : Out (List ℕ)). andThen o (λ k s. fmap (λ j. record { key = k; it = j }) (P s))) (x .is)) (omega (arith, x .above))
       (agrees-after serPair (λ j. record { key = x .it; it = j }) (x .wrote) (λ j. refl) y)
 
-  pub pair-fails : {l l′ : ℕ} {v : Step} → OneOf (1 ∷ 2 ∷ []) (tagOf the-type v) → Agrees serString text l p t (key (drop i text)) v → Agrees serPair text l′ p t (pair P (drop i text)) v
+  pub pair-fails : {l l′ : ℕ} {v : Step} → OneOf (1 ∷ 2 ∷ []) (tagOf the-type v) → Agrees serString text l p t (memberKey (drop i text)) v → Agrees serPair text l′ p t (pair P (drop i text)) v
   unfolding pair
   pair-fails not x = agrees-fails _ not x

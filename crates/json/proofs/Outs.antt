@@ -4,7 +4,7 @@ use mathlib.Core.Path.{_≡_, refl}
 use mathlib.Core.Bool.{Bool, true, false}
 use mathlib.Core.List.{List}
 use Rattle.octets.specs.Basics.{pick}
-use Rattle.json.specs.Reads.{Out, ok, deep, bad, fmap, then}
+use Rattle.json.specs.Reads.{Out, ok, deep, bad, fmap, andThen}
 
 -- what was read and what is left have P
 abbrev pub Gives : {A : Type 0} → (A → List ℕ → Type 0) → Out A → Type 0
@@ -12,7 +12,7 @@ Gives P (ok a s) = P a s
 Gives P deep = Unit {0}
 Gives P bad = Unit {0}
 
-pub gives-then : {A B : Type 0} (P : A → List ℕ → Type 0) (Q : B → List ℕ → Type 0) (o : Out A) (k : A → List ℕ → Out B) → Gives P o → ((a : A) (s : List ℕ) → P a s → Gives Q (k a s)) → Gives Q (then o k)
+pub gives-then : {A B : Type 0} (P : A → List ℕ → Type 0) (Q : B → List ℕ → Type 0) (o : Out A) (k : A → List ℕ → Out B) → Gives P o → ((a : A) (s : List ℕ) → P a s → Gives Q (k a s)) → Gives Q (andThen o k)
 gives-then P Q (ok a s) k h f = f a s h
 gives-then P Q deep k h f = tt
 gives-then P Q bad k h f = tt
@@ -36,7 +36,7 @@ by R true f g = f refl
 by R false f g = g refl
 
 -- what follows is asked only of what was given
-pub then-alike : {A B : Type 0} (o : Out A) (k k′ : A → List ℕ → Out B) → Gives (λ a s. k a s ≡ k′ a s) o → then o k ≡ then o k′
+pub then-alike : {A B : Type 0} (o : Out A) (k k′ : A → List ℕ → Out B) → Gives (λ a s. k a s ≡ k′ a s) o → andThen o k ≡ andThen o k′
 then-alike (ok a s) k k′ h = h
 then-alike deep k k′ h = refl
 then-alike bad k k′ h = refl

@@ -13,11 +13,11 @@ use Rattle.octets.specs.Basics.{_or_, all, All}
 use Rattle.octets.specs.Classes.{isDigit, between, isControl, plainOctet, textOctet}
 use Rattle.octets.specs.Limits.{mostOpen}
 use Rattle.octets.proofs.Cases.{cases, same?, never, both, neither, either, or-first, or-second, apart, apart-not}
-use Rattle.json.specs.Tree.{Json, null, falsity, truth, num, str, arr, obj, Items, noItems, item, Members, noMembers, member, itemsOf, listOf}
-use Rattle.json.specs.Reads.{Out, ok, deep, bad, fmap, then, isSpace, skip, word}
-use Rattle.json.specs.Numbers.{Place, start, minus, zero as zeroPlace, int, point, frac, e, sign, exp, beyond, isExponent, isPlusMinus, behindInt, firstDigit, advance, isBeyond, mayEnd, scan, number}
-use Rattle.json.specs.Strings.{escapeOf, escape, piece, pieces, string}
-use Rattle.json.specs.Reader.{numeral, kindOf, markOf, colon, key, Pair, pair, membersOf, afterElement, onMark, elements, elementsFrom, group, valueOf, valueWith, value, ended, parseText}
+use Rattle.json.specs.Tree.{Json, null, falsity, truth, num, str, arr, obj, Items, noItems, item, Members, noMembers, member, itemsOf, listOfItems}
+use Rattle.json.specs.Reads.{Out, ok, deep, bad, fmap, andThen, isSpace, skipSpace, literal}
+use Rattle.json.specs.Numbers.{NumberPlace, start, minus, zero as zeroPlace, int, point, frac, e, sign, exp, beyond, isExponent, isPlusMinus, behindInt, firstDigit, advance, isBeyond, numberEnds, scan, numberRead}
+use Rattle.json.specs.Strings.{escapeOf, escape, piece, stringPieces, string}
+use Rattle.json.specs.Reader.{numeral, openingOf, separatorOf, colon, memberKey, Pair, pair, membersFrom, afterElement, onMark, elementsUpTo, elementsFrom, bracketed, valueBy, valueWith, valueWithin, nothingBehind, parseText}
 use Rattle.json.specs.Print.{escaped, quoted, printString, printKey, print, firstItem, moreItems, firstMember, moreMembers}
 
 -- an octet that a printed string may hold: newline and tab, which are escaped, and all from 32 on
@@ -30,7 +30,7 @@ mutual
     p-null : Printable null
     p-false : Printable falsity
     p-true : Printable truth
-    p-num : {t : List ℕ} → number t ≡ ok t [] → Printable (num t)
+    p-num : {t : List ℕ} → numberRead t ≡ ok t [] → Printable (num t)
     p-str : {s : List ℕ} → all fitOctet s ≡ true → Printable (str s)
     p-arr : {js : Items} → PrintableItems js → Printable (arr js)
     p-obj : {ms : Members} → PrintableMembers ms → Printable (obj ms)
@@ -91,7 +91,7 @@ alien b h =
     digit-48 : isDigit 48 ≡ true
     digit-48 = unfold isDigit between in refl
 
-pub advance-stop : (q : Place) (b : ℕ) → Alien b → advance q b ≡ beyond
+pub advance-stop : (q : NumberPlace) (b : ℕ) → Alien b → advance q b ≡ beyond
 unfolding advance firstDigit behindInt isPlusMinus
 advance-stop start b a = rw (a .hyphen, a .nought, a .digit)
 advance-stop minus b a = rw (a .nought, a .digit)
@@ -105,25 +105,25 @@ advance-stop exp b a = rw (a .digit)
 advance-stop beyond b a = refl
 
 -- what a scan that reaches the end says of its last place
-ends : (q : Place) → scan q [] ≡ ok tt [] → mayEnd q ≡ true
+ends : (q : NumberPlace) → scan q [] ≡ ok tt [] → numberEnds q ≡ true
 unfolding scan
-ends q h = cases (mayEnd q) (λ y. y) (λ n. let z : _≡_ {A = Out (Unit {0})} bad (ok tt []) = rw n at h in absurd (never-ok z))
+ends q h = cases (numberEnds q) (λ y. y) (λ n. let z : _≡_ {A = Out (Unit {0})} bad (ok tt []) = rw n at h in absurd (never-ok z))
   where
     never-ok : _≡_ {A = Out (Unit {0})} bad (ok tt []) → ⊥
     never-ok z = let y : _≡_ {A = ℕ} 0 1 = cc in omega arith
 
-scan-stops : (q : Place) (r : List ℕ) → mayEnd q ≡ true → Stop r → scan q r ≡ ok tt r
+scan-stops : (q : NumberPlace) (r : List ℕ) → numberEnds q ≡ true → Stop r → scan q r ≡ ok tt r
 unfolding scan isBeyond
 scan-stops q [] m st = rw m
 scan-stops q (b ∷ s) m st = rw (advance-stop q b (alien b st), m)
 
-scan-goes : (q : Place) (b : ℕ) (t : List ℕ) → scan q (b ∷ t) ≡ ok tt [] → isBeyond (advance q b) ≡ false
+scan-goes : (q : NumberPlace) (b : ℕ) (t : List ℕ) → scan q (b ∷ t) ≡ ok tt [] → isBeyond (advance q b) ≡ false
 unfolding scan
-scan-goes q b t h = cases (isBeyond (advance q b)) (λ y. absurd (cases (mayEnd q)
+scan-goes q b t h = cases (isBeyond (advance q b)) (λ y. absurd (cases (numberEnds q)
     (λ m. let z : ok tt (b ∷ t) ≡ ok tt [] = rw (y, m) at h in let x : _≡_ {A = ℕ} 0 1 = cc in omega arith)
     (λ m. let z : _≡_ {A = Out (Unit {0})} bad (ok tt []) = rw (y, m) at h in let x : _≡_ {A = ℕ} 0 1 = cc in omega arith))) (λ n. n)
 
-scan-more : (q : Place) (t r : List ℕ) → scan q t ≡ ok tt [] → Stop r → scan q (t ++ r) ≡ ok tt r
+scan-more : (q : NumberPlace) (t r : List ℕ) → scan q t ≡ ok tt [] → Stop r → scan q (t ++ r) ≡ ok tt r
 unfolding scan
 scan-more q [] r h st = scan-stops q r (ends q h) st
 scan-more q (b ∷ t) r h st =
@@ -131,24 +131,24 @@ scan-more q (b ∷ t) r h st =
     rw n (scan-more (advance q b) t r (rw n at h) st)
 
 -- the text of a number is scanned to its end
-number-scans : (t : List ℕ) → number t ≡ ok t [] → scan start t ≡ ok tt []
-unfolding number
+number-scans : (t : List ℕ) → numberRead t ≡ ok t [] → scan start t ≡ ok tt []
+unfolding numberRead
 number-scans t h = go (scan start t) refl h
   where
-    go : (o : Out (Unit {0})) → scan start t ≡ o → then o (λ _ u. ok (take (length t - length u) t) u) ≡ ok t [] → scan start t ≡ ok tt []
+    go : (o : Out (Unit {0})) → scan start t ≡ o → andThen o (λ _ u. ok (take (length t - length u) t) u) ≡ ok t [] → scan start t ≡ ok tt []
     go (ok tt []) w k = w
     go (ok tt (b ∷ s)) w k = let x : _≡_ {A = ℕ} 0 1 = cc in absurd (omega arith)
     go deep w k = let x : _≡_ {A = ℕ} 0 1 = cc in absurd (omega arith)
     go bad w k = let x : _≡_ {A = ℕ} 0 1 = cc in absurd (omega arith)
 
-pub number-stops : (t r : List ℕ) → number t ≡ ok t [] → Stop r → number (t ++ r) ≡ ok t r
-unfolding number
+pub number-stops : (t r : List ℕ) → numberRead t ≡ ok t [] → Stop r → numberRead (t ++ r) ≡ ok t r
+unfolding numberRead
 number-stops t r h st =
     let n : length (t ++ r) - length r ≡ length t = omega (arith, length-append t r) in
     rw (scan-more start t r (number-scans t h) st, n, take-append-seam)
 
 -- and its first octet says that it is one
-numeral-first : (b : ℕ) (s : List ℕ) → number (b ∷ s) ≡ ok (b ∷ s) [] → (eqb b 45 or isDigit b) ≡ true
+numeral-first : (b : ℕ) (s : List ℕ) → numberRead (b ∷ s) ≡ ok (b ∷ s) [] → (eqb b 45 or isDigit b) ≡ true
 numeral-first b s h = cases (eqb b 45 or isDigit b) (λ y. y) (λ n. never (goes n) (scan-goes start b s (number-scans (b ∷ s) h)))
   where
     goes : (eqb b 45 or isDigit b) ≡ false → isBeyond (advance start b) ≡ true
@@ -159,8 +159,8 @@ numeral-first b s h = cases (eqb b 45 or isDigit b) (λ y. y) (λ n. never (goes
         digit-48 : isDigit 48 ≡ true
         digit-48 = unfold isDigit between in refl
 
-numeral-kind : (b : ℕ) → (eqb b 45 or isDigit b) ≡ true → kindOf b ≡ numeral
-unfolding kindOf isDigit between
+numeral-kind : (b : ℕ) → (eqb b 45 or isDigit b) ≡ true → openingOf b ≡ numeral
+unfolding openingOf isDigit between
 numeral-kind b y = rw (apart numeric b 91 y refl, apart numeric b 123 y refl, apart numeric b 34 y refl, y)
   where
     numeric : ℕ → Bool
@@ -179,8 +179,8 @@ unfolding fitOctet
 written b h = same? b 34 (λ q. rw q w-quote) (λ nq. same? b 92 (λ q. rw q w-backslash) (λ nb. same? b 10 (λ q. rw q w-newline) (λ nn. same? b 9 (λ q. rw q w-tab)
     (λ nt. w-bare nq nb nn nt (le-ltb b 32 (either (leb 32 b) (eqb b 10 or eqb b 9) h (λ l. leb-true 32 b l) (λ x. either (eqb b 10) (eqb b 9) x (λ y. never y nn) (λ y. never y nt))))))))
 
-pieces-written : {b : ℕ} (n : ℕ) (s : List ℕ) → Written b → pieces (suc n) (escaped b ++ s) ≡ fmap (λ ys. b ∷ ys) (pieces n s)
-unfolding pieces escaped piece escape escapeOf
+pieces-written : {b : ℕ} (n : ℕ) (s : List ℕ) → Written b → stringPieces (suc n) (escaped b ++ s) ≡ fmap (λ ys. b ∷ ys) (stringPieces n s)
+unfolding stringPieces escaped piece escape escapeOf
 pieces-written n s w-quote = refl
 pieces-written n s w-backslash = refl
 pieces-written n s w-newline = refl
@@ -202,13 +202,13 @@ quoted-length (b ∷ s) h =
     let w = both (fitOctet b) (all fitOctet s) h in
     omega (arith, escaped-length (written b (w .0)), length-append (escaped b) (quoted s), quoted-length s (w .1))
 
-pieces-quoted : (s r : List ℕ) (n : ℕ) → length s ≤ n → all fitOctet s ≡ true → pieces (suc n) (quoted s ++ r) ≡ ok s r
+pieces-quoted : (s r : List ℕ) (n : ℕ) → length s ≤ n → all fitOctet s ≡ true → stringPieces (suc n) (quoted s ++ r) ≡ ok s r
 unfolding quoted all
-pieces-quoted [] r n h k = unfold pieces in refl
+pieces-quoted [] r n h k = unfold stringPieces in refl
 pieces-quoted (b ∷ s) r zero h k = absurd (omega arith)
 pieces-quoted (b ∷ s) r (suc n) h k =
     let w = both (fitOctet b) (all fitOctet s) k in
-    ap (pieces (suc (suc n))) (append-assoc (escaped b) (quoted s) r) ∙ pieces-written (suc n) (quoted s ++ r) (written b (w .0)) ∙ ap (fmap (λ ys. b ∷ ys)) (pieces-quoted s r n (omega arith) (w .1))
+    ap (stringPieces (suc (suc n))) (append-assoc (escaped b) (quoted s) r) ∙ pieces-written (suc n) (quoted s ++ r) (written b (w .0)) ∙ ap (fmap (λ ys. b ∷ ys)) (pieces-quoted s r n (omega arith) (w .1))
 
 pub string-quoted : (s r : List ℕ) → all fitOctet s ≡ true → string (quoted s ++ r) ≡ ok s r
 unfolding string
@@ -225,11 +225,11 @@ numeral-solid b s y = solid {b = b} (rw (apart numeric b 32 y refl, apart numeri
     numeric : ℕ → Bool
     numeric x = eqb x 45 or isDigit x
 
-no-number : {X : Type 0} → number [] ≡ ok [] [] → X
-unfolding number scan mayEnd
+no-number : {X : Type 0} → numberRead [] ≡ ok [] [] → X
+unfolding numberRead scan numberEnds
 no-number h = let x : _≡_ {A = ℕ} 0 1 = cc in absurd (omega arith)
 
-number-solid : (t : List ℕ) → number t ≡ ok t [] → Solid t
+number-solid : (t : List ℕ) → numberRead t ≡ ok t [] → Solid t
 number-solid [] h = no-number h
 number-solid (b ∷ s) h = numeral-solid b s (numeral-first b s h)
 
@@ -246,8 +246,8 @@ print-solid (p-obj h) = solid refl refl refl
 solid-append : {s : List ℕ} (r : List ℕ) → Solid s → Solid (s ++ r)
 solid-append r (solid a b c) = solid a b c
 
-skip-solid : {s : List ℕ} (r : List ℕ) → Solid s → skip (s ++ r) ≡ s ++ r
-unfolding skip
+skip-solid : {s : List ℕ} (r : List ℕ) → Solid s → skipSpace (s ++ r) ≡ s ++ r
+unfolding skipSpace
 skip-solid r (solid a b c) = rw a
 
 -- elements between commas, printed by pr and read by P, up to the octet that ends them
@@ -270,19 +270,19 @@ firstOf pr end (a ∷ l) = pr a ++ moreOf pr end l
 module _ {A : Type 0} (pr : A → List ℕ) (P : List ℕ → Out A) where
   -- what follows an element
   abbrev After : ℕ → ℕ → A → List ℕ → Out (List A)
-  After end n a s = onMark end (λ m u. afterElement m (elements end P n) a u) (skip s)
+  After end n a s = onMark end (λ m u. afterElement m (elementsUpTo end P n) a u) (skipSpace s)
 
-  after-comma : (end n : ℕ) (a : A) (s : List ℕ) → After end n a (44 ∷ s) ≡ fmap (λ l. a ∷ l) (elements end P n (skip s))
-  unfolding onMark afterElement skip isSpace markOf
+  after-comma : (end n : ℕ) (a : A) (s : List ℕ) → After end n a (44 ∷ s) ≡ fmap (λ l. a ∷ l) (elementsUpTo end P n (skipSpace s))
+  unfolding onMark afterElement skipSpace isSpace separatorOf
   after-comma end n a s = refl
 
   after-end : {end : ℕ} → Ends end → (n : ℕ) (a : A) (r : List ℕ) → After end n a (end ∷ r) ≡ ok (a ∷ []) r
-  unfolding onMark afterElement skip isSpace markOf
+  unfolding onMark afterElement skipSpace isSpace separatorOf
   after-end square n a r = refl
   after-end curly n a r = refl
 
-  elements-one : (end n : ℕ) (a : A) (s t : List ℕ) → P s ≡ ok a t → elements end P (suc n) s ≡ After end n a t
-  unfolding elements
+  elements-one : (end n : ℕ) (a : A) (s t : List ℕ) → P s ≡ ok a t → elementsUpTo end P (suc n) s ≡ After end n a t
+  unfolding elementsUpTo
   elements-one end n a s t w = rw w
 
   more-length : (end : ℕ) (l : List A) (r : List ℕ) → length l ≤ length (moreOf pr end l ++ r)
@@ -297,8 +297,8 @@ module _ {A : Type 0} (pr : A → List ℕ) (P : List ℕ → Out A) where
   more-stop square (a ∷ l) r = refl
   more-stop curly (a ∷ l) r = refl
 
-  group-solid : {end : ℕ} {s : List ℕ} → Ends end → (r : List ℕ) → Solid s → group end P (s ++ r) ≡ elements end P (suc (length (s ++ r))) (s ++ r)
-  unfolding group elementsFrom skip
+  group-solid : {end : ℕ} {s : List ℕ} → Ends end → (r : List ℕ) → Solid s → bracketed end P (s ++ r) ≡ elementsUpTo end P (suc (length (s ++ r))) (s ++ r)
+  unfolding bracketed elementsFrom skipSpace
   group-solid square r (solid a b c) = rw (a, b)
   group-solid curly r (solid a b c) = rw (a, c)
 
@@ -308,16 +308,16 @@ module _ {A : Type 0} (pr : A → List ℕ) (P : List ℕ → Out A) where
   rounds k (b ∷ l) q r zero a h = absurd (omega arith)
   rounds {end} k (b ∷ l) q r (suc n) a h =
       after-comma end (suc n) a ((pr b ++ moreOf pr end l) ++ r)
-      ∙ ap (λ (s : List ℕ). fmap (λ l. a ∷ l) (elements end P (suc n) (skip s))) (append-assoc (pr b) (moreOf pr end l) r)
-      ∙ ap (λ (s : List ℕ). fmap (λ l. a ∷ l) (elements end P (suc n) s)) (skip-solid (moreOf pr end l ++ r) (q .0 .firm))
+      ∙ ap (λ (s : List ℕ). fmap (λ l. a ∷ l) (elementsUpTo end P (suc n) (skipSpace s))) (append-assoc (pr b) (moreOf pr end l) r)
+      ∙ ap (λ (s : List ℕ). fmap (λ l. a ∷ l) (elementsUpTo end P (suc n) s)) (skip-solid (moreOf pr end l ++ r) (q .0 .firm))
       ∙ ap (fmap (λ l. a ∷ l)) (elements-one end n b _ _ (q .0 .back (moreOf pr end l ++ r) (more-stop k l r)) ∙ rounds k l (q .1) r n b (omega arith))
 
-  group-round : {end : ℕ} → Ends end → (l : List A) → All (Back pr P) l → (r : List ℕ) → group end P (firstOf pr end l ++ r) ≡ ok l r
-  unfolding firstOf group elementsFrom skip isSpace
+  group-round : {end : ℕ} → Ends end → (l : List A) → All (Back pr P) l → (r : List ℕ) → bracketed end P (firstOf pr end l ++ r) ≡ ok l r
+  unfolding firstOf bracketed elementsFrom skipSpace isSpace
   group-round square [] q r = refl
   group-round curly [] q r = refl
   group-round {end} k (a ∷ l) q r =
-      ap (group end P) (append-assoc (pr a) (moreOf pr end l) r) ∙ group-solid k (moreOf pr end l ++ r) (q .0 .firm)
+      ap (bracketed end P) (append-assoc (pr a) (moreOf pr end l) r) ∙ group-solid k (moreOf pr end l ++ r) (q .0 .firm)
       ∙ elements-one end _ a _ _ (q .0 .back (moreOf pr end l ++ r) (more-stop k l r))
       ∙ rounds k l (q .1) r _ a (omega (arith, more-length end l r, length-append (pr a) (moreOf pr end l ++ r)))
 
@@ -326,26 +326,26 @@ unfoldable pairsOf : Members → List Pair
 pairsOf noMembers = []
 pairsOf (member k j ms) = record { key = k; it = j } ∷ pairsOf ms
 
-items-back : (js : Items) → itemsOf (listOf js) ≡ js
-unfolding itemsOf listOf
+items-back : (js : Items) → itemsOf (listOfItems js) ≡ js
+unfolding itemsOf listOfItems
 items-back noItems = refl
 items-back (item j js) = rw (items-back js)
 
-members-back : (ms : Members) → membersOf (pairsOf ms) ≡ ms
-unfolding membersOf pairsOf
+members-back : (ms : Members) → membersFrom (pairsOf ms) ≡ ms
+unfolding membersFrom pairsOf
 members-back noMembers = refl
 members-back (member k j ms) = rw (members-back ms)
 
 abbrev printPair : Pair → List ℕ
 printPair m = printKey (m .key) ++ print (m .it)
 
-more-items : (js : Items) → moreItems js ≡ moreOf print 93 (listOf js)
-unfolding print moreOf listOf
+more-items : (js : Items) → moreItems js ≡ moreOf print 93 (listOfItems js)
+unfolding print moreOf listOfItems
 more-items noItems = refl
 more-items (item j js) = rw (more-items js)
 
-first-items : (js : Items) → firstItem js ≡ firstOf print 93 (listOf js)
-unfolding print firstOf listOf
+first-items : (js : Items) → firstItem js ≡ firstOf print 93 (listOfItems js)
+unfolding print firstOf listOfItems
 first-items noItems = refl
 first-items (item j js) = rw (more-items js)
 
@@ -360,59 +360,59 @@ first-members noMembers = refl
 first-members (member k j ms) = rw (more-members ms, append-assoc (printKey k) (print j) (moreOf printPair 125 (pairsOf ms)))
 
 -- values: a text that no level matters for
-by-levels : (d : ℕ) (s : List ℕ) {o : Out Json} → ((a : List ℕ → Out (List Json)) (m : List ℕ → Out (List Pair)) → valueWith a m s ≡ o) → value d s ≡ o
-unfolding value
+by-levels : (d : ℕ) (s : List ℕ) {o : Out Json} → ((a : List ℕ → Out (List Json)) (m : List ℕ → Out (List Pair)) → valueWith a m s ≡ o) → valueWithin d s ≡ o
+unfolding valueWithin
 by-levels zero s h = h _ _
 by-levels (suc d) s h = h _ _
 
 module _ (d : ℕ) (r : List ℕ) where
-  round-null : value d (print null ++ r) ≡ ok null r
-  unfolding print valueWith valueOf kindOf isDigit between word
+  round-null : valueWithin d (print null ++ r) ≡ ok null r
+  unfolding print valueWith valueBy openingOf isDigit between literal
   round-null = by-levels d (print null ++ r) (λ a o. refl)
 
-  round-false : value d (print falsity ++ r) ≡ ok falsity r
-  unfolding print valueWith valueOf kindOf isDigit between word
+  round-false : valueWithin d (print falsity ++ r) ≡ ok falsity r
+  unfolding print valueWith valueBy openingOf isDigit between literal
   round-false = by-levels d (print falsity ++ r) (λ a o. refl)
 
-  round-true : value d (print truth ++ r) ≡ ok truth r
-  unfolding print valueWith valueOf kindOf isDigit between word
+  round-true : valueWithin d (print truth ++ r) ≡ ok truth r
+  unfolding print valueWith valueBy openingOf isDigit between literal
   round-true = by-levels d (print truth ++ r) (λ a o. refl)
 
-  round-str : {s : List ℕ} → all fitOctet s ≡ true → value d (print (str s) ++ r) ≡ ok (str s) r
-  unfolding print printString valueWith valueOf kindOf
+  round-str : {s : List ℕ} → all fitOctet s ≡ true → valueWithin d (print (str s) ++ r) ≡ ok (str s) r
+  unfolding print printString valueWith valueBy openingOf
   round-str {s} h = by-levels d (print (str s) ++ r) (λ a o. ap (fmap str) (string-quoted s r h))
 
-  round-num : (t : List ℕ) → number t ≡ ok t [] → Stop r → value d (print (num t) ++ r) ≡ ok (num t) r
-  unfolding print valueWith valueOf
+  round-num : (t : List ℕ) → numberRead t ≡ ok t [] → Stop r → valueWithin d (print (num t) ++ r) ≡ ok (num t) r
+  unfolding print valueWith valueBy
   round-num [] h st = no-number h
   round-num (b ∷ s) h st = by-levels d (print (num (b ∷ s)) ++ r) (λ a o. rw (numeral-kind b (numeral-first b s h), number-stops (b ∷ s) r h st))
 
-  round-arr : (js : Items) → All (Back print (value d)) (listOf js) → value (suc d) (print (arr js) ++ r) ≡ ok (arr js) r
-  unfolding print value valueWith valueOf kindOf
-  round-arr js q = rw (first-items js, group-round print (value d) square (listOf js) q r, items-back js)
+  round-arr : (js : Items) → All (Back print (valueWithin d)) (listOfItems js) → valueWithin (suc d) (print (arr js) ++ r) ≡ ok (arr js) r
+  unfolding print valueWithin valueWith valueBy openingOf
+  round-arr js q = rw (first-items js, group-round print (valueWithin d) square (listOfItems js) q r, items-back js)
 
-  round-obj : (ms : Members) → All (Back printPair (pair (value d))) (pairsOf ms) → value (suc d) (print (obj ms) ++ r) ≡ ok (obj ms) r
-  unfolding print value valueWith valueOf kindOf
-  round-obj ms q = rw (first-members ms, group-round printPair (pair (value d)) curly (pairsOf ms) q r, members-back ms)
+  round-obj : (ms : Members) → All (Back printPair (pair (valueWithin d))) (pairsOf ms) → valueWithin (suc d) (print (obj ms) ++ r) ≡ ok (obj ms) r
+  unfolding print valueWithin valueWith valueBy openingOf
+  round-obj ms q = rw (first-members ms, group-round printPair (pair (valueWithin d)) curly (pairsOf ms) q r, members-back ms)
 
-round-key : {k : List ℕ} (s : List ℕ) → all fitOctet k ≡ true → Solid s → key (printKey k ++ s) ≡ ok k s
-unfolding printKey printString key colon skip isSpace
+round-key : {k : List ℕ} (s : List ℕ) → all fitOctet k ≡ true → Solid s → memberKey (printKey k ++ s) ≡ ok k s
+unfolding printKey printString memberKey colon skipSpace isSpace
 round-key {k} s h (solid x y z) = rw (append-assoc (quoted k) (58 ∷ []) s, string-quoted k (58 ∷ s) h, x)
 
-round-pair : (d : ℕ) {k : List ℕ} {j : Json} → all fitOctet k ≡ true → Back print (value d) j → Back printPair (pair (value d)) (record { key = k; it = j })
+round-pair : (d : ℕ) {k : List ℕ} {j : Json} → all fitOctet k ≡ true → Back print (valueWithin d) j → Back printPair (pair (valueWithin d)) (record { key = k; it = j })
 unfolding printKey printString pair isSpace
 round-pair d {k} {j} h q = record {
   firm = solid refl refl refl;
   back = λ r st.
-      ap (pair (value d)) (append-assoc (printKey k) (print j) r)
-      ∙ ap (λ o. then o (λ k t. fmap (λ j. record { key = k; it = j }) (value d t))) (round-key (print j ++ r) h (solid-append r (q .firm)))
+      ap (pair (valueWithin d)) (append-assoc (printKey k) (print j) r)
+      ∙ ap (λ o. andThen o (λ k t. fmap (λ j. record { key = k; it = j }) (valueWithin d t))) (round-key (print j ++ r) h (solid-append r (q .firm)))
       ∙ ap (fmap (λ j. record { key = k; it = j })) (q .back r st);
 }
 
 mutual
-  unfolding depth listOf pairsOf
+  unfolding depth listOfItems pairsOf
 
-  pub round : {j : Json} (d : ℕ) → Printable j → depth j ≤ d → (r : List ℕ) → Stop r → value d (print j ++ r) ≡ ok j r
+  pub round : {j : Json} (d : ℕ) → Printable j → depth j ≤ d → (r : List ℕ) → Stop r → valueWithin d (print j ++ r) ≡ ok j r
   round d p-null l r st = round-null d r
   round d p-false l r st = round-false d r
   round d p-true l r st = round-true d r
@@ -423,21 +423,21 @@ mutual
   round zero (p-obj {ms} h) l r st = absurd (omega arith)
   round (suc d) (p-obj {ms} h) l r st = round-obj d r ms (round-members d h (omega arith))
 
-  round-items : {js : Items} (d : ℕ) → PrintableItems js → depthItems js ≤ d → All (Back print (value d)) (listOf js)
+  round-items : {js : Items} (d : ℕ) → PrintableItems js → depthItems js ≤ d → All (Back print (valueWithin d)) (listOfItems js)
   round-items d p-none l = tt
   round-items d (p-item p ps) l = (record { firm = print-solid p; back = λ r st. round d p (omega arith) r st }, round-items d ps (omega arith))
 
-  round-members : {ms : Members} (d : ℕ) → PrintableMembers ms → depthMembers ms ≤ d → All (Back printPair (pair (value d))) (pairsOf ms)
+  round-members : {ms : Members} (d : ℕ) → PrintableMembers ms → depthMembers ms ≤ d → All (Back printPair (pair (valueWithin d))) (pairsOf ms)
   round-members d p-empty l = tt
   round-members d (p-member h p ps) l = (round-pair d h (record { firm = print-solid p; back = λ r st. round d p (omega arith) r st }), round-members d ps (omega arith))
 
 -- a whole text that was printed
 pub parse-print : {j : Json} → Printable j → depth j ≤ mostOpen → parseText (print j) ≡ ok j []
-unfolding parseText ended skip
+unfolding parseText nothingBehind skipSpace
 parse-print {j} p l =
-    ap (λ (s : List ℕ). then (value mostOpen (skip s)) (λ j t. ended j (skip t))) (sym (append-nil (print j)))
-    ∙ ap (λ (s : List ℕ). then (value mostOpen s) (λ j t. ended j (skip t))) (skip-solid [] (print-solid p))
-    ∙ ap (λ (o : Out Json). then o (λ j t. ended j (skip t))) (round mostOpen p l [] tt)
+    ap (λ (s : List ℕ). andThen (valueWithin mostOpen (skipSpace s)) (λ j t. nothingBehind j (skipSpace t))) (sym (append-nil (print j)))
+    ∙ ap (λ (s : List ℕ). andThen (valueWithin mostOpen s) (λ j t. nothingBehind j (skipSpace t))) (skip-solid [] (print-solid p))
+    ∙ ap (λ (o : Out Json). andThen o (λ j t. nothingBehind j (skipSpace t))) (round mostOpen p l [] tt)
 
 -- no two values are printed alike
 pub print-injective : {j k : Json} → Printable j → depth j ≤ mostOpen → Printable k → depth k ≤ mostOpen → print j ≡ print k → j ≡ k

@@ -10,25 +10,25 @@ use Rattle.octets.specs.Basics.{_or_, all}
 use Rattle.octets.proofs.Cases.{both, neither}
 use Rattle.octets.proofs.Positions.{here, ended, part-rest}
 use Rattle.json.specs.Print.{escaped, quoted}
-use Rattle.json.specs.Promise.{Run, bareOctet}
+use Rattle.json.specs.Promise.{Run, asIsOctet}
 
-escaped-bare : (b : ℕ) → bareOctet b ≡ true → escaped b ≡ b ∷ []
-unfolding escaped bareOctet
+escaped-bare : (b : ℕ) → asIsOctet b ≡ true → escaped b ≡ b ∷ []
+unfolding escaped asIsOctet
 escaped-bare b e =
     let w = neither (eqb b 34) (eqb b 92 or eqb b 10 or eqb b 9) (not-true _ e) in
     let v = neither (eqb b 92) (eqb b 10 or eqb b 9) (w .1) in
     let u = neither (eqb b 10) (eqb b 9) (v .1) in
     rw (w .0, v .0, u .0, u .1)
 
-quoted-bare : (xs ys : List ℕ) → all bareOctet xs ≡ true → quoted (xs ++ ys) ≡ xs ++ quoted ys
+quoted-bare : (xs ys : List ℕ) → all asIsOctet xs ≡ true → quoted (xs ++ ys) ≡ xs ++ quoted ys
 unfolding all quoted
 quoted-bare [] ys h = refl
 quoted-bare (x ∷ xs) ys h =
-    let b = both (bareOctet x) (all bareOctet xs) h in
+    let b = both (asIsOctet x) (all asIsOctet xs) h in
     rw (escaped-bare x (b .0), quoted-bare xs ys (b .1))
 
 module _ (s : List ℕ) where
-  pub quoted-run : {i e : ℕ} → Run bareOctet s i e → quoted (drop i s) ≡ take (e - i) (drop i s) ++ quoted (drop e s)
+  pub quoted-run : {i e : ℕ} → Run asIsOctet s i e → quoted (drop i s) ≡ take (e - i) (drop i s) ++ quoted (drop e s)
   quoted-run {i} {e} w = ap quoted (part-rest s i e (w .above)) ∙ quoted-bare (take (e - i) (drop i s)) (drop e s) (w .inside)
 
   pub quoted-octet : (i : ℕ) → i < length s → quoted (drop i s) ≡ escaped (getD s i 0) ++ quoted (drop (i + 1) s)

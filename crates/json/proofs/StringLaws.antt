@@ -14,9 +14,9 @@ use Rattle.octets.specs.Pen.{Pen, Wrote}
 use Rattle.octets.proofs.Cases.{cases, never, both, neither, or-false, pick-same}
 use Rattle.octets.proofs.Classes.{between-true}
 use Rattle.octets.proofs.Positions.{here, ended, past-end, part-rest}
-use Rattle.json.specs.Reads.{Out, ok, deep, bad, fmap, then}
-use Rattle.json.specs.Strings.{escapeOf, digit, hex4, utf8Of, lowOf, low, partner, unit, unicode, escape, piece, pieces, string}
-use Rattle.json.specs.Promise.{Run, codeOf, unescaped}
+use Rattle.json.specs.Reads.{Out, ok, deep, bad, fmap, andThen}
+use Rattle.json.specs.Strings.{escapeOf, digit, hex4, utf8Of, lowOf, lowSurrogate, partner, unit, unicode, escape, piece, stringPieces, string}
+use Rattle.json.specs.Promise.{Run, hexCode, unescaped}
 use Rattle.json.proofs.Outs.{Gives, gives-weaker, by, then-alike, map-map, map-same}
 use Rattle.json.proofs.Runs.{inside, inside-is}
 
@@ -34,7 +34,7 @@ unfolding digit
 digit-view [] = digit-not
 digit-view (b ∷ s) = by (Digit (b ∷ s)) (ltb (hexDigit b) 16) (λ e. digit-is (ltb-true (hexDigit b) 16 e) (omega arith)) (λ e. digit-not)
 
-after-digit : {s : List ℕ} {o : Out ℕ} (R : Out ℕ → Type 0) (k : ℕ → List ℕ → Out ℕ) → Digit s o → R bad → ((d : ℕ) → d < 16 → 1 ≤ length s → R (k d (drop 1 s))) → R (then o k)
+after-digit : {s : List ℕ} {o : Out ℕ} (R : Out ℕ → Type 0) (k : ℕ → List ℕ → Out ℕ) → Digit s o → R bad → ((d : ℕ) → d < 16 → 1 ≤ length s → R (k d (drop 1 s))) → R (andThen o k)
 after-digit R k (digit-is {d} h l) n f = f d h l
 after-digit R k digit-not n f = n
 
@@ -48,8 +48,8 @@ hex4-view s = after-digit (Hex s) _ (digit-view s) hex-not (λ a ha la.
     rw e (hex-is {n = a * 4096 + b * 256 + c * 16 + d} (omega arith) (omega (arith, length-drop 1 (drop 1 (drop 1 s)), length-drop 1 (drop 1 s), length-drop 1 s)))))))
 
 -- what the code of four digits tells
-pub code-none : {s : List ℕ} {o : Out ℕ} (u : ℕ) → Hex s o → u ≡ codeOf o → u ≡ 65536 → o ≡ bad
-unfolding codeOf
+pub code-none : {s : List ℕ} {o : Out ℕ} (u : ℕ) → Hex s o → u ≡ hexCode o → u ≡ 65536 → o ≡ bad
+unfolding hexCode
 code-none u (hex-is h l) e n = absurd (omega arith)
 code-none u hex-not e n = refl
 
@@ -58,8 +58,8 @@ pub record Coded (s : List ℕ) (o : Out ℕ) (u : ℕ) : Type 0 where
   pub small : u < 65536
   pub long : 4 ≤ length s
 
-pub coded : {s : List ℕ} {o : Out ℕ} (u : ℕ) → Hex s o → u ≡ codeOf o → ((u ≡ 65536) → ⊥) → Coded s o u
-unfolding codeOf
+pub coded : {s : List ℕ} {o : Out ℕ} (u : ℕ) → Hex s o → u ≡ hexCode o → ((u ≡ 65536) → ⊥) → Coded s o u
+unfolding hexCode
 coded u (hex-is {n} h l) e x = record { is = rw e; small = omega arith; long = l }
 coded u hex-not e x = absurd (x e)
 
@@ -74,14 +74,14 @@ digit-zero : hexDigit 0 ≡ 16
 unfolding hexDigit isDigit between
 digit-zero = refl
 
-code-step : (text : List ℕ) (i j : ℕ) (k : ℕ → List ℕ → Out ℕ) → i + 1 ≡ j → codeOf (then (digit (drop i text)) k) ≡ pick (ltb (D text i) 16) (codeOf (k (D text i) (drop j text))) 65536
-unfolding digit codeOf
+code-step : (text : List ℕ) (i j : ℕ) (k : ℕ → List ℕ → Out ℕ) → i + 1 ≡ j → hexCode (andThen (digit (drop i text)) k) ≡ pick (ltb (D text i) 16) (hexCode (k (D text i) (drop j text))) 65536
+unfolding digit hexCode
 code-step text i j k e = cases (ltb i (length text))
-    (λ h. rw (here text i (ltb-true i (length text) h), e) (by (λ o. codeOf (then o k) ≡ pick (ltb (D text i) 16) (codeOf (k (D text i) (drop j text))) 65536) (ltb (D text i) 16) (λ x. rw x) (λ x. rw x)))
+    (λ h. rw (here text i (ltb-true i (length text) h), e) (by (λ o. hexCode (andThen o k) ≡ pick (ltb (D text i) 16) (hexCode (k (D text i) (drop j text))) 65536) (ltb (D text i) 16) (λ x. rw x) (λ x. rw x)))
     (λ h. rw (ended text i (ltb-false i (length text) h), past-end text i (ltb-false i (length text) h), digit-zero))
 
-pub hex4-at : (text : List ℕ) (i : ℕ) → codeOf (hex4 (drop i text)) ≡ pick (ltb (D text i) 16) (pick (ltb (D text (i + 1)) 16) (pick (ltb (D text (i + 2)) 16) (pick (ltb (D text (i + 3)) 16) (D text i * 4096 + D text (i + 1) * 256 + D text (i + 2) * 16 + D text (i + 3)) 65536) 65536) 65536) 65536
-unfolding hex4 codeOf
+pub hex4-at : (text : List ℕ) (i : ℕ) → hexCode (hex4 (drop i text)) ≡ pick (ltb (D text i) 16) (pick (ltb (D text (i + 1)) 16) (pick (ltb (D text (i + 2)) 16) (pick (ltb (D text (i + 3)) 16) (D text i * 4096 + D text (i + 1) * 256 + D text (i + 2) * 16 + D text (i + 3)) 65536) 65536) 65536) 65536
+unfolding hex4 hexCode
 hex4-at text i =
     code-step text i (i + 1) _ refl
     ∙ ap (λ n. pick (ltb (D text i) 16) n 65536) (code-step text (i + 1) (i + 2) _ (omega arith)
@@ -89,16 +89,16 @@ hex4-at text i =
     ∙ ap (λ n. pick (ltb (D text (i + 2)) 16) n 65536) (code-step text (i + 3) (i + 4) _ (omega arith))))
 
 -- the low surrogate at a place
-pub low-at : (text : List ℕ) (i : ℕ) → low (drop i text) ≡ pick (eqb (getD text i 0) 92) (pick (eqb (getD text (i + 1) 0) 117) (lowOf (hex4 (drop (i + 2) text))) 0) 0
-unfolding low
+pub low-at : (text : List ℕ) (i : ℕ) → lowSurrogate (drop i text) ≡ pick (eqb (getD text i 0) 92) (pick (eqb (getD text (i + 1) 0) 117) (lowOf (hex4 (drop (i + 2) text))) 0) 0
+unfolding lowSurrogate
 low-at text i = cases (ltb i (length text))
     (λ h. cases (ltb (i + 1) (length text))
     (λ k. let e : i + 1 + 1 ≡ i + 2 = omega arith in rw (here text i (ltb-true i (length text) h), here text (i + 1) (ltb-true (i + 1) (length text) k), e))
     (λ k. rw (here text i (ltb-true i (length text) h), ended text (i + 1) (ltb-false (i + 1) (length text) k), past-end text (i + 1) (ltb-false (i + 1) (length text) k), pick-same)))
     (λ h. rw (ended text i (ltb-false i (length text) h), past-end text i (ltb-false i (length text) h)))
 
-pub low-of : (o : Out ℕ) → lowOf o ≡ pick (between 56320 57343 (codeOf o)) (codeOf o) 0
-unfolding lowOf codeOf between
+pub low-of : (o : Out ℕ) → lowOf o ≡ pick (between 56320 57343 (hexCode o)) (hexCode o) 0
+unfolding lowOf hexCode between
 low-of (ok l s) = refl
 low-of deep = refl
 low-of bad = refl
@@ -111,8 +111,8 @@ pub record Pairs (u l : ℕ) (s : List ℕ) : Type 0 where
   pub low-to : l ≤ 57343
   pub long : 6 ≤ length s
 
-low-found : (s : List ℕ) → ((low s ≡ 0) → ⊥) → (56320 ≤ low s) × (low s ≤ 57343) × (6 ≤ length s)
-unfolding low
+low-found : (s : List ℕ) → ((lowSurrogate s ≡ 0) → ⊥) → (56320 ≤ lowSurrogate s) × (lowSurrogate s ≤ 57343) × (6 ≤ length s)
+unfolding lowSurrogate
 low-found [] n = absurd (n refl)
 low-found (b ∷ []) n = absurd (n refl)
 low-found (b ∷ c ∷ s) n = by (λ l. ((l ≡ 0) → ⊥) → (56320 ≤ l) × (l ≤ 57343) × (6 ≤ length (b ∷ c ∷ s))) (eqb b 92)
@@ -140,7 +140,7 @@ pub unicode-view : (s : List ℕ) → Unicode s (unicode s)
 unfolding unicode
 unicode-view s = go (hex4-view s)
   where
-    go : {o : Out ℕ} → Hex s o → Unicode s (then o (λ u t. unit u t (partner u t)))
+    go : {o : Out ℕ} → Hex s o → Unicode s (andThen o (λ u t. unit u t (partner u t)))
     go hex-not = no-unit
     go (hex-is {n} h l) = unfold unit in by (Unicode s) (eqb (partner n (drop 4 s)) 0) (λ _. one-unit h l)
         (λ e. let p = paired n (drop 4 s) (eqb-false _ 0 e) in
@@ -186,8 +186,8 @@ small-piece (b ∷ s) = by (Gives (Small (b ∷ s))) (eqb b 92)
     (λ _. by (Gives (Small (b ∷ s))) (ltb b 32) (λ _. tt) (λ _. (omega arith, omega arith)))
 
 -- more pieces than octets are as good as any number
-pieces-enough : (n m : ℕ) (s : List ℕ) → length s < n → length s < m → pieces n s ≡ pieces m s
-unfolding pieces
+pieces-enough : (n m : ℕ) (s : List ℕ) → length s < n → length s < m → stringPieces n s ≡ stringPieces m s
+unfolding stringPieces
 pieces-enough zero m s h k = absurd (omega arith)
 pieces-enough (suc n) zero s h k = absurd (omega arith)
 pieces-enough (suc n) (suc m) [] h k = refl
@@ -196,15 +196,15 @@ pieces-enough (suc n) (suc m) (b ∷ s) h k = ap (pick (eqb b 34) (ok [] s)) (th
 
 -- a string is a quote, or a piece and a string
 abbrev pub onto : Out (List ℕ) → Out (List ℕ)
-onto o = then o (λ xs t. fmap (λ ys. xs ++ ys) (string t))
+onto o = andThen o (λ xs t. fmap (λ ys. xs ++ ys) (string t))
 
 pub string-cons : (b : ℕ) (s : List ℕ) → string (b ∷ s) ≡ pick (eqb b 34) (ok [] s) (onto (piece (b ∷ s)))
-unfolding string pieces
+unfolding string stringPieces
 string-cons b s = ap (pick (eqb b 34) (ok [] s)) (then-alike (piece (b ∷ s)) _ _
     (gives-weaker (Small (b ∷ s)) _ (piece (b ∷ s)) (small-piece (b ∷ s)) (λ xs t w. ap (fmap (λ ys. xs ++ ys)) (pieces-enough (suc (length s)) (suc (length t)) t (omega arith) (omega arith)))))
 
 pub string-nil : string [] ≡ bad
-unfolding string pieces
+unfolding string stringPieces
 string-nil = refl
 
 -- by the octet at a place
@@ -266,11 +266,11 @@ module _ (n : ℕ) {p q : Pen} where
   char-4 h w = rw (le-ltb n 128 (omega arith), le-ltb n 2048 (omega arith), le-ltb n 65536 h) w
 
 -- what follows `\u`, at a place: u is what `hex4` answered, l what `partner` did
-pub unicode-none : (s : List ℕ) (u : ℕ) → u ≡ codeOf (hex4 s) → u ≡ 65536 → unicode s ≡ bad
+pub unicode-none : (s : List ℕ) (u : ℕ) → u ≡ hexCode (hex4 s) → u ≡ 65536 → unicode s ≡ bad
 unfolding unicode
 unicode-none s u e h = rw (code-none u (hex4-view s) e h)
 
-module _ (text : List ℕ) (i u : ℕ) (is : u ≡ codeOf (hex4 (drop i text))) (some : (u ≡ 65536) → ⊥) where
+module _ (text : List ℕ) (i u : ℕ) (is : u ≡ hexCode (hex4 (drop i text))) (some : (u ≡ 65536) → ⊥) where
   unit-coded : Coded (drop i text) (hex4 (drop i text)) u
   unit-coded = coded u (hex4-view (drop i text)) is some
 

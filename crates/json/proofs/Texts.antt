@@ -9,7 +9,7 @@ use types.Run.{OneOf}
 use denote.Enum.Declared.{tagOf}
 use lib.ListN.{take, drop, getD}
 use Rattle.octets.specs.Pen.{Pen, pen, Wrote}
-use Rattle.json.specs.Reads.{fmap, then}
+use Rattle.json.specs.Reads.{fmap, andThen}
 use Rattle.json.specs.Strings.{escape, string}
 use Rattle.json.specs.Tape.{tagEnd, serText}
 use Rattle.json.specs.Promise.{Run, Agrees, read, not-json, unescaped}
@@ -37,4 +37,4 @@ module _ {text : List ℕ} {low : ℕ} {p q : Pen} {i₀ i : ℕ} (g : Going ser
     pub text-escape : {e to : ℕ} → HasRead (λ xs. xs) text l q t (escape (drop (i + 1) text)) e to → Going serText string text low p i₀ (pen t to) e
     text-escape {e} x =
         going-on e (λ ys. x .it ++ ys) g (x .wrote) (λ a. sym (append-assoc (x .it) a (tagEnd ∷ [])))
-        (string-escape text i h ∙ ap (λ o. then o (λ xs s. fmap (λ ys. xs ++ ys) (string s))) (x .is))
+        (string-escape text i h ∙ ap (λ o. andThen o (λ xs s. fmap (λ ys. xs ++ ys) (string s))) (x .is))

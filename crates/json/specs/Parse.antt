@@ -10,21 +10,21 @@ use Rattle.json.specs.Tape.{ser}
 use Rattle.json.specs.declared.Parsed.{Parsed}
 use Rattle.json.specs.declared.Parsed.the-variants.{Tape, TooDeep, NotJson, NoRoom}
 
-pub record Laid : Type 0 where
+pub record Taped : Type 0 where
   pub answer : Parsed
   pub tape : List ℕ
 
-abbrev pub laid : Parsed → List ℕ → Laid
-laid r t = record { answer = r; tape = t }
+abbrev pub taped : Parsed → List ℕ → Taped
+taped r t = record { answer = r; tape = t }
 
 -- where there is no value, or no room for it, the whole tape is zero
-unfoldable pub blank : Parsed → List ℕ → Laid
-blank r t = laid r (replicate (length t) 0)
+unfoldable pub blank : Parsed → List ℕ → Taped
+blank r t = taped r (replicate (length t) 0)
 
-unfoldable pub parsed : Out Json → List ℕ → Laid
-parsed (ok j s) t = pick (leb (length (ser j)) (length t)) (laid (Tape (length (ser j))) (ser j ++ drop (length (ser j)) t)) (blank NoRoom t)
-parsed deep t = blank TooDeep t
-parsed bad t = blank NotJson t
+unfoldable pub parsedOnto : Out Json → List ℕ → Taped
+parsedOnto (ok j s) t = pick (leb (length (ser j)) (length t)) (taped (Tape (length (ser j))) (ser j ++ drop (length (ser j)) t)) (blank NoRoom t)
+parsedOnto deep t = blank TooDeep t
+parsedOnto bad t = blank NotJson t
 
 -- a tape that is long enough for every text of n octets
 unfoldable pub mostTape : ℕ → ℕ

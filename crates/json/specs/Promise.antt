@@ -39,15 +39,15 @@ pub data Agrees {A : Type 0} (f : A → List ℕ) (text : List ℕ) (low : ℕ) 
   not-json : o ≡ bad → Agrees f text low p t o NotJson
 
 -- the number that four hexadecimal digits gave; where there are none, one more than they can say
-unfoldable pub codeOf : Out ℕ → ℕ
-codeOf (ok n s) = n
-codeOf deep = 65536
-codeOf bad = 65536
+unfoldable pub hexCode : Out ℕ → ℕ
+hexCode (ok n s) = n
+hexCode deep = 65536
+hexCode bad = 65536
 
 -- an octet that stands for itself in a string (RFC 8259 7, unescaped)
 unfoldable pub unescaped : ℕ → Bool
 unescaped b = not (ltb b 32 or eqb b (code "\"") or eqb b (code "\\"))
 
 -- an octet that is written as it is
-unfoldable pub bareOctet : ℕ → Bool
-bareOctet b = not (eqb b (code "\"") or eqb b (code "\\") or eqb b (code "\n") or eqb b (code "\t"))
+unfoldable pub asIsOctet : ℕ → Bool
+asIsOctet b = not (eqb b (code "\"") or eqb b (code "\\") or eqb b (code "\n") or eqb b (code "\t"))

@@ -8,16 +8,16 @@ use Rattle.octets.specs.Basics.{octets, pick, _or_}
 use Rattle.octets.specs.Classes.{isDigit}
 use Rattle.octets.specs.Limits.{mostOpen}
 use Rattle.json.specs.Tree.{Json, null, falsity, truth, num, str, arr, obj, Members, noMembers, member, itemsOf}
-use Rattle.json.specs.Reads.{Out, ok, deep, bad, fmap, then, skip, word}
-use Rattle.json.specs.Numbers.{number}
+use Rattle.json.specs.Reads.{Out, ok, deep, bad, fmap, andThen, skipSpace, literal}
+use Rattle.json.specs.Numbers.{numberRead}
 use Rattle.json.specs.Strings.{string}
 
 -- what a value's first octet begins
-pub data Kind : Type 0 where
-  bracket brace quote numeral nullWord falseWord trueWord other : Kind
+pub data Opening : Type 0 where
+  bracket brace quote numeral nullWord falseWord trueWord other : Opening
 
-unfoldable pub kindOf : ℕ → Kind
-kindOf b =
+unfoldable pub openingOf : ℕ → Opening
+openingOf b =
     pick (eqb b (code "[")) bracket
     (pick (eqb b (code "{")) brace
     (pick (eqb b (code "\"")) quote
@@ -27,20 +27,20 @@ kindOf b =
     (pick (eqb b (code "t")) trueWord other))))))
 
 -- what stands behind an element
-pub data Mark : Type 0 where
-  comma close odd : Mark
+pub data Separator : Type 0 where
+  comma close odd : Separator
 
-unfoldable pub markOf : ℕ → ℕ → Mark
-markOf end b = pick (eqb b (code ",")) comma (pick (eqb b end) close odd)
+unfoldable pub separatorOf : ℕ → ℕ → Separator
+separatorOf end b = pick (eqb b (code ",")) comma (pick (eqb b end) close odd)
 
 -- a key, up to its value
 unfoldable pub colon : List ℕ → List ℕ → Out (List ℕ)
 colon k [] = bad
-colon k (b ∷ s) = pick (eqb b (code ":")) (ok k (skip s)) bad
+colon k (b ∷ s) = pick (eqb b (code ":")) (ok k (skipSpace s)) bad
 
-unfoldable pub key : List ℕ → Out (List ℕ)
-key [] = bad
-key (b ∷ s) = pick (eqb b (code "\"")) (then (string s) (λ k t. colon k (skip t))) bad
+unfoldable pub memberKey : List ℕ → Out (List ℕ)
+memberKey [] = bad
+memberKey (b ∷ s) = pick (eqb b (code "\"")) (andThen (string s) (λ k t. colon k (skipSpace t))) bad
 
 -- a member: a key and its value
 pub record Pair : Type 0 where
@@ -48,58 +48,58 @@ pub record Pair : Type 0 where
   pub it : Json
 
 unfoldable pub pair : (List ℕ → Out Json) → List ℕ → Out Pair
-pair p s = then (key s) (λ k t. fmap (λ j. record { key = k; it = j }) (p t))
+pair p s = andThen (memberKey s) (λ k t. fmap (λ j. record { key = k; it = j }) (p t))
 
-unfoldable pub membersOf : List Pair → Members
-membersOf [] = noMembers
-membersOf (m ∷ l) = member (m .key) (m .it) (membersOf l)
+unfoldable pub membersFrom : List Pair → Members
+membersFrom [] = noMembers
+membersFrom (m ∷ l) = member (m .key) (m .it) (membersFrom l)
 
 -- elements between commas, one at least and n at most, up to the octet that ends them; each takes an octet at least
-unfoldable pub afterElement : {A : Type 0} → Mark → (List ℕ → Out (List A)) → A → List ℕ → Out (List A)
-afterElement comma more a s = fmap (λ l. a ∷ l) (more (skip s))
+unfoldable pub afterElement : {A : Type 0} → Separator → (List ℕ → Out (List A)) → A → List ℕ → Out (List A)
+afterElement comma more a s = fmap (λ l. a ∷ l) (more (skipSpace s))
 afterElement close more a s = ok (a ∷ []) s
 afterElement odd more a s = bad
 
-unfoldable pub onMark : {A : Type 0} → ℕ → (Mark → List ℕ → Out A) → List ℕ → Out A
+unfoldable pub onMark : {A : Type 0} → ℕ → (Separator → List ℕ → Out A) → List ℕ → Out A
 onMark end f [] = bad
-onMark end f (b ∷ s) = f (markOf end b) s
+onMark end f (b ∷ s) = f (separatorOf end b) s
 
-unfoldable pub elements : {A : Type 0} → ℕ → (List ℕ → Out A) → ℕ → List ℕ → Out (List A)
-elements end p zero s = bad
-elements end p (suc n) s = then (p s) (λ a t. onMark end (λ m u. afterElement m (elements end p n) a u) (skip t))
+unfoldable pub elementsUpTo : {A : Type 0} → ℕ → (List ℕ → Out A) → ℕ → List ℕ → Out (List A)
+elementsUpTo end p zero s = bad
+elementsUpTo end p (suc n) s = andThen (p s) (λ a t. onMark end (λ m u. afterElement m (elementsUpTo end p n) a u) (skipSpace t))
 
 unfoldable pub elementsFrom : {A : Type 0} → ℕ → (List ℕ → Out A) → List ℕ → Out (List A)
 elementsFrom end p [] = bad
-elementsFrom end p (b ∷ s) = pick (eqb b end) (ok [] s) (elements end p (suc (length (b ∷ s))) (b ∷ s))
+elementsFrom end p (b ∷ s) = pick (eqb b end) (ok [] s) (elementsUpTo end p (suc (length (b ∷ s))) (b ∷ s))
 
 -- what follows `[` or `{`
-unfoldable pub group : {A : Type 0} → ℕ → (List ℕ → Out A) → List ℕ → Out (List A)
-group end p s = elementsFrom end p (skip s)
+unfoldable pub bracketed : {A : Type 0} → ℕ → (List ℕ → Out A) → List ℕ → Out (List A)
+bracketed end p s = elementsFrom end p (skipSpace s)
 
-unfoldable pub valueOf : Kind → (List ℕ → Out (List Json)) → (List ℕ → Out (List Pair)) → ℕ → List ℕ → Out Json
-valueOf bracket a o b s = fmap (λ l. arr (itemsOf l)) (a s)
-valueOf brace a o b s = fmap (λ l. obj (membersOf l)) (o s)
-valueOf quote a o b s = fmap str (string s)
-valueOf numeral a o b s = fmap num (number (b ∷ s))
-valueOf nullWord a o b s = fmap (λ _. null) (word (octets "ull") s)
-valueOf falseWord a o b s = fmap (λ _. falsity) (word (octets "alse") s)
-valueOf trueWord a o b s = fmap (λ _. truth) (word (octets "rue") s)
-valueOf other a o b s = bad
+unfoldable pub valueBy : Opening → (List ℕ → Out (List Json)) → (List ℕ → Out (List Pair)) → ℕ → List ℕ → Out Json
+valueBy bracket a o b s = fmap (λ l. arr (itemsOf l)) (a s)
+valueBy brace a o b s = fmap (λ l. obj (membersFrom l)) (o s)
+valueBy quote a o b s = fmap str (string s)
+valueBy numeral a o b s = fmap num (numberRead (b ∷ s))
+valueBy nullWord a o b s = fmap (λ _. null) (literal (octets "ull") s)
+valueBy falseWord a o b s = fmap (λ _. falsity) (literal (octets "alse") s)
+valueBy trueWord a o b s = fmap (λ _. truth) (literal (octets "rue") s)
+valueBy other a o b s = bad
 
 unfoldable pub valueWith : (List ℕ → Out (List Json)) → (List ℕ → Out (List Pair)) → List ℕ → Out Json
 valueWith a o [] = bad
-valueWith a o (b ∷ s) = valueOf (kindOf b) a o b s
+valueWith a o (b ∷ s) = valueBy (openingOf b) a o b s
 
 -- a value in which at most d arrays and objects are open at once
-unfoldable pub value : ℕ → List ℕ → Out Json
-value zero s = valueWith (λ _. deep) (λ _. deep) s
-value (suc d) s = valueWith (group (code "]") (value d)) (group (code "}") (pair (value d))) s
+unfoldable pub valueWithin : ℕ → List ℕ → Out Json
+valueWithin zero s = valueWith (λ _. deep) (λ _. deep) s
+valueWithin (suc d) s = valueWith (bracketed (code "]") (valueWithin d)) (bracketed (code "}") (pair (valueWithin d))) s
 
 -- nothing but white space behind it
-unfoldable pub ended : Json → List ℕ → Out Json
-ended j [] = ok j []
-ended j (b ∷ s) = bad
+unfoldable pub nothingBehind : Json → List ℕ → Out Json
+nothingBehind j [] = ok j []
+nothingBehind j (b ∷ s) = bad
 
 -- JSON-text
 unfoldable pub parseText : List ℕ → Out Json
-parseText s = then (value mostOpen (skip s)) (λ j t. ended j (skip t))
+parseText s = andThen (valueWithin mostOpen (skipSpace s)) (λ j t. nothingBehind j (skipSpace t))

@@ -17,21 +17,21 @@ fmap f (ok a s) = ok (f a) s
 fmap f deep = deep
 fmap f bad = bad
 
-abbrev pub then : {A B : Type 0} → Out A → (A → List ℕ → Out B) → Out B
-then (ok a s) k = k a s
-then deep k = deep
-then bad k = bad
+abbrev pub andThen : {A B : Type 0} → Out A → (A → List ℕ → Out B) → Out B
+andThen (ok a s) k = k a s
+andThen deep k = deep
+andThen bad k = bad
 
 -- ws
 unfoldable pub isSpace : ℕ → Bool
 isSpace b = eqb b (code " ") or eqb b (code "\n") or eqb b (code "\r") or eqb b (code "\t")
 
-unfoldable pub skip : List ℕ → List ℕ
-skip [] = []
-skip (b ∷ s) = pick (isSpace b) (skip s) (b ∷ s)
+unfoldable pub skipSpace : List ℕ → List ℕ
+skipSpace [] = []
+skipSpace (b ∷ s) = pick (isSpace b) (skipSpace s) (b ∷ s)
 
 -- the octets behind a literal name
-unfoldable pub word : List ℕ → List ℕ → Out (Unit {0})
-word [] s = ok tt s
-word (w ∷ ws) [] = bad
-word (w ∷ ws) (b ∷ s) = pick (eqb b w) (word ws s) bad
+unfoldable pub literal : List ℕ → List ℕ → Out (Unit {0})
+literal [] s = ok tt s
+literal (w ∷ ws) [] = bad
+literal (w ∷ ws) (b ∷ s) = pick (eqb b w) (literal ws s) bad

@@ -6,7 +6,7 @@ use lib.Dec.{eqb, ltb}
 use lib.ListN.{length, drop}
 use Rattle.octets.specs.Basics.{pick}
 use Rattle.octets.specs.Classes.{between, hexDigit}
-use Rattle.json.specs.Reads.{Out, ok, deep, bad, fmap, then}
+use Rattle.json.specs.Reads.{Out, ok, deep, bad, fmap, andThen}
 
 -- the octet that a backslash and b stand for; 0 where there is none
 unfoldable pub escapeOf : ℕ → ℕ
@@ -26,7 +26,7 @@ digit (b ∷ s) = pick (ltb (hexDigit b) 16) (ok (hexDigit b) s) bad
 
 -- 4HEXDIG
 unfoldable pub hex4 : List ℕ → Out ℕ
-hex4 s = then (digit s) (λ a t. then (digit t) (λ b u. then (digit u) (λ c v. then (digit v) (λ d w. ok (a * 4096 + b * 256 + c * 16 + d) w))))
+hex4 s = andThen (digit s) (λ a t. andThen (digit t) (λ b u. andThen (digit u) (λ c v. andThen (digit v) (λ d w. ok (a * 4096 + b * 256 + c * 16 + d) w))))
 
 -- RFC 3629 3. A lone surrogate gets the three octets that it would have; no UTF-8 text holds them, and they are 12 (01, Values)
 unfoldable pub utf8Of : ℕ → List ℕ
@@ -42,21 +42,21 @@ lowOf (ok l s) = pick (between 56320 57343 l) l 0
 lowOf deep = 0
 lowOf bad = 0
 
-unfoldable pub low : List ℕ → ℕ
-low [] = 0
-low (b ∷ []) = 0
-low (b ∷ c ∷ s) = pick (eqb b (code "\\")) (pick (eqb c (code "u")) (lowOf (hex4 s)) 0) 0
+unfoldable pub lowSurrogate : List ℕ → ℕ
+lowSurrogate [] = 0
+lowSurrogate (b ∷ []) = 0
+lowSurrogate (b ∷ c ∷ s) = pick (eqb b (code "\\")) (pick (eqb c (code "u")) (lowOf (hex4 s)) 0) 0
 
 -- behind a high surrogate (D800 to DBFF) only
 unfoldable pub partner : ℕ → List ℕ → ℕ
-partner u s = pick (between 55296 56319 u) (low s) 0
+partner u s = pick (between 55296 56319 u) (lowSurrogate s) 0
 
 -- a pair of surrogates is one character; any other unit stands for itself
 unfoldable pub unit : ℕ → List ℕ → ℕ → Out (List ℕ)
 unit u s l = pick (eqb l 0) (ok (utf8Of u) s) (ok (utf8Of (65536 + (u - 55296) * 1024 + (l - 56320))) (drop 6 s))
 
 unfoldable pub unicode : List ℕ → Out (List ℕ)
-unicode s = then (hex4 s) (λ u t. unit u t (partner u t))
+unicode s = andThen (hex4 s) (λ u t. unit u t (partner u t))
 
 unfoldable pub escape : List ℕ → Out (List ℕ)
 escape [] = bad
@@ -68,11 +68,11 @@ piece [] = bad
 piece (b ∷ s) = pick (eqb b (code "\\")) (escape s) (pick (ltb b 32) bad (ok (b ∷ []) s))
 
 -- n pieces at most, up to the closing quote; each takes an octet at least, so that the text's length is enough
-unfoldable pub pieces : ℕ → List ℕ → Out (List ℕ)
-pieces zero s = bad
-pieces (suc n) [] = bad
-pieces (suc n) (b ∷ s) = pick (eqb b (code "\"")) (ok [] s) (then (piece (b ∷ s)) (λ xs t. fmap (λ ys. xs ++ ys) (pieces n t)))
+unfoldable pub stringPieces : ℕ → List ℕ → Out (List ℕ)
+stringPieces zero s = bad
+stringPieces (suc n) [] = bad
+stringPieces (suc n) (b ∷ s) = pick (eqb b (code "\"")) (ok [] s) (andThen (piece (b ∷ s)) (λ xs t. fmap (λ ys. xs ++ ys) (stringPieces n t)))
 
 -- what follows the opening quote
 unfoldable pub string : List ℕ → Out (List ℕ)
-string s = pieces (suc (length s)) s
+string s = stringPieces (suc (length s)) s

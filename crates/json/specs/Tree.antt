@@ -25,9 +25,9 @@ unfoldable pub itemsOf : List Json → Items
 itemsOf [] = noItems
 itemsOf (j ∷ js) = item j (itemsOf js)
 
-unfoldable pub listOf : Items → List Json
-listOf noItems = []
-listOf (item j js) = j ∷ listOf js
+unfoldable pub listOfItems : Items → List Json
+listOfItems noItems = []
+listOfItems (item j js) = j ∷ listOfItems js
 
 -- what a value holds, if it is a string, a number, a boolean, an array, an object
 unfoldable pub string? : Json → Option (List ℕ)
@@ -81,7 +81,7 @@ octetsOf j = given (given [] (λ t. t) (string? j)) (λ t. t) (number? j)
 
 -- the elements of an array; other values have none
 unfoldable pub elements : Json → List Json
-elements j = given [] listOf (array? j)
+elements j = given [] listOfItems (array? j)
 
 -- one of them, counted from 0; null where it is not there
 unfoldable pub element : ℕ → Json → Json

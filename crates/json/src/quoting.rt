@@ -4,10 +4,10 @@ ghost use Prim.Native.Nat.{_≤_};
 ghost use lib.ListN.{length};
 ghost use Rattle.octets.specs.Pen.{pen, Wrote};
 ghost use Rattle.json.specs.Print.{escaped, printString};
-ghost use Rattle.json.specs.Promise.{Run, bareOctet};
+ghost use Rattle.json.specs.Promise.{Run, asIsOctet};
 
 fn is_bare(b: u8) -> bool
-    ensures { λ r. ⌜ r ≡ bareOctet b ⌝ }
+    ensures { λ r. ⌜ r ≡ asIsOctet b ⌝ }
 {
     match b {
         b'"' => false,
@@ -21,7 +21,7 @@ fn is_bare(b: u8) -> bool
 // The place behind the octets at `at` that are written as they are.
 fn past_bare(s: &[u8], at: usize) -> usize
     requires { ⌜ at ≤ length (now s) ⌝ }
-    ensures { λ r. ⌜ Run bareOctet (now (s .entry)) at r ⌝ }
+    ensures { λ r. ⌜ Run asIsOctet (now (s .entry)) at r ⌝ }
 {
     let mut i = at;
     while i < s.len() {

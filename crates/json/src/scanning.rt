@@ -2,7 +2,7 @@
 ghost use mathlib.Core.Path.{_≡_};
 ghost use Prim.Native.Nat.{_≤_};
 ghost use lib.ListN.{length, drop};
-ghost use Rattle.json.specs.Reads.{isSpace, word as wordOf};
+ghost use Rattle.json.specs.Reads.{isSpace, literal as wordOf};
 ghost use Rattle.json.specs.Promise.{Run, FoundAt};
 use crate::Found;
 

@@ -6,9 +6,9 @@ ghost use lib.ListN.{length, drop, getD};
 ghost use Rattle.octets.specs.Basics.{_and_, all};
 ghost use Rattle.octets.specs.Classes.{hexDigit};
 ghost use Rattle.octets.specs.Pen.{pen, Wrote};
-ghost use Rattle.json.specs.Strings.{escapeOf, hex4 as hex4Of, utf8Of, low as lowOf, partner as partnerOf, unicode as unicodeOf, escape as escapeText, string as stringOf};
+ghost use Rattle.json.specs.Strings.{escapeOf, hex4 as hex4Of, utf8Of, lowSurrogate as lowOf, partner as partnerOf, unicode as unicodeOf, escape as escapeText, string as stringOf};
 ghost use Rattle.json.specs.Tape.{serString};
-ghost use Rattle.json.specs.Promise.{Passed, Run, Agrees, codeOf, unescaped};
+ghost use Rattle.json.specs.Promise.{Passed, Run, Agrees, hexCode, unescaped};
 use crate::END;
 use crate::STRING;
 use crate::Step;
@@ -28,7 +28,7 @@ fn digit(text: &[u8], at: usize) -> usize
 // The number of four hexadecimal digits, or NONE.
 fn hex4(text: &[u8], at: usize) -> usize
     requires { ⌜ at ≤ length (now text) ⌝ }
-    ensures { λ r. ⌜ r ≡ codeOf (hex4Of (drop at (now (text .entry)))) ⌝ }
+    ensures { λ r. ⌜ r ≡ hexCode (hex4Of (drop at (now (text .entry)))) ⌝ }
 {
     let a = digit(&*text, at);
     if 15 < a {

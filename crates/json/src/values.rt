@@ -4,11 +4,11 @@ ghost use mathlib.Core.List.{List, [], _∷_};
 ghost use Prim.Native.Nat.{ℕ, _+_, _≤_};
 ghost use lib.ListN.{length, drop, getD};
 ghost use Rattle.octets.specs.Pen.{pen};
-ghost use Rattle.json.specs.Reads.{word as wordOf};
-ghost use Rattle.json.specs.Numbers.{number as numberOf};
-ghost use Rattle.json.specs.Reader.{bracket, brace, kindOf, key as keyOf, value as valueOf, parseText};
+ghost use Rattle.json.specs.Reads.{literal as wordOf};
+ghost use Rattle.json.specs.Numbers.{numberRead as numberOf};
+ghost use Rattle.json.specs.Reader.{bracket, brace, openingOf, memberKey as keyOf, valueWithin as valueOf, parseText};
 ghost use Rattle.json.specs.Tape.{tagNumber, tagEnd, serText, serString, ser};
-ghost use Rattle.json.specs.Parse.{laid, parsed};
+ghost use Rattle.json.specs.Parse.{taped, parsedOnto};
 ghost use Rattle.json.specs.Promise.{Agrees};
 use crate::ARRAY;
 use crate::END;
@@ -115,7 +115,7 @@ fn element(text: &[u8], at: usize, left: usize, tape: &mut [u8], to: usize) -> S
 
 // Reads a value whose first octet, at `at`, is `[`.
 fn array(text: &[u8], at: usize, left: usize, tape: &mut [u8], to: usize) -> Step
-    requires { ⌜ kindOf (getD (now text) at 0) ≡ bracket ⌝ }
+    requires { ⌜ openingOf (getD (now text) at 0) ≡ bracket ⌝ }
     ensures { λ r. ⌜ Agrees ser (now (text .entry)) (at + 1) (pen (now (tape .entry)) to) (now (tape .exit)) (valueOf left (drop at (now (text .entry)))) r ⌝ }
 {
     if left == 0 {
@@ -142,7 +142,7 @@ fn array(text: &[u8], at: usize, left: usize, tape: &mut [u8], to: usize) -> Ste
 
 // Reads a value whose first octet, at `at`, is `{`.
 fn object(text: &[u8], at: usize, left: usize, tape: &mut [u8], to: usize) -> Step
-    requires { ⌜ kindOf (getD (now text) at 0) ≡ brace ⌝ }
+    requires { ⌜ openingOf (getD (now text) at 0) ≡ brace ⌝ }
     ensures { λ r. ⌜ Agrees ser (now (text .entry)) (at + 1) (pen (now (tape .entry)) to) (now (tape .exit)) (valueOf left (drop at (now (text .entry)))) r ⌝ }
 {
     if left == 0 {
@@ -189,7 +189,7 @@ fn whole(text: &[u8], tape: &mut [u8]) -> Step
 
 // Reads a JSON text onto the tape; where there is none, or no room for it, the tape is zeroed.
 pub fn parse(text: &[u8], tape: &mut [u8]) -> Parsed
-    ensures { λ r. ⌜ laid r (now (tape .exit)) ≡ parsed (parseText (now (text .entry))) (now (tape .entry)) ⌝ }
+    ensures { λ r. ⌜ taped r (now (tape .exit)) ≡ parsedOnto (parseText (now (text .entry))) (now (tape .entry)) ⌝ }
 {
     let v = whole(text, tape);
     match v {

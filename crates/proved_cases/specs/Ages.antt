@@ -13,25 +13,25 @@ use Rattle.content.specs.Lines.{linesOf}
 use Rattle.conversion_theory.specs.Tree.{property, Component, component, leaf}
 use Rattle.conversion_theory.specs.ToJcal.{reading}
 use Rattle.conversion_theory.specs.Claim.{excepted, those, older, newer, Agree}
-use Rattle.proved_cases.specs.Cases.{calendar, jcal, none, added, sent, unlisted, listed, stated}
+use Rattle.proved_cases.specs.Cases.{calendar, jcal, noRows, added, sent, unlistedJcal, listedJcal, stated}
 
 -- the newer's table: the default types, which are the older's, and X-TROUGH as a date-time, many values
 abbrev pub grown : Table
 grown = defaults ++ entry (octets "X-TROUGH") dateTime true ∷ []
 
 -- the newer's reading
-abbrev pub read : Component
-read = component (octets "vcalendar") (property (octets "x-trough") [] (octets "date-time") (str (octets "2024-02-29T06:00:00Z") ∷ []) ∷ []) leaf
+abbrev pub newerReading : Component
+newerReading = component (octets "vcalendar") (property (octets "x-trough") [] (octets "date-time") (str (octets "2024-02-29T06:00:00Z") ∷ []) ∷ []) leaf
 
 pub record Ages : Type 0 where
   -- the claim's hypotheses
-  pub old : tableOf none ≡ accepted defaults
+  pub old : tableOf noRows ≡ accepted defaults
   pub new : tableOf added ≡ accepted grown
   pub keeps : Keeps defaults grown
-  pub reads : reading added (calendar sent) ≡ accepted read
+  pub reads : reading added (calendar sent) ≡ accepted newerReading
   -- what it says: one line is excepted, the two texts are those of the cases, and what the newer wrote comes back from the older with its type
-  pub agree : Agree none added defaults grown (calendar sent) read
+  pub agree : Agree noRows added defaults grown (calendar sent) newerReading
   pub excepts : those (excepted defaults grown) (map lineOf (linesOf (calendar sent))) ≡ lineOf sent ∷ []
-  pub newer-has : agree .jcal newer ≡ jcal listed
-  pub older-has : agree .jcal older ≡ jcal unlisted
+  pub newer-has : agree .jcal newer ≡ jcal listedJcal
+  pub older-has : agree .jcal older ≡ jcal unlistedJcal
   pub comes-back : agree .again newer older ≡ calendar stated

@@ -31,8 +31,8 @@ Holds (returns rows property line) = toIcal rows (jcal property) ≡ accepted (c
 Holds (pairs rows text j) = (toJcal rows text ≡ accepted j) × (toIcal rows j ≡ accepted text)
 Holds (prints input page) = printed input ≡ page
 
-abbrev pub none : List ℕ
-none = []
+abbrev pub noRows : List ℕ
+noRows = []
 
 -- X-TROUGH as a date-time, many values
 abbrev pub added : List ℕ
@@ -42,11 +42,11 @@ added = octets "0501582D54524F554748\n"
 abbrev pub sent : List ℕ
 sent = octets "X-TROUGH:20240229T060000Z"
 
-abbrev pub unlisted : List ℕ
-unlisted = octets "[\"x-trough\",{},\"unknown\",\"20240229T060000Z\"]"
+abbrev pub unlistedJcal : List ℕ
+unlistedJcal = octets "[\"x-trough\",{},\"unknown\",\"20240229T060000Z\"]"
 
-abbrev pub listed : List ℕ
-listed = octets "[\"x-trough\",{},\"date-time\",\"2024-02-29T06:00:00Z\"]"
+abbrev pub listedJcal : List ℕ
+listedJcal = octets "[\"x-trough\",{},\"date-time\",\"2024-02-29T06:00:00Z\"]"
 
 -- the line that says the type, for a table without the row
 abbrev pub stated : List ℕ
@@ -54,23 +54,23 @@ stated = octets "X-TROUGH;VALUE=DATE-TIME:20240229T060000Z"
 
 abbrev pub cases : List Case
 cases =
-    holds none (octets "DTSTART;VALUE=DATE:20240229") (octets "[\"dtstart\",{},\"date\",\"2024-02-29\"]")
-    ∷ holds none (octets "DTSTART;VALUE=DATE:20000229") (octets "[\"dtstart\",{},\"date\",\"2000-02-29\"]")
-    ∷ refuses none (octets "DTSTART;VALUE=DATE:20230229") 9
-    ∷ refuses none (octets "DTSTART;VALUE=DATE:21000229") 9
-    ∷ refuses none (octets "DURATION:PT1H30S") 9
-    ∷ holds none (octets "X-LOAD;VALUE=FLOAT:+007.50") (octets "[\"x-load\",{},\"float\",7.50]")
-    ∷ holds none (octets "X-LOAD;X-NOTE=^^n:1") (octets "[\"x-load\",{\"x-note\":\"^n\"},\"unknown\",\"1\"]")
-    ∷ refuses none (octets "TZOFFSETTO:-0000") 9
-    ∷ refuses none (octets "PRIORITY:2147483648") 9
-    ∷ holds none (octets "PRIORITY:-2147483648") (octets "[\"priority\",{},\"integer\",-2147483648]")
+    holds noRows (octets "DTSTART;VALUE=DATE:20240229") (octets "[\"dtstart\",{},\"date\",\"2024-02-29\"]")
+    ∷ holds noRows (octets "DTSTART;VALUE=DATE:20000229") (octets "[\"dtstart\",{},\"date\",\"2000-02-29\"]")
+    ∷ refuses noRows (octets "DTSTART;VALUE=DATE:20230229") 9
+    ∷ refuses noRows (octets "DTSTART;VALUE=DATE:21000229") 9
+    ∷ refuses noRows (octets "DURATION:PT1H30S") 9
+    ∷ holds noRows (octets "X-LOAD;VALUE=FLOAT:+007.50") (octets "[\"x-load\",{},\"float\",7.50]")
+    ∷ holds noRows (octets "X-LOAD;X-NOTE=^^n:1") (octets "[\"x-load\",{\"x-note\":\"^n\"},\"unknown\",\"1\"]")
+    ∷ refuses noRows (octets "TZOFFSETTO:-0000") 9
+    ∷ refuses noRows (octets "PRIORITY:2147483648") 9
+    ∷ holds noRows (octets "PRIORITY:-2147483648") (octets "[\"priority\",{},\"integer\",-2147483648]")
     ∷ prints (octets "20240228T180000\nFREQ=HOURLY;INTERVAL=12;COUNT=4\n10\n")
     (octets "stops 4\n1 2024-02-28T18:00:00\n2 2024-02-29T06:00:00\n3 2024-02-29T18:00:00\n4 2024-03-01T06:00:00\n")
     ∷ prints (octets "20240229\nFREQ=DAILY;INTERVAL=366\n2\n") (octets "stops 2\n1 2024-02-29\n2 2025-03-01\n")
-    ∷ holds none sent unlisted
-    ∷ holds added sent listed
-    ∷ returns none listed stated
-    ∷ pairs none (octets "BEGIN:VCALENDAR\r\nEND:VCALENDAR\r\n") (octets "[\"vcalendar\",[],[]]")
+    ∷ holds noRows sent unlistedJcal
+    ∷ holds added sent listedJcal
+    ∷ returns noRows listedJcal stated
+    ∷ pairs noRows (octets "BEGIN:VCALENDAR\r\nEND:VCALENDAR\r\n") (octets "[\"vcalendar\",[],[]]")
     ∷ []
 
 -- THE CLAIM

@@ -9,7 +9,7 @@ use lib.ListN.{length, take, drop, set, length-set, take-append-drop}
 use lib.Seq.{take-suc-set, drop-set-lt, length-take-le, drop-drop}
 use Rattle.stop_list.specs.declared.Stop.{Stop}
 use Rattle.stop_list.specs.declared.runs.Run.{Run}
-use Rattle.stop_list.specs.Runs.{nextRun, stopsOf, Sound, Begins, Laid}
+use Rattle.stop_list.specs.Runs.{nextRun, stopsOf, Sound, Begins, StopsLaid}
 use Rattle.stop_list.proofs.Running.{next-at, next-sound, next-stops, ended-stops}
 
 pub record Filling {A : Type 0} (all rest old new : List A) (i : ℕ) : Type 0 where
@@ -69,7 +69,7 @@ module _ (first : Run) (old : List Stop) where
               (turns (stopsOf first) old (stopsOf (nextRun run)) new (run .stop) (run .at) (omega arith) (rw (next-stops run (g .sound) b) at (g .filling)));
         }
 
-    pub stops : run .more ≡ false → Laid (stopsOf first) old new (run .at)
+    pub stops : run .more ≡ false → StopsLaid (stopsOf first) old new (run .at)
     stops b =
         let e = ends (stopsOf first) old (stopsOf run) new (run .at) (ended-stops run b) (g .filling) in
         record { count = e .0; list = e .1 ∙ ap (λ n. stopsOf first ++ drop n old) (e .0) }

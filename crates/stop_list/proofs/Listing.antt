@@ -26,9 +26,9 @@ use Rattle.stop_list.specs.declared.Stop.{Stop}
 use Rattle.stop_list.specs.declared.Listed.{Listed}
 use Rattle.stop_list.specs.declared.Listed.the-variants.{Stops, Refused}
 use Rattle.stop_list.specs.declared.plans.Plan.{Plan}
-use Rattle.stop_list.specs.Stops.{startOf, hoursOf, served, momentsFrom, stop, listOf, answer, outcome}
-use Rattle.stop_list.specs.Runs.{runAt, stopsOf, realEnd, Begins, Laid}
-use Rattle.stop_list.specs.Plans.{idle, refusedFor, planned, planOf, concluded, told}
+use Rattle.stop_list.specs.Stops.{startOf, hoursOf, served, momentsFrom, stop, listOf, listAnswer, listOutcome}
+use Rattle.stop_list.specs.Runs.{runAt, stopsOf, realEnd, Begins, StopsLaid}
+use Rattle.stop_list.specs.Plans.{idle, refusedFor, planned, planOf, concluded, listTold}
 use Rattle.stop_list.proofs.Running.{at-sound, stops-at, ended-stops}
 use Rattle.stop_list.proofs.Ends.{rule-real}
 
@@ -71,7 +71,7 @@ module _ (start rule : List ℕ) where
 
   -- what a plan tells is the definition's answer, and a refusal has no stop
   pub record Tells (p : Plan) (room : ℕ) : Type 0 where
-    pub answer : told (p .listed) (stopsOf (p .run)) ≡ listOf start rule room
+    pub listAnswer : listTold (p .listed) (stopsOf (p .run)) ≡ listOf start rule room
     pub none : (why : Refusal) → p .listed ≡ Refused why → stopsOf (p .run) ≡ []
 
   served-stops : (m : Moment) (r : Rule) (room : ℕ) → isMoment m ≡ true → realEnd (r .end)
@@ -79,17 +79,17 @@ module _ (start rule : List ℕ) where
   served-stops m r room a b = rw (sub-zero room) at (stops-at 0 room (stop m) (hoursOf (r .frequency) (r .interval)) (r .end) a b)
 
   planned-tells : (room : ℕ) (o : Option Moment) (q : Option Rule) → guard onTime (readMoment start) ≡ o → readRule rule ≡ q → Tells (planned o q room) room
-  unfolding planned refusedFor told listOf startOf then orElse unless
-  planned-tells room none q e f = record { answer = rw e; none = λ why g. idle-stops room }
-  planned-tells room (some m) none e f = record { answer = rw (e, f); none = λ why g. idle-stops room }
+  unfolding planned refusedFor listTold listOf startOf then orElse unless
+  planned-tells room none q e f = record { listAnswer = rw e; none = λ why g. idle-stops room }
+  planned-tells room (some m) none e f = record { listAnswer = rw (e, f); none = λ why g. idle-stops room }
   planned-tells room (some m) (some r) e f =
       cases (served r (m .kind))
       (λ s.
       rw s (record {
-        answer = rw (e, f, s) (ap accepted (served-stops m r room (read-real start m (guard-is onTime (readMoment start) m e .0)) (rule-real rule r f)));
+        listAnswer = rw (e, f, s) (ap accepted (served-stops m r room (read-real start m (guard-is onTime (readMoment start) m e .0)) (rule-real rule r f)));
         none = λ why g. absurd (never g);
       }))
-      (λ s. rw s (record { answer = rw (e, f, s); none = λ why g. idle-stops room }))
+      (λ s. rw s (record { listAnswer = rw (e, f, s); none = λ why g. idle-stops room }))
     where
       never : {why : Refusal} → Stops 0 ≡ Refused why → ⊥
       never g = let z : _≡_ {A = ℕ} 0 1 = cc in omega arith
@@ -99,13 +99,13 @@ module _ (start rule : List ℕ) where
   plan-tells room = planned-tells room (guard onTime (readMoment start)) (readRule rule) refl refl
 
 -- laid into a list, that is what the list holds then
-laid-told : (d : Listed) (ss ys us : List Stop) (n : ℕ) → ((why : Refusal) → d ≡ Refused why → ss ≡ []) → Laid ss ys us n → outcome (concluded d n) us ≡ answer (told d ss) ys
-unfolding told concluded outcome answer
+laid-told : (d : Listed) (ss ys us : List Stop) (n : ℕ) → ((why : Refusal) → d ≡ Refused why → ss ≡ []) → StopsLaid ss ys us n → listOutcome (concluded d n) us ≡ listAnswer (listTold d ss) ys
+unfolding listTold concluded listOutcome listAnswer
 laid-told (Stops k) ss ys us n h l = cc (l .count, l .list)
 laid-told (Refused why) ss ys us n h l = let e : us ≡ ys = (rw (h why refl) at (l .list)) in rw e
 
-pub plan-lists : (start rule : List ℕ) (ys us : List Stop) (n : ℕ) → Laid (stopsOf (planOf start rule (length ys) .run)) ys us n
-    → outcome (concluded (planOf start rule (length ys) .listed) n) us ≡ answer (listOf start rule (length ys)) ys
+pub plan-lists : (start rule : List ℕ) (ys us : List Stop) (n : ℕ) → StopsLaid (stopsOf (planOf start rule (length ys) .run)) ys us n
+    → listOutcome (concluded (planOf start rule (length ys) .listed) n) us ≡ listAnswer (listOf start rule (length ys)) ys
 plan-lists start rule ys us n l =
     let t = plan-tells start rule (length ys) in
-    laid-told _ _ ys us n (t .none) l ∙ ap (λ (a : Answer (List Stop)). answer a ys) (t .answer)
+    laid-told _ _ ys us n (t .none) l ∙ ap (λ (a : Answer (List Stop)). listAnswer a ys) (t .answer)

@@ -60,6 +60,6 @@ concluded (Stops k) n = Stops n
 concluded (Refused r) n = Refused r
 
 -- the definition's answer, told by a plan's and the stops of its run
-unfoldable pub told : Listed → List Stop → Answer (List Stop)
-told (Stops k) ss = accepted ss
-told (Refused r) ss = refused (number r)
+unfoldable pub listTold : Listed → List Stop → Answer (List Stop)
+listTold (Stops k) ss = accepted ss
+listTold (Refused r) ss = refused (number r)

@@ -22,22 +22,22 @@ unfoldable pub seconds : Moment → ℕ
 seconds m = pick (isMoment m) (secondNumber m) 0
 
 -- the end allows one moment more, which is m
-unfoldable pub within : End → Moment → Bool
-within (Count n) m = leb 1 n
-within (Until u) m = leb (seconds m) (seconds u)
-within Open m = true
+unfoldable pub allows : End → Moment → Bool
+allows (Count n) m = leb 1 n
+allows (Until u) m = leb (seconds m) (seconds u)
+allows Open m = true
 
 unfoldable pub runAt : ℕ → ℕ → Stop → ℕ → End → Run
-runAt at room s h e = record { more = ltb at room and within e (s .moment); at = at; room = room; stop = s; hours = h; end = e }
+runAt at room s h e = record { more = ltb at room and allows e (s .moment); at = at; room = room; stop = s; hours = h; end = e }
 
 -- behind the last stop
-unfoldable pub ended : Run → Run
-ended r = record { more = false; at = r .at + 1; room = r .room; stop = r .stop; hours = r .hours; end = r .end }
+unfoldable pub runEnded : Run → Run
+runEnded r = record { more = false; at = r .at + 1; room = r .room; stop = r .stop; hours = r .hours; end = r .end }
 
 unfoldable pub nextFrom : Run → StopMoved → Run
 nextFrom r (At s) = runAt (r .at + 1) (r .room) s (r .hours) (oneLess (r .end))
-nextFrom r Past = ended r
-nextFrom r NoMoment = ended r
+nextFrom r Past = runEnded r
+nextFrom r NoMoment = runEnded r
 
 unfoldable pub nextRun : Run → Run
 nextRun r = nextFrom r (stopOn (r .stop) (r .hours))
@@ -70,6 +70,6 @@ pub record Begins (r : Run) (room : ℕ) : Type 0 where
   pub whole : r .room ≡ room
 
 -- so many stops are laid at the front of the list, and the records behind them are as before
-pub record Laid (ss old new : List Stop) (n : ℕ) : Type 0 where
+pub record StopsLaid (ss old new : List Stop) (n : ℕ) : Type 0 where
   pub count : n ≡ length ss
   pub list : new ≡ ss ++ drop (length ss) old

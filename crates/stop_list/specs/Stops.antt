@@ -107,20 +107,20 @@ listOf start rule room =
     accepted (map stop (momentsFrom room (hoursOf (r .frequency) (r .interval)) (r .end) (some m))))))
 
 -- what listing leaves: its number (0 for success), the count, and the whole lent list
-pub record Filled : Type 0 where
+pub record ListSettled : Type 0 where
   pub number : ℕ
   pub count : ℕ
   pub list : List Stop
 
-abbrev pub filled : ℕ → ℕ → List Stop → Filled
-filled n c l = record { number = n; count = c; list = l }
+abbrev pub listSettled : ℕ → ℕ → List Stop → ListSettled
+listSettled n c l = record { number = n; count = c; list = l }
 
 -- a refusal leaves the list unchanged, and so does success behind the count
-unfoldable pub answer : Answer (List Stop) → List Stop → Filled
-answer (refused n) list = filled n 0 list
-answer (accepted ss) list = filled 0 (length ss) (ss ++ drop (length ss) list)
+unfoldable pub listAnswer : Answer (List Stop) → List Stop → ListSettled
+listAnswer (refused n) list = listSettled n 0 list
+listAnswer (accepted ss) list = listSettled 0 (length ss) (ss ++ drop (length ss) list)
 
 -- what a returned `Listed` says, with the list as it is then
-unfoldable pub outcome : Listed → List Stop → Filled
-outcome (Stops n) list = filled 0 n list
-outcome (Refused r) list = filled (number r) 0 list
+unfoldable pub listOutcome : Listed → List Stop → ListSettled
+listOutcome (Stops n) list = listSettled 0 n list
+listOutcome (Refused r) list = listSettled (number r) 0 list

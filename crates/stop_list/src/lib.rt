@@ -5,8 +5,8 @@ pub mod runs;
 ghost use mathlib.Core.Path.{_≡_};
 ghost use Prim.Native.Nat.{_<_};
 ghost use lib.ListN.{length, set};
-ghost use Rattle.stop_list.specs.Stops.{stopOn, listOf, answer, outcome};
-ghost use Rattle.stop_list.specs.Runs.{stopsOf, Begins, Laid};
+ghost use Rattle.stop_list.specs.Stops.{stopOn, listOf, listAnswer, listOutcome};
+ghost use Rattle.stop_list.specs.Runs.{stopsOf, Begins, StopsLaid};
 use crate::plans::conclude;
 use crate::plans::make_plan;
 use crate::runs::Run;
@@ -74,7 +74,7 @@ fn store(list: &mut [Stop], at: usize, stop: Stop)
 // Lists a run of stops from the front of the list, and says how many there are.
 fn fill(list: &mut [Stop], first: Run) -> usize
     requires { ⌜ Begins first (length (now list)) ⌝ }
-    ensures { λ r. ⌜ Laid (stopsOf first) (now (list .entry)) (now (list .exit)) r ⌝ }
+    ensures { λ r. ⌜ StopsLaid (stopsOf first) (now (list .entry)) (now (list .exit)) r ⌝ }
 {
     let mut run = first;
     while run.more {
@@ -86,7 +86,7 @@ fn fill(list: &mut [Stop], first: Run) -> usize
 
 // Lists the stops of a start and a rule.
 pub fn list_stops(start: &[u8], rule: &[u8], list: &mut [Stop]) -> Listed
-    ensures { λ r. ⌜ outcome r (now (list .exit)) ≡ answer (listOf (now (start .entry)) (now (rule .entry)) (length (now (list .entry)))) (now (list .entry)) ⌝ }
+    ensures { λ r. ⌜ listOutcome r (now (list .exit)) ≡ listAnswer (listOf (now (start .entry)) (now (rule .entry)) (length (now (list .entry)))) (now (list .entry)) ⌝ }
 {
     let room = list.len();
     let plan = make_plan(start, rule, room);

@@ -20,9 +20,9 @@ use Rattle.stop_list.specs.declared.Stop.{Stop}
 use Rattle.stop_list.specs.declared.Listed.{Listed}
 use Rattle.stop_list.specs.declared.Listed.the-variants.{Stops, Refused}
 use Rattle.stop_list.specs.declared.plans.Plan.{Plan}
-use Rattle.stop_list.specs.Stops.{listOf, Filled, answer, outcome}
+use Rattle.stop_list.specs.Stops.{listOf, ListSettled, listAnswer, listOutcome}
 use Rattle.stop_list.specs.Runs.{stopsOf, Begins}
-use Rattle.stop_list.specs.Plans.{told, planOf}
+use Rattle.stop_list.specs.Plans.{listTold, planOf}
 use Rattle.stop_list.proofs.Listing.{plan-begins, plan-tells}
 use Rattle.stops_page.specs.declared.Page.{Page}
 use Rattle.stops_page.specs.Pages.{Lists}
@@ -35,19 +35,19 @@ module _ (start rule : List ℕ) (room : ℕ) (p : Plan) (e : p ≡ planOf start
       let b : Begins (p .run) room = rw e (plan-begins start rule room) in
       record { sound = b .sound; front = b .front; whole = refl }
 
-  tells : told (p .listed) (stopsOf (p .run)) ≡ listOf start rule room
+  tells : listTold (p .listed) (stopsOf (p .run)) ≡ listOf start rule room
   tells = rw e (plan-tells start rule room .answer)
 
   pub shows-stops : (k n : ℕ) → p .listed ≡ Stops k → n ≡ length (stopsOf (p .run))
       → headShown (octets "stops ") n ++ stopsShown (p .run .at + 1) (stopsOf (p .run)) ≡ answerShown (listOf start rule room)
-  unfolding told answerShown
+  unfolding listTold answerShown
   shows-stops k n d c =
       ap (λ (x : ℕ). headShown (octets "stops ") x ++ stopsShown (p .run .at + 1) (stopsOf (p .run))) c
       ∙ ap (λ (x : ℕ). headShown (octets "stops ") (length (stopsOf (p .run))) ++ stopsShown (x + 1) (stopsOf (p .run))) (begins .front)
       ∙ ap answerShown (rw d at tells)
 
   pub shows-refusal : (why : Refusal) → p .listed ≡ Refused why → headShown (octets "refused ") (number why) ≡ answerShown (listOf start rule room)
-  unfolding told answerShown
+  unfolding listTold answerShown
   shows-refusal why d = ap answerShown (rw d at tells)
 
 -- a refusal has a number
@@ -70,29 +70,29 @@ numbered NotServed e = omega arith
 
 -- an answer and the list that it leaves, held against a plan's
 module _ (ss list old : List Stop) where
-  left-stops : (n : ℕ) (d : Listed) → outcome (Stops n) list ≡ answer (told d ss) old → (n ≤ length list) × (told d ss ≡ accepted (take n list)) × (n ≡ length (take n list))
-  unfolding outcome answer told
+  left-stops : (n : ℕ) (d : Listed) → listOutcome (Stops n) list ≡ listAnswer (listTold d ss) old → (n ≤ length list) × (listTold d ss ≡ accepted (take n list)) × (n ≡ length (take n list))
+  unfolding listOutcome listAnswer listTold
   left-stops n (Stops k) e =
-      let c : n ≡ length ss = ap (λ (f : Filled). f .count) e in
-      let l : list ≡ ss ++ drop (length ss) old = ap (λ (f : Filled). f .list) e in
+      let c : n ≡ length ss = ap (λ (f : ListSettled). f .count) e in
+      let l : list ≡ ss ++ drop (length ss) old = ap (λ (f : ListSettled). f .list) e in
       let t : take n list ≡ ss = ap (take n) l ∙ take-at ss (drop (length ss) old) n (sym c) in
       (rw l (omega (arith, length-append ss (drop (length ss) old))), ap accepted (sym t), rw t c)
-  left-stops n (Refused why) e = absurd (numbered why (sym (ap (λ (f : Filled). f .number) e)))
+  left-stops n (Refused why) e = absurd (numbered why (sym (ap (λ (f : ListSettled). f .number) e)))
 
-  left-refusal : (why : Refusal) (d : Listed) → outcome (Refused why) list ≡ answer (told d ss) old → told d ss ≡ refused (number why)
-  unfolding outcome answer told
-  left-refusal why (Stops k) e = absurd (numbered why (ap (λ (f : Filled). f .number) e))
-  left-refusal why (Refused r) e = ap refused (sym (ap (λ (f : Filled). f .number) e))
+  left-refusal : (why : Refusal) (d : Listed) → listOutcome (Refused why) list ≡ listAnswer (listTold d ss) old → listTold d ss ≡ refused (number why)
+  unfolding listOutcome listAnswer listTold
+  left-refusal why (Stops k) e = absurd (numbered why (ap (λ (f : ListSettled). f .number) e))
+  left-refusal why (Refused r) e = ap refused (sym (ap (λ (f : ListSettled). f .number) e))
 
 -- the page of a start and a rule
 module _ (list : List Stop) (start rule : List ℕ) (most : ℕ) (p : Page) (l : Lists list start rule most p) where
   abbrev plan : Plan
   plan = planOf start rule most
 
-  is-told : told (plan .listed) (stopsOf (plan .run)) ≡ listOf start rule most
+  is-told : listTold (plan .listed) (stopsOf (plan .run)) ≡ listOf start rule most
   is-told = plan-tells start rule most .answer
 
-  held : (d : Listed) → p .listed ≡ d → outcome d (take most (p .list)) ≡ answer (told (plan .listed) (stopsOf (plan .run))) (take most list)
+  held : (d : Listed) → p .listed ≡ d → listOutcome d (take most (p .list)) ≡ listAnswer (listTold (plan .listed) (stopsOf (plan .run))) (take most list)
   held d e = rw (is-told, ← e) (l .front)
 
   module _ (n : ℕ) (e : p .listed ≡ Stops n) where

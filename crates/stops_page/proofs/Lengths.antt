@@ -28,7 +28,7 @@ use Rattle.calendar.specs.declared.rules.End.{End}
 use Rattle.calendar.specs.declared.rules.Rule.{Rule}
 use Rattle.stop_list.specs.declared.Stop.{Stop}
 use Rattle.stop_list.specs.Stops.{startOf, hoursOf, served, allows, oneLess, momentsFrom, stop, listOf}
-use Rattle.stops_page.specs.Printing.{threeShown, dateShown, clockShown, timeShown, momentShown, stopShown, stopsShown, headShown, answerShown, badInput, mostOf, shownFor, lines, linesShown, printed}
+use Rattle.stops_page.specs.Printing.{threeShown, dateShown, clockShown, timeShown, momentShown, stopShown, stopsShown, headShown, answerShown, badInput, mostOf, shownFor, inputLines, linesShown, printed}
 use Rattle.stops_page.proofs.Answering.{most-bound}
 
 trim-short : (s : List ℕ) → length (trim s) ≤ length s
@@ -126,7 +126,7 @@ lines-short (a ∷ b ∷ c ∷ d ∷ ls) = bad-short
 pub printed-short : (text : List ℕ) → length (printed text) ≤ 2715
 unfolding printed
 printed-short text = cases (leb (length text) mostText)
-    (λ b. rw b (lines-short (lines (split (code "\n") text))))
+    (λ b. rw b (lines-short (inputLines (split (code "\n") text))))
     (λ b. rw b bad-short)
 
 -- so a pen that writes it into a buffer with that much room stops within it

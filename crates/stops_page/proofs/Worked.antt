@@ -16,7 +16,7 @@ use Rattle.calendar.specs.Recurrence.{keys, keyIn, keyNamed, frequencies, weekd
 use Rattle.calendar.specs.Rules.{firstOf, valueNamed, frequencyOf, weekdayOf, untilMoment, endOf, byParts, ruleFrom, readRule}
 use Rattle.stop_list.specs.Stops.{startOf, hoursOf, frequencyServed, hasBy, endServed, served, allows, oneLess, momentsFrom, listOf}
 use Rattle.octets.specs.Answers.{then, orElse, unless}
-use Rattle.stops_page.specs.Printing.{threeShown, dateShown, clockShown, timeShown, momentShown, stopShown, stopsShown, headShown, answerShown, badInput, mostStops, mostOf, shownFor, chop, lines, linesShown, printed}
+use Rattle.stops_page.specs.Printing.{threeShown, dateShown, clockShown, timeShown, momentShown, stopShown, stopsShown, headShown, answerShown, badInput, mostStops, mostOf, shownFor, chop, inputLines, linesShown, printed}
 
 -- an input, and what is printed for it
 pub record Case : Type 0 where
@@ -46,5 +46,5 @@ Hold [] = Unit {0}
 Hold (c ∷ cs) = (printed (c .input) ≡ c .page) × Hold cs
 
 pub worked : Hold cases
-unfolding all any filled single same among twice onto cut split map? both? then? or? isSome when guard given each between isDigit isLower upperOctet upper digits valueFrom valueOf isSign minus unsigned trim minusIf integerText mostInteger lastYear then orElse unless leapDay months monthDays yearDays isDay beforeYear sum beforeMonth dayNumber dayCount inMonths inYears dateAt takes fits kept extended dateForm clockForm utc dateTimeForm numberAt dayIn isClock clockIn dateOf momentIn dateTimeOf momentOf kindOf momentFrom readMoment hourNumber atHour moved secondNumber notBehind sameKind keys keyIn keyNamed frequencies weekdays wordOf untilOf countOf numberOf ordinalOf dayOf itemOf several keyedPart partOf names isRule partsOf firstOf valueNamed frequencyOf weekdayOf untilMoment endOf byParts ruleFrom readRule startOf hoursOf frequencyServed hasBy endServed served allows oneLess momentsFrom listOf figures decimal mostText threeShown dateShown clockShown timeShown momentShown stopShown stopsShown headShown answerShown badInput mostStops mostOf shownFor chop lines linesShown printed
+unfolding all any filled single same among twice onto cut split map? both? then? or? isSome when guard given each between isDigit isLower upperOctet upper digits valueFrom valueOf isSign minus unsigned trim minusIf integerText mostInteger lastYear then orElse unless leapDay months monthDays yearDays isDay beforeYear sum beforeMonth dayNumber dayCount inMonths inYears dateAt takes fits kept extended dateForm clockForm utc dateTimeForm numberAt dayIn isClock clockIn dateOf momentIn dateTimeOf momentOf kindOf momentFrom readMoment hourNumber atHour moved secondNumber notBehind sameKind keys keyIn keyNamed frequencies weekdays wordOf untilOf countOf numberOf ordinalOf dayOf itemOf several keyedPart partOf names isRule partsOf firstOf valueNamed frequencyOf weekdayOf untilMoment endOf byParts ruleFrom readRule startOf hoursOf frequencyServed hasBy endServed served allows oneLess momentsFrom listOf figures decimal mostText threeShown dateShown clockShown timeShown momentShown stopShown stopsShown headShown answerShown badInput mostStops mostOf shownFor chop inputLines linesShown printed
 worked = (refl, (refl, (refl, (refl, (refl, (refl, (refl, (refl, (refl, (refl, tt))))))))))

@@ -16,11 +16,11 @@ use Rattle.calendar.specs.declared.moments.Kind.the-variants.{Day, Local, Utc}
 use Rattle.stop_list.specs.declared.Stop.{Stop}
 use Rattle.stop_list.specs.declared.StopMoved.{StopMoved}
 use Rattle.stop_list.specs.declared.StopMoved.the-variants.{At, Past, NoMoment}
-use Rattle.stop_list.specs.Stops.{stopOn, listOf, answer, outcome}
+use Rattle.stop_list.specs.Stops.{stopOn, listOf, listAnswer, listOutcome}
 use Rattle.stops_page.specs.declared.Most.{Most}
 use Rattle.stops_page.specs.declared.Most.the-variants.{Is, NoNumber}
 use Rattle.stops_page.specs.declared.Page.{Page}
-use Rattle.stops_page.specs.Printing.{chop, lines, linesShown}
+use Rattle.stops_page.specs.Printing.{chop, inputLines, linesShown}
 
 -- how many octets of a moment as it is shown in UTC are shown for a kind
 unfoldable pub shownLength : Kind → ℕ
@@ -51,9 +51,9 @@ mostSaid NoNumber = none
 
 -- the answer for as many records of a list as are asked for, and the list then: the records behind them are as before
 pub record Lists (list : List Stop) (start rule : List ℕ) (most : ℕ) (p : Page) : Type 0 where
-  pub front : outcome (p .listed) (take most (p .list)) ≡ answer (listOf start rule most) (take most list)
+  pub front : listOutcome (p .listed) (take most (p .list)) ≡ listAnswer (listOf start rule most) (take most list)
   pub behind : drop most (p .list) ≡ drop most list
 
 -- two lines, and what stands behind them
 unfoldable pub thirdShown : List ℕ → List ℕ → List ℕ → List ℕ
-thirdShown a b s = linesShown (chop a ∷ chop b ∷ lines (split (code "\n") s))
+thirdShown a b s = linesShown (chop a ∷ chop b ∷ inputLines (split (code "\n") s))

@@ -77,10 +77,10 @@ chop [] = []
 chop (c ∷ s) = pick (eqb c (code "\r") and not (filled s)) [] (c ∷ chop s)
 
 -- the lines of the pieces between LFs; what stands behind the last LF is a line if it has octets
-unfoldable pub lines : List (List ℕ) → List (List ℕ)
-lines [] = []
-lines (l ∷ []) = pick (filled l) (l ∷ []) []
-lines (l ∷ m ∷ ls) = chop l ∷ lines (m ∷ ls)
+unfoldable pub inputLines : List (List ℕ) → List (List ℕ)
+inputLines [] = []
+inputLines (l ∷ []) = pick (filled l) (l ∷ []) []
+inputLines (l ∷ m ∷ ls) = chop l ∷ inputLines (m ∷ ls)
 
 -- three lines, no more and no less
 unfoldable pub linesShown : List (List ℕ) → List ℕ
@@ -91,4 +91,4 @@ linesShown (a ∷ b ∷ c ∷ []) = shownFor a b c
 linesShown (a ∷ b ∷ c ∷ d ∷ ls) = badInput
 
 unfoldable pub printed : List ℕ → List ℕ
-printed text = pick (leb (length text) mostText) (linesShown (lines (split (code "\n") text))) badInput
+printed text = pick (leb (length text) mostText) (linesShown (inputLines (split (code "\n") text))) badInput

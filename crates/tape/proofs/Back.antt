@@ -12,14 +12,14 @@ use Rattle.octets.proofs.Positions.{upto}
 use Rattle.json.specs.Tree.{Json, str, Items, noItems, item, Members, noMembers, member}
 use Rattle.json.specs.Tape.{tagEnd, serText, ser, serItems, serMembers}
 use Rattle.tape.specs.Sound.{hasLone, distinctKeys, sound, soundItems, soundMembers}
-use Rattle.tape.specs.Decode.{group, push, paired, text, inText, groups, view, valueAt}
+use Rattle.tape.specs.Decode.{group, push, paired, textAtFront, inText, groups, view, valueAt}
 use Rattle.tape.specs.Scan.{soundAlong, soundTape}
 use Rattle.json.proofs.Fine.{Clean, clean-end, clean, Fine, f-null, f-false, f-true, f-num, f-str, f-arr, f-obj, FineItems, f-none, f-item, FineMembers, f-empty, f-member}
 use Rattle.tape.proofs.Values.{shown, string-octets}
 
 -- a text and what stands behind it
-text-back : {t : List ℕ} → Clean t → (r : List ℕ) → text (serText t ++ r) ≡ t
-unfolding text
+text-back : {t : List ℕ} → Clean t → (r : List ℕ) → textAtFront (serText t ++ r) ≡ t
+unfolding textAtFront
 text-back clean-end r = refl
 text-back (clean {b} n c) r = rw (ne-eqb b tagEnd n, text-back c r)
 

@@ -10,7 +10,7 @@ use lib.Seq.{drop-drop}
 use Rattle.octets.specs.Basics.{all}
 use Rattle.octets.proofs.Cases.{both}
 use Rattle.json.specs.Tape.{tagEnd}
-use Rattle.tape.specs.Decode.{text, textAt}
+use Rattle.tape.specs.Decode.{textAtFront, textAt}
 use Rattle.tape.specs.Promise.{Sought}
 use Rattle.tape.proofs.Tags.{read-tag, text-here, text-on}
 
@@ -47,8 +47,8 @@ passed : (b : Bool) → not b ≡ true → b ≡ false
 passed true h = absurd (false≢true h)
 passed false h = refl
 
-past : (k : ℕ) (s : List ℕ) → k ≤ length s → all (λ c. not (eqb c tagEnd)) (take k s) ≡ true → length (text s) ≡ k + length (text (drop k s))
-unfolding text all
+past : (k : ℕ) (s : List ℕ) → k ≤ length s → all (λ c. not (eqb c tagEnd)) (take k s) ≡ true → length (textAtFront s) ≡ k + length (textAtFront (drop k s))
+unfolding textAtFront all
 past zero s l h = omega arith
 past (suc k) [] l h = absurd (omega arith)
 past (suc k) (c ∷ s) l h =
@@ -62,4 +62,4 @@ unfolding textAt
 past-part t i e l m h =
     let q : i + (e - i) ≡ e = omega arith in
     let k : drop (e - i) (drop i t) ≡ drop e t = drop-drop (e - i) i t ∙ ap (λ (n : ℕ). drop n t) q in
-    omega (arith, past (e - i) (drop i t) (omega (arith, length-drop i t)) h, ap (λ (r : List ℕ). length (text r)) k)
+    omega (arith, past (e - i) (drop i t) (omega (arith, length-drop i t)) h, ap (λ (r : List ℕ). length (textAtFront r)) k)

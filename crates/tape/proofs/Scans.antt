@@ -13,7 +13,7 @@ use Rattle.octets.proofs.Cases.{cases, both, and-true-right, and-false-right, o
 use Rattle.json.specs.Tree.{member}
 use Rattle.json.specs.Tape.{tagNumber, tagString, tagObject, tagEnd}
 use Rattle.tape.specs.Sound.{hasLone, hasKey, distinctKeys}
-use Rattle.tape.specs.Decode.{top, paired, groups, inText, view, tagAt, textAt, valueAt, itemsAt, membersAt, text}
+use Rattle.tape.specs.Decode.{top, paired, groups, inText, view, tagAt, textAt, valueAt, itemsAt, membersAt, textAtFront}
 use Rattle.tape.specs.Promise.{After, Next, TextAt}
 use Rattle.tape.specs.Scan.{soundHere, soundAlong, soundFrom, soundTape, PastString, Scans, keysAlong, keysFrom}
 use Rattle.tape.specs.declared.Text.{Text}
@@ -64,8 +64,8 @@ module _ {t : List ℕ} {i e p : ℕ} (s : Seeking t i e p) where
       seek-other q = seek-on (rw (ne-eqb p 237 q))
 
 -- where no octet is the one that a surrogate begins with, no string has a lone one
-no-lone : (p : ℕ) (s : List ℕ) → eqb p 237 ≡ false → all (λ c. not (eqb c 237)) s ≡ true → hasLone p (text s) ≡ false
-unfolding hasLone text all
+no-lone : (p : ℕ) (s : List ℕ) → eqb p 237 ≡ false → all (λ c. not (eqb c 237)) s ≡ true → hasLone p (textAtFront s) ≡ false
+unfolding hasLone textAtFront all
 no-lone p [] q h = refl
 no-lone p (x ∷ s) q h =
     let b = both (not (eqb x 237)) (all (λ c. not (eqb c 237)) s) h in
@@ -121,10 +121,10 @@ unfolding soundFrom soundTape
 scan-start t = refl
 
 -- behind a text
-text-scan : (s : List ℕ) → soundAlong true s ≡ soundAlong false (drop (suc (length (text s))) s)
-unfolding text soundAlong inText
+text-scan : (s : List ℕ) → soundAlong true s ≡ soundAlong false (drop (suc (length (textAtFront s))) s)
+unfolding textAtFront soundAlong inText
 text-scan [] = refl
-text-scan (b ∷ s) = let h : soundAlong true s ≡ soundAlong false (drop (suc (length (text s))) s) = text-scan s in cases (eqb b tagEnd) (λ e. rw e) (λ e. rw e h)
+text-scan (b ∷ s) = let h : soundAlong true s ≡ soundAlong false (drop (suc (length (textAtFront s))) s) = text-scan s in cases (eqb b tagEnd) (λ e. rw e) (λ e. rw e h)
 
 module _ (t : List ℕ) (i : ℕ) where
   pub scan-past : length t ≤ i → soundFrom t i ≡ true
@@ -134,7 +134,7 @@ module _ (t : List ℕ) (i : ℕ) where
   scan-text : soundAlong true (drop i t) ≡ soundFrom t (i + length (textAt t i) + 1)
   unfolding soundFrom textAt
   scan-text =
-      let n : i + suc (length (text (drop i t))) ≡ i + length (text (drop i t)) + 1 = omega arith in
+      let n : i + suc (length (textAtFront (drop i t))) ≡ i + length (textAtFront (drop i t)) + 1 = omega arith in
       text-scan (drop i t) ∙ rw (drop-drop, n)
 
 pub scan-after : {t : List ℕ} {i e : ℕ} → i ≤ length t → After t i e → soundFrom t e ≡ soundFrom t (i + 1)

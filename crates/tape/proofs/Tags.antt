@@ -12,7 +12,7 @@ use lib.Seq.{drop-cons, drop-drop}
 use Rattle.octets.proofs.Cases.{cases}
 use Rattle.json.specs.Tree.{Json, num, str, arr, obj, noItems}
 use Rattle.json.specs.Tape.{tagNumber, tagString, tagArray, tagObject, tagEnd}
-use Rattle.tape.specs.Decode.{Groups, last, group, top, pop, push, text, leaf, inText, onto, groups, view, tagAt, textAt, itemsAt, membersAt}
+use Rattle.tape.specs.Decode.{Groups, last, group, top, pop, push, textAtFront, leaf, inText, intoGroups, groups, view, tagAt, textAt, itemsAt, membersAt}
 
 -- a place lies on the tape or past it
 pub on-or-past {ℓ} : {P : Type ℓ} (t : List ℕ) (i : ℕ) → (i < length t → P) → (length t ≤ i → P) → P
@@ -34,7 +34,7 @@ module _ (t : List ℕ) (i : ℕ) where
   pub read-tag : i < length t → getD t i 0 ≡ tagAt t i
   read-tag h = let e : getD t i 0 ∷ drop (suc i) t ≡ tagAt t i ∷ drop (i + 1) t = sym (drop-cons t i 0 h) ∙ here h in cc
 
-  pub on-view : i < length t → view t i ≡ onto false (tagAt t i) (drop (i + 1) t) (groups (inText false (tagAt t i)) (drop (i + 1) t))
+  pub on-view : i < length t → view t i ≡ intoGroups false (tagAt t i) (drop (i + 1) t) (groups (inText false (tagAt t i)) (drop (i + 1) t))
   unfolding view groups
   on-view h = rw (here h)
 
@@ -43,38 +43,38 @@ module _ (t : List ℕ) (i : ℕ) where
   past-view h = rw (drop-of-length-le t {i = i} h)
 
 -- a text's end
-text-length : (s : List ℕ) → length (text s) ≤ length s
-unfolding text
+text-length : (s : List ℕ) → length (textAtFront s) ≤ length s
+unfolding textAtFront
 text-length [] = omega arith
-text-length (b ∷ s) = let h : length (text s) ≤ length s = text-length s in cases (eqb b tagEnd) (λ e. rw e (omega arith)) (λ e. rw e (omega arith))
+text-length (b ∷ s) = let h : length (textAtFront s) ≤ length s = text-length s in cases (eqb b tagEnd) (λ e. rw e (omega arith)) (λ e. rw e (omega arith))
 
-text-take : (s : List ℕ) → take (length (text s)) s ≡ text s
-unfolding text
+text-take : (s : List ℕ) → take (length (textAtFront s)) s ≡ textAtFront s
+unfolding textAtFront
 text-take [] = refl
-text-take (b ∷ s) = let h : take (length (text s)) s ≡ text s = text-take s in cases (eqb b tagEnd) (λ e. rw e) (λ e. rw (e, h))
+text-take (b ∷ s) = let h : take (length (textAtFront s)) s ≡ textAtFront s = text-take s in cases (eqb b tagEnd) (λ e. rw e) (λ e. rw (e, h))
 
-text-drop : (s : List ℕ) → groups true s ≡ groups false (drop (suc (length (text s))) s)
-unfolding text groups inText
+text-drop : (s : List ℕ) → groups true s ≡ groups false (drop (suc (length (textAtFront s))) s)
+unfolding textAtFront groups inText
 text-drop [] = refl
-text-drop (b ∷ s) = let h : groups true s ≡ groups false (drop (suc (length (text s))) s) = text-drop s in cases (eqb b tagEnd) (λ e. rw e) (λ e. rw e h)
+text-drop (b ∷ s) = let h : groups true s ≡ groups false (drop (suc (length (textAtFront s))) s) = text-drop s in cases (eqb b tagEnd) (λ e. rw e) (λ e. rw e h)
 
 module _ (t : List ℕ) (i : ℕ) where
   pub text-here : i < length t → tagAt t i ≡ tagEnd → textAt t i ≡ []
-  unfolding textAt text
+  unfolding textAt textAtFront
   text-here h e = rw (here t i h, e)
 
   pub text-on : i < length t → ((tagAt t i ≡ tagEnd) → ⊥) → textAt t i ≡ tagAt t i ∷ textAt t (i + 1)
-  unfolding textAt text
+  unfolding textAt textAtFront
   text-on h n = rw (here t i h, ne-eqb _ tagEnd n)
 
   pub text-past : length t ≤ i → textAt t i ≡ []
-  unfolding textAt text
+  unfolding textAt textAtFront
   text-past h = rw (drop-of-length-le t {i = i} h)
 
   -- the octets from i to e are the text at i
   pub text-part : (e : ℕ) → e ≡ i + length (textAt t i) → take (e - i) (drop i t) ≡ textAt t i
   unfolding textAt
-  text-part e q = let n : e - i ≡ length (text (drop i t)) = omega arith in rw n (text-take (drop i t))
+  text-part e q = let n : e - i ≡ length (textAtFront (drop i t)) = omega arith in rw n (text-take (drop i t))
 
   pub text-within : i ≤ length t → i + length (textAt t i) ≤ length t
   unfolding textAt
@@ -83,7 +83,7 @@ module _ (t : List ℕ) (i : ℕ) where
   text-behind : groups true (drop i t) ≡ view t (i + length (textAt t i) + 1)
   unfolding textAt view
   text-behind =
-      let n : i + suc (length (text (drop i t))) ≡ i + length (text (drop i t)) + 1 = omega arith in
+      let n : i + suc (length (textAtFront (drop i t))) ≡ i + length (textAtFront (drop i t)) + 1 = omega arith in
       text-drop (drop i t) ∙ rw (drop-drop, n)
 
 -- the value j stands at i, in front of s

@@ -12,15 +12,15 @@ use lib.ListN.{drop, getD}
 use lib.Seq.{drop-nil}
 use Rattle.octets.specs.Optional.{given}
 use Rattle.octets.proofs.Cases.{same?}
-use Rattle.json.specs.Tree.{Json, null, falsity, truth, num, str, arr, obj, Items, noItems, item, noMembers, member, string?, number?, boolean?, array?, object?, listOf, octetsOf, elements, members}
+use Rattle.json.specs.Tree.{Json, null, falsity, truth, num, str, arr, obj, Items, noItems, item, noMembers, member, string?, number?, boolean?, array?, object?, listOfItems, octetsOf, elements, members}
 use Rattle.json.specs.Tape.{tagNull, tagFalse, tagTrue, tagNumber, tagString, tagArray, tagObject, tagEnd}
-use Rattle.tape.specs.Decode.{Groups, last, group, first, others, paired, valued, top, pop, push, skip, leaf, onto, view, tagAt, textAt, valueAt, itemsAt, listAt, membersAt}
+use Rattle.tape.specs.Decode.{Groups, last, group, headItem, otherItems, paired, valued, top, pop, push, skipValue, leaf, intoGroups, view, tagAt, textAt, valueAt, itemsAt, listAt, membersAt}
 use Rattle.tape.specs.Promise.{Next}
 use Rattle.tape.proofs.Tags.{on-or-past, on-tape, past-view, on-view, Shows, at-array, at-object, at-number, at-string, at-other, end-top}
 
 -- groups with a value in front
 module _ (j : Json) where
-  pub skip-push : (s : Groups) → skip (push j s) ≡ s
+  pub skip-push : (s : Groups) → skipValue (push j s) ≡ s
   skip-push (last js) = refl
   skip-push (group js s) = refl
 
@@ -32,11 +32,11 @@ module _ (j : Json) where
   top-push (last js) = refl
   top-push (group js s) = refl
 
-pub top-skip : (s : Groups) → top (skip s) ≡ others (top s)
+pub top-skip : (s : Groups) → top (skipValue s) ≡ otherItems (top s)
 top-skip (last js) = refl
 top-skip (group js s) = refl
 
-pub pop-skip : (s : Groups) → pop (skip s) ≡ pop s
+pub pop-skip : (s : Groups) → pop (skipValue s) ≡ pop s
 pop-skip (last js) = refl
 pop-skip (group js s) = refl
 
@@ -122,10 +122,10 @@ leaf-tag b s =
     same? b tagNumber (λ e. inr (rw e)) (λ n.
     same? b tagString (λ e. inr (rw e)) (λ m. inl (rw (f, u, n, m))))))
 
-first-push : (j : Json) (s : Groups) → first (top (push j s)) ≡ j
-first-push j s = ap first (top-push j s)
+first-push : (j : Json) (s : Groups) → headItem (top (push j s)) ≡ j
+first-push j s = ap headItem (top-push j s)
 
-onto-tag : (b : ℕ) (s : List ℕ) (r : Groups) → Tagged b (first (top (onto false b s r)))
+onto-tag : (b : ℕ) (s : List ℕ) (r : Groups) → Tagged b (headItem (top (intoGroups false b s r)))
 onto-tag b s r =
     same? b tagEnd (λ e. inl (rw e)) (λ n.
     same? b tagArray (λ e. rw (n, e, first-push (arr (top r)) (pop r)) (inr refl)) (λ a.
@@ -224,13 +224,13 @@ module _ (t : List ℕ) (i : ℕ) where
 
 -- the values and the members from a place on
 abbrev Filled : Groups → Type 0
-Filled g = top g ≡ item (first (top g)) (others (top g))
+Filled g = top g ≡ item (headItem (top g)) (otherItems (top g))
 
 filled-push : (j : Json) (s : Groups) → Filled (push j s)
 filled-push j (last js) = refl
 filled-push j (group js s) = refl
 
-onto-filled : (b : ℕ) (s : List ℕ) (r : Groups) → eqb b tagEnd ≡ false → Filled (onto false b s r)
+onto-filled : (b : ℕ) (s : List ℕ) (r : Groups) → eqb b tagEnd ≡ false → Filled (intoGroups false b s r)
 onto-filled b s r n = rw n (
     same? b tagArray (λ e. rw e (filled-push (arr (top r)) (pop r))) (λ a.
     same? b tagObject (λ e. rw e (filled-push (obj (paired (top r))) (pop r))) (λ o.
@@ -241,7 +241,7 @@ module _ (t : List ℕ) (i : ℕ) where
   view-filled n = rw (on-view t i (on-tape t i n)) (onto-filled (tagAt t i) _ _ (ne-eqb _ tagEnd n))
 
   -- the value at i is the first of them
-  pub items-first : ((tagAt t i ≡ tagEnd) → ⊥) → itemsAt t i ≡ item (valueAt t i) (others (itemsAt t i))
+  pub items-first : ((tagAt t i ≡ tagEnd) → ⊥) → itemsAt t i ≡ item (valueAt t i) (otherItems (itemsAt t i))
   unfolding itemsAt valueAt
   items-first n = view-filled n
 
@@ -250,19 +250,19 @@ module _ (t : List ℕ) (i : ℕ) where
   items-end e = end-top t i e
 
   pub list-end : tagAt t i ≡ tagEnd → listAt t i ≡ []
-  unfolding listAt listOf
+  unfolding listAt listOfItems
   list-end e = rw (items-end e)
 
   pub members-end : tagAt t i ≡ tagEnd → membersAt t i ≡ noMembers
   unfolding membersAt paired
   members-end e = rw (items-end e)
 
-  pub list-first : ((tagAt t i ≡ tagEnd) → ⊥) → listAt t i ≡ valueAt t i ∷ listOf (others (itemsAt t i))
-  unfolding listAt listOf
-  list-first n = ap listOf (items-first n)
+  pub list-first : ((tagAt t i ≡ tagEnd) → ⊥) → listAt t i ≡ valueAt t i ∷ listOfItems (otherItems (itemsAt t i))
+  unfolding listAt listOfItems
+  list-first n = ap listOfItems (items-first n)
 
 -- behind the value at i stand the others
-others-next : {t : List ℕ} {i e : ℕ} → Next t i e → others (itemsAt t i) ≡ itemsAt t e
+others-next : {t : List ℕ} {i e : ℕ} → Next t i e → otherItems (itemsAt t i) ≡ itemsAt t e
 unfolding itemsAt
 others-next {t} {i} x = sym (ap top (x .is) ∙ top-skip (view t i))
 
@@ -270,22 +270,22 @@ pub items-next : {t : List ℕ} {i e : ℕ} → Next t i e → ((tagAt t i ≡ t
 items-next {t} {i} x n = items-first t i n ∙ rw (others-next x)
 
 pub list-next : {t : List ℕ} {i e : ℕ} → Next t i e → ((tagAt t i ≡ tagEnd) → ⊥) → listAt t i ≡ valueAt t i ∷ listAt t e
-unfolding listAt listOf
-list-next x n = ap listOf (items-next x n)
+unfolding listAt listOfItems
+list-next x n = ap listOfItems (items-next x n)
 
 -- the values by their number, and those behind some of them, also where there are fewer
-head-of : (js : Items) → getD (listOf js) 0 null ≡ first js
-unfolding listOf
+head-of : (js : Items) → getD (listOfItems js) 0 null ≡ headItem js
+unfolding listOfItems
 head-of noItems = refl
 head-of (item j js) = refl
 
-tail-of : (n : ℕ) (js : Items) → getD (listOf js) (suc n) null ≡ getD (listOf (others js)) n null
-unfolding listOf
+tail-of : (n : ℕ) (js : Items) → getD (listOfItems js) (suc n) null ≡ getD (listOfItems (otherItems js)) n null
+unfolding listOfItems
 tail-of n noItems = refl
 tail-of n (item j js) = refl
 
-behind-of : (n : ℕ) (js : Items) → drop (suc n) (listOf js) ≡ drop n (listOf (others js))
-unfolding listOf
+behind-of : (n : ℕ) (js : Items) → drop (suc n) (listOfItems js) ≡ drop n (listOfItems (otherItems js))
+unfolding listOfItems
 behind-of n noItems = sym (drop-nil n)
 behind-of n (item j js) = refl
 
@@ -303,12 +303,12 @@ module _ {t : List ℕ} {i e : ℕ} (x : Next t i e) (n : ℕ) where
   list-behind = behind-of n (itemsAt t i) ∙ rw (others-next x)
 
 -- a key stands at i and its value at n; where the value is passed, the other members stand from e on
-valued-is : (js : Items) (k : List ℕ) → valued js k ≡ member k (first js) (paired (others js))
+valued-is : (js : Items) (k : List ℕ) → valued js k ≡ member k (headItem js) (paired (otherItems js))
 unfolding paired
 valued-is noItems k = refl
 valued-is (item j js) k = refl
 
-pub members-first : {t : List ℕ} {i n : ℕ} → ((tagAt t i ≡ tagEnd) → ⊥) → Next t i n → membersAt t i ≡ member (octetsOf (valueAt t i)) (valueAt t n) (paired (others (itemsAt t n)))
+pub members-first : {t : List ℕ} {i n : ℕ} → ((tagAt t i ≡ tagEnd) → ⊥) → Next t i n → membersAt t i ≡ member (octetsOf (valueAt t i)) (valueAt t n) (paired (otherItems (itemsAt t n)))
 unfolding membersAt paired
 members-first {t} {i} {n} k x = rw (items-next x k, valued-is (itemsAt t n) (octetsOf (valueAt t i))) (unfold itemsAt valueAt in refl)
 

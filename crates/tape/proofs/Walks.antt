@@ -13,7 +13,7 @@ use Rattle.octets.specs.Optional.{given}
 use Rattle.octets.proofs.Cases.{cases}
 use Rattle.json.specs.Tree.{Json, null, arr, obj, Items, noItems, array?, object?, octetsOf, elements, element, members}
 use Rattle.json.specs.Tape.{tagNumber, tagString, tagArray, tagObject, tagEnd}
-use Rattle.tape.specs.Decode.{Groups, last, group, others, top, pop, skip, view, tagAt, textAt, valueAt, itemsAt, listAt, membersAt}
+use Rattle.tape.specs.Decode.{Groups, last, group, otherItems, top, pop, skipValue, view, tagAt, textAt, valueAt, itemsAt, listAt, membersAt}
 use Rattle.tape.specs.Promise.{After, Leaf, Next, Left, TextAt}
 use Rattle.tape.proofs.Tags.{on-tape, past-tag, past-view, Shows, at-array, at-object, at-number, at-string, at-other, end-pop, end-top, text-part, text-within}
 use Rattle.tape.proofs.Values.{skip-push, pop-push, pop-skip, array-is, object-is, number-text, string-text, no-text, list-end, list-next}
@@ -41,11 +41,11 @@ after-past t i h = record { is = rw (past-view t (length t) (omega arith), past-
 
 -- behind a value
 next-shown : {t : List ℕ} {i e : ℕ} {j : Json} {s : Groups} → Shows t i j s → view t e ≡ s → i < e → e ≤ length t → Next t i e
-next-shown {j = j} {s = s} h v l k = record { is = v ∙ sym (ap skip (h .is) ∙ skip-push j s); low = λ _. omega arith; more = λ _. l; high = k }
+next-shown {j = j} {s = s} h v l k = record { is = v ∙ sym (ap skipValue (h .is) ∙ skip-push j s); low = λ _. omega arith; more = λ _. l; high = k }
 
-skip-none : (s : Groups) → top s ≡ noItems → skip s ≡ s
-skip-none (last js) e = ap (λ (g : Items). last (others g)) e ∙ ap last (sym e)
-skip-none (group js s) e = ap (λ (g : Items). group (others g) s) e ∙ ap (λ (g : Items). group g s) (sym e)
+skip-none : (s : Groups) → top s ≡ noItems → skipValue s ≡ s
+skip-none (last js) e = ap (λ (g : Items). last (otherItems g)) e ∙ ap last (sym e)
+skip-none (group js s) e = ap (λ (g : Items). group (otherItems g) s) e ∙ ap (λ (g : Items). group g s) (sym e)
 
 module _ (t : List ℕ) (i : ℕ) where
   pub next-end : tagAt t i ≡ tagEnd → i ≤ length t → Next t i i

@@ -5,7 +5,7 @@ use mathlib.Core.List.{List}
 use lib.ListN.{length, take, drop}
 use Rattle.json.specs.Tree.{octetsOf}
 use Rattle.json.specs.Tape.{tagArray, tagObject, tagEnd}
-use Rattle.tape.specs.Decode.{pop, skip, view, tagAt, textAt, valueAt}
+use Rattle.tape.specs.Decode.{pop, skipValue, view, tagAt, textAt, valueAt}
 use Rattle.tape.specs.declared.Text.{Text}
 
 -- e is one octet behind i, or the end of the tape
@@ -31,7 +31,7 @@ pub record Leaf (t : List ℕ) (i : ℕ) : Type 0 where
 
 -- e is behind the value at i; where a group ends at i, it stays
 pub record Next (t : List ℕ) (i e : ℕ) : Type 0 where
-  pub is : view t e ≡ skip (view t i)
+  pub is : view t e ≡ skipValue (view t i)
   pub low : i ≤ length t → i ≤ e
   pub more : ((tagAt t i ≡ tagEnd) → ⊥) → i < e
   pub high : e ≤ length t

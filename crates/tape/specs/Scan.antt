@@ -8,7 +8,7 @@ use lib.ListN.{length, drop}
 use Rattle.octets.specs.Basics.{pick, _and_, _or_}
 use Rattle.json.specs.Tape.{tagString, tagObject}
 use Rattle.tape.specs.Sound.{hasLone, distinctKeys}
-use Rattle.tape.specs.Decode.{top, paired, text, inText, groups, textAt}
+use Rattle.tape.specs.Decode.{top, paired, textAtFront, inText, groups, textAt}
 use Rattle.tape.specs.Promise.{After}
 use Rattle.tape.specs.declared.sounding.Scanned.{Scanned}
 use Rattle.tape.specs.declared.sounding.Scanned.the-variants.{To, Unsound}
@@ -17,7 +17,7 @@ use Rattle.tape.specs.declared.sounding.Scanned.the-variants.{To, Unsoun
 abbrev pub soundHere : Bool → ℕ → List ℕ → Bool
 soundHere true b s = true
 soundHere false b s =
-    pick (eqb b tagString) (not (hasLone 0 (text s)))
+    pick (eqb b tagString) (not (hasLone 0 (textAtFront s)))
     (pick (eqb b tagObject) (distinctKeys (paired (top (groups false s)))) true)
 
 unfoldable pub soundAlong : Bool → List ℕ → Bool

@@ -17,18 +17,18 @@ use Rattle.octets.proofs.Cases.{same?, never, both, and-assoc, and-false-right}
 use Rattle.octets.proofs.Classes.{within-between, below-between, above-between, between-true}
 use Rattle.octets.proofs.Optional.{missing, some-same, both-is, when-true}
 use Rattle.octets.proofs.Positions.{here, ended, from}
-use Rattle.types.specs.Codes.{binary, utcOffset, splits}
+use Rattle.types.specs.Codes.{binary, utcOffset, typeSplits}
 use Rattle.types.specs.Table.{Entry, entry}
 use Rattle.types.specs.Laid.{laidRow}
 use Rattle.types.specs.Rows.{octetOf, frameOf, rowOctet, isRow, entryOf, rowOf}
 
 -- of the fourteen codes all but four split, and none beyond them
-pub splits-each : (c : ℕ) → 1 ≤ c → c ≤ 14 → (c ≡ 1 → ⊥) → (c ≡ 3 → ⊥) → (c ≡ 10 → ⊥) → (c ≡ 13 → ⊥) → splits c ≡ true
-unfolding splits
+pub splits-each : (c : ℕ) → 1 ≤ c → c ≤ 14 → (c ≡ 1 → ⊥) → (c ≡ 3 → ⊥) → (c ≡ 10 → ⊥) → (c ≡ 13 → ⊥) → typeSplits c ≡ true
+unfolding typeSplits
 splits-each c h k a b d e = rw (within-between 1 14 c h k, ne-eqb c 1 a, ne-eqb c 3 b, ne-eqb c 10 d, ne-eqb c 13 e)
 
-pub splits-beyond : (c : ℕ) → 13 ≤ c → (c ≡ 13 → ⊥) → (c ≡ 14 → ⊥) → splits c ≡ false
-unfolding splits
+pub splits-beyond : (c : ℕ) → 13 ≤ c → (c ≡ 13 → ⊥) → (c ≡ 14 → ⊥) → typeSplits c ≡ false
+unfolding typeSplits
 splits-beyond c h a b = rw (above-between 1 14 c (omega arith))
 
 -- a frame is a row: the tests in the code's order
@@ -38,18 +38,18 @@ is-some-when true a = refl
 is-some-when false a = refl
 
 unfoldable pub kind : ℕ → ℕ → Bool
-kind c m = between binary utcOffset c and (eqb m 0 or (eqb m 1 and splits c))
+kind c m = between binary utcOffset c and (eqb m 0 or (eqb m 1 and typeSplits c))
 
 unfoldable pub no-keyword : List ℕ → Bool
 no-keyword n = not (same n (octets "BEGIN") or same n (octets "END"))
 
 wrong-length : (c m : ℕ) (n : List ℕ) → between 1 32 (length n) ≡ false → isRow c m n ≡ false
 unfolding isRow
-wrong-length c m n e = rw (e, and-false-right (eqb m 0 or (eqb m 1 and splits c)), and-false-right (between binary utcOffset c))
+wrong-length c m n e = rw (e, and-false-right (eqb m 0 or (eqb m 1 and typeSplits c)), and-false-right (between binary utcOffset c))
 
 right-length : (c m : ℕ) (n : List ℕ) → between 1 32 (length n) ≡ true → isRow c m n ≡ (kind c m and (all rowOctet n and no-keyword n))
 unfolding isRow kind no-keyword
-right-length c m n e = rw e (sym (and-assoc (between binary utcOffset c) (eqb m 0 or (eqb m 1 and splits c)) (all rowOctet n and not (same n (octets "BEGIN") or same n (octets "END")))))
+right-length c m n e = rw e (sym (and-assoc (between binary utcOffset c) (eqb m 0 or (eqb m 1 and typeSplits c)) (all rowOctet n and not (same n (octets "BEGIN") or same n (octets "END")))))
 
 pub too-short : (f : List ℕ) → length f < 3 → entryOf f ≡ none
 unfolding entryOf when
@@ -85,7 +85,7 @@ module _ (f : List ℕ) (h : 3 ≤ length f) (k : length f ≤ 34) where
 -- what a row tells of its code, its number, its name
 pub record Row-told (c m : ℕ) (n : List ℕ) : Type 0 where
   pub coded : between binary utcOffset c ≡ true
-  pub some-many : (eqb m 0 or (eqb m 1 and splits c)) ≡ true
+  pub some-many : (eqb m 0 or (eqb m 1 and typeSplits c)) ≡ true
   pub sized : between 1 32 (length n) ≡ true
   pub spelt : all rowOctet n ≡ true
   pub no-word : no-keyword n ≡ true
@@ -93,8 +93,8 @@ pub record Row-told (c m : ℕ) (n : List ℕ) : Type 0 where
 pub row-told : (c m : ℕ) (n : List ℕ) → isRow c m n ≡ true → Row-told c m n
 unfolding isRow no-keyword
 row-told c m n e =
-    let a = both (between binary utcOffset c) ((eqb m 0 or (eqb m 1 and splits c)) and between 1 32 (length n) and all rowOctet n and not (same n (octets "BEGIN") or same n (octets "END"))) e in
-    let b = both (eqb m 0 or (eqb m 1 and splits c)) (between 1 32 (length n) and all rowOctet n and not (same n (octets "BEGIN") or same n (octets "END"))) (a .1) in
+    let a = both (between binary utcOffset c) ((eqb m 0 or (eqb m 1 and typeSplits c)) and between 1 32 (length n) and all rowOctet n and not (same n (octets "BEGIN") or same n (octets "END"))) e in
+    let b = both (eqb m 0 or (eqb m 1 and typeSplits c)) (between 1 32 (length n) and all rowOctet n and not (same n (octets "BEGIN") or same n (octets "END"))) (a .1) in
     let d = both (between 1 32 (length n)) (all rowOctet n and not (same n (octets "BEGIN") or same n (octets "END"))) (b .1) in
     let g = both (all rowOctet n) (not (same n (octets "BEGIN") or same n (octets "END"))) (d .1) in
     record { coded = a .0; some-many = b .0; sized = d .0; spelt = g .0; no-word = g .1 }
@@ -108,10 +108,10 @@ pub record Framed (f : List ℕ) : Type 0 where
   pub high : length f ≤ 34
   pub laid : laidRow row ≡ (length f - 2) ∷ f
 
-pub one-or-many : (c m : ℕ) → (eqb m 0 or (eqb m 1 and splits c)) ≡ true → pick (eqb m 1) 1 0 ≡ m
+pub one-or-many : (c m : ℕ) → (eqb m 0 or (eqb m 1 and typeSplits c)) ≡ true → pick (eqb m 1) 1 0 ≡ m
 one-or-many c m h = same? m 0
     (λ e. rw e)
-    (λ e. let q : m ≡ 1 = eqb-true m 1 (both (eqb m 1) (splits c) (rw e at h) .0) in rw q)
+    (λ e. let q : m ≡ 1 = eqb-true m 1 (both (eqb m 1) (typeSplits c) (rw e at h) .0) in rw q)
 
 frame-laid : (c m : ℕ) (n : List ℕ) → Row-told c m n → laidRow (entry n c (eqb m 1)) ≡ (length (c ∷ m ∷ n) - 2) ∷ c ∷ m ∷ n
 unfolding laidRow

@@ -22,7 +22,7 @@ use Rattle.octets.proofs.Positions.{ended}
 use Rattle.octets.proofs.Optional.{missing, when-is, then-is}
 use Rattle.types.specs.Table.{Entry, entry, Table, namesOf, find, defaults}
 use Rattle.types.specs.Rows.{rowOctet, isRow, frameOf, entryOf, rowOf, endedLines, rowsOf, mayJoin}
-use Rattle.types.specs.Reading.{unlisted, firstLine}
+use Rattle.types.specs.Reading.{ifUnlisted, firstLine}
 use Rattle.types.proofs.Lines.{one-line, more-lines}
 use Rattle.types.proofs.Frames.{row-told}
 
@@ -96,7 +96,7 @@ too-many es fs e h = rw (lt-leb (length (es ++ e ∷ fs)) mostRows (rw length-ap
 
 -- the table with a row behind it, where the row may join
 unfoldable pub added : Table → Option Entry → Option Table
-added es r = pick (ltb (length es) mostRows) (map? (λ e. es ++ e ∷ []) (unlisted (defaults ++ es) r)) none
+added es r = pick (ltb (length es) mostRows) (map? (λ e. es ++ e ∷ []) (ifUnlisted (defaults ++ es) r)) none
 
 -- the rows of the lines behind those that are read
 unfoldable pub joins : Table → List (List ℕ) → Option Table
@@ -134,7 +134,7 @@ two-maps es e (some fs) = ap some (sym (append-assoc es (e ∷ []) fs))
 module _ (es : Table) (m : mayJoin es ≡ true) (rest : Option Table) (on : Table → Option Table)
     (ih : (fs : Table) → mayJoin fs ≡ true → on fs ≡ guard mayJoin (map? (λ gs. fs ++ gs) rest)) where
   a-row : (e : Entry) → upper (e .name) ≡ e .name → then? (added es (some e)) on ≡ guard mayJoin (map? (λ fs. es ++ fs) (both? _∷_ (some e) rest))
-  unfolding added unlisted guard when map? then?
+  unfolding added ifUnlisted guard when map? then?
   a-row e u = rw (two-maps es e rest) (cases (ltb (length es) mostRows)
       (λ l. rw l (cases (isSome (find (defaults ++ es) (e .name)))
       (λ h. rw h (sym (none-may (es ++ e ∷ []) rest (λ fs. rw append-assoc (old-name es e u fs h)))))
@@ -142,7 +142,7 @@ module _ (es : Table) (m : mayJoin es ≡ true) (rest : Option Table) (on : Tabl
       (λ l. rw l (sym (none-may (es ++ e ∷ []) rest (λ fs. rw append-assoc (too-many es fs e l))))))
 
   no-row : then? (added es none) on ≡ guard mayJoin (map? (λ fs. es ++ fs) (both? _∷_ none rest))
-  unfolding added unlisted guard map? then? both?
+  unfolding added ifUnlisted guard map? then? both?
   no-row = cases (ltb (length es) mostRows) (λ l. rw l) (λ l. rw l)
 
   a-line : (r : Option Entry) → ((e : Entry) → r ≡ some e → upper (e .name) ≡ e .name) → then? (added es r) on ≡ guard mayJoin (map? (λ fs. es ++ fs) (both? _∷_ r rest))

@@ -11,22 +11,22 @@ use Rattle.octets.proofs.Positions.{upto}
 use Rattle.octets.proofs.Pen.{then}
 use Rattle.types.specs.Table.{Entry, Table, find}
 use Rattle.types.specs.Laid.{laidRow, tableIn}
-use Rattle.types.specs.Reading.{unlisted, penBehind}
+use Rattle.types.specs.Reading.{ifUnlisted, penBehind}
 use Rattle.types.specs.declared.rows.Laid.the-variants.{Upto, Malformed}
 use Rattle.types.proofs.Frames.{Framed}
 
 module _ (t : Table) (g : Entry → Pen) (b : List ℕ) (o : Option Entry) where
-  pub no-row : o ≡ none → penBehind Malformed b ≡ map? g (unlisted t o)
-  unfolding penBehind unlisted guard map?
+  pub no-row : o ≡ none → penBehind Malformed b ≡ map? g (ifUnlisted t o)
+  unfolding penBehind ifUnlisted guard map?
   no-row e = rw e
 
   module _ (r : Entry) (e : o ≡ some r) where
-    pub old-row : isSome (find t (r .name)) ≡ true → penBehind Malformed b ≡ map? g (unlisted t o)
-    unfolding penBehind unlisted guard when map?
+    pub old-row : isSome (find t (r .name)) ≡ true → penBehind Malformed b ≡ map? g (ifUnlisted t o)
+    unfolding penBehind ifUnlisted guard when map?
     old-row k = rw (e, k)
 
-    pub new-row : (n : ℕ) → isSome (find t (r .name)) ≡ false → pen b n ≡ g r → penBehind (Upto n) b ≡ map? g (unlisted t o)
-    unfolding penBehind unlisted guard when map?
+    pub new-row : (n : ℕ) → isSome (find t (r .name)) ≡ false → pen b n ≡ g r → penBehind (Upto n) b ≡ map? g (ifUnlisted t o)
+    unfolding penBehind ifUnlisted guard when map?
     new-row n k q = rw (e, k) (ap some q)
 
 -- the name of a frame beside the rows that stand before `at`

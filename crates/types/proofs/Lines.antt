@@ -12,7 +12,7 @@ use lib.Seq.{length-take-le}
 use Rattle.octets.specs.Pieces.{onto, cut, split}
 use Rattle.octets.proofs.Cases.{cases}
 use Rattle.octets.proofs.Positions.{here, ended}
-use Rattle.types.specs.Reading.{first, firstLine}
+use Rattle.types.specs.Reading.{firstPiece, firstLine}
 
 -- the first line grows with each octet that is no line feed
 module _ (s : List ℕ) (i : ℕ) where
@@ -20,16 +20,16 @@ module _ (s : List ℕ) (i : ℕ) where
   unfolding firstLine split cut
   line-on h n = rw (here s i h, ne-eqb (getD s i 0) (code "\n") n) (onto-first (getD s i 0) (split (code "\n") (drop (i + 1) s)))
     where
-      onto-first : (x : ℕ) (ls : List (List ℕ)) → length (first (onto x ls)) ≡ suc (length (first ls))
-      onto-first x [] = unfold onto first in refl
-      onto-first x (l ∷ ls) = unfold onto first in refl
+      onto-first : (x : ℕ) (ls : List (List ℕ)) → length (firstPiece (onto x ls)) ≡ suc (length (firstPiece ls))
+      onto-first x [] = unfold onto firstPiece in refl
+      onto-first x (l ∷ ls) = unfold onto firstPiece in refl
 
   pub line-stop : i < length s → getD s i 0 ≡ code "\n" → length (firstLine (drop i s)) ≡ 0
-  unfolding firstLine split cut first
+  unfolding firstLine split cut firstPiece
   line-stop h e = rw (here s i h, eq-eqb (getD s i 0) (code "\n") e)
 
   pub line-last : length s ≤ i → length (firstLine (drop i s)) ≡ 0
-  unfolding firstLine split first
+  unfolding firstLine split firstPiece
   line-last h = rw (ended s i h)
 
 -- a text has no line feed, or its first line ends at one
@@ -45,23 +45,23 @@ split-cases (x ∷ s) f g = cases (eqb x (code "\n"))
 -- the first line of a text, and the lines behind it
 module _ (s : List ℕ) where
   pub one-line : length (firstLine s) ≡ length s → split (code "\n") s ≡ s ∷ []
-  unfolding firstLine first
-  one-line e = split-cases s (λ q. q) (λ n h q. absurd (off n h (sym (ap (λ (ls : List (List ℕ)). length (first ls)) q) ∙ e)))
+  unfolding firstLine firstPiece
+  one-line e = split-cases s (λ q. q) (λ n h q. absurd (off n h (sym (ap (λ (ls : List (List ℕ)). length (firstPiece ls)) q) ∙ e)))
     where
       off : (n : ℕ) → n < length s → length (take n s) ≡ length s → ⊥
       off n h k = omega (arith, length-take n s)
 
   pub more-lines : length (firstLine s) < length s → split (code "\n") s ≡ take (length (firstLine s)) s ∷ split (code "\n") (drop (length (firstLine s) + 1) s)
-  unfolding firstLine first
+  unfolding firstLine firstPiece
   more-lines e = split-cases s
-      (λ q. absurd (whole (ap (λ (ls : List (List ℕ)). length (first ls)) q)))
+      (λ q. absurd (whole (ap (λ (ls : List (List ℕ)). length (firstPiece ls)) q)))
       (λ n h q.
-      let k : length (first (split (code "\n") s)) ≡ n = ap (λ (ls : List (List ℕ)). length (first ls)) q ∙ length-take-le n s (omega arith) in
+      let k : length (firstPiece (split (code "\n") s)) ≡ n = ap (λ (ls : List (List ℕ)). length (firstPiece ls)) q ∙ length-take-le n s (omega arith) in
       rw k q)
     where
-      whole : length (first (split (code "\n") s)) ≡ length s → ⊥
+      whole : length (firstPiece (split (code "\n") s)) ≡ length s → ⊥
       whole k = omega arith
 
   pub line-within : length (firstLine s) ≤ length s
-  unfolding firstLine first
+  unfolding firstLine firstPiece
   line-within = split-cases s (λ q. rw q (omega arith)) (λ n h q. rw q (omega (arith, length-take n s)))

@@ -19,7 +19,7 @@ use Rattle.octets.proofs.Classes.{between-true}
 use Rattle.types.specs.Table.{Entry, entry, Table, find, defaults}
 use Rattle.types.specs.Rows.{isRow, frameOf, entryOf, rowOf, rowsOf, mayJoin}
 use Rattle.types.specs.Laid.{laidRow, laid, tableIn, roomForRows}
-use Rattle.types.specs.Reading.{unlisted, firstLine, penBehind}
+use Rattle.types.specs.Reading.{ifUnlisted, firstLine, penBehind}
 use Rattle.types.specs.declared.rows.Laid.the-variants.{Upto, Malformed}
 use Rattle.types.proofs.Lines.{line-within}
 use Rattle.types.proofs.Frames.{row-told}
@@ -50,8 +50,8 @@ unfolding map?
 map-none g none e = refl
 map-none g (some a) e = missing (sym e)
 
-unlisted-is : (t : Table) (o : Option Entry) (r : Entry) → unlisted t o ≡ some r → o ≡ some r
-unfolding unlisted
+unlisted-is : (t : Table) (o : Option Entry) (r : Entry) → ifUnlisted t o ≡ some r → o ≡ some r
+unfolding ifUnlisted
 unlisted-is t o r e = guard-is (λ (x : Entry). not (isSome (find t (x .name)))) o r e .0
 
 -- the lines before `from` are laid out before `at`, and the file's rows are those with the rows of the lines that are left
@@ -103,25 +103,25 @@ module _ {hex o rows : List ℕ} {from at count : ℕ} (p : Progress hex o rows 
       one-more : ltb (length (p .es)) mostRows ≡ true
       one-more = lt-ltb (length (p .es)) mostRows (omega (arith, p .counted))
 
-      added-is : added (p .es) (rowOf (take (end - from) (drop from hex))) ≡ map? (λ r. p .es ++ r ∷ []) (unlisted (tableIn (take at rows)) (rowOf (take (end - from) (drop from hex))))
+      added-is : added (p .es) (rowOf (take (end - from) (drop from hex))) ≡ map? (λ r. p .es ++ r ∷ []) (ifUnlisted (tableIn (take at rows)) (rowOf (take (end - from) (drop from hex))))
       unfolding added
       added-is = rw (one-more, listed-so-far)
 
       module _ (b : List ℕ) where
-        pub bad-line : penBehind Malformed b ≡ map? (λ r. wrote (pen rows at) (laidRow r)) (unlisted (tableIn (take at rows)) (rowOf (take (end - from) (drop from hex)))) → guard mayJoin (rowsOf hex) ≡ none
+        pub bad-line : penBehind Malformed b ≡ map? (λ r. wrote (pen rows at) (laidRow r)) (ifUnlisted (tableIn (take at rows)) (rowOf (take (end - from) (drop from hex)))) → guard mayJoin (rowsOf hex) ≡ none
         unfolding penBehind then?
         bad-line t =
-            let q = map-none (λ r. wrote (pen rows at) (laidRow r)) (unlisted (tableIn (take at rows)) (rowOf (take (end - from) (drop from hex)))) (sym t) in
+            let q = map-none (λ r. wrote (pen rows at) (laidRow r)) (ifUnlisted (tableIn (take at rows)) (rowOf (take (end - from) (drop from hex)))) (sym t) in
             line-left ∙ rw (added-is, q) (unfold map? in refl)
 
-        pub good-line : (next : ℕ) → penBehind (Upto next) b ≡ map? (λ r. wrote (pen rows at) (laidRow r)) (unlisted (tableIn (take at rows)) (rowOf (take (end - from) (drop from hex))))
+        pub good-line : (next : ℕ) → penBehind (Upto next) b ≡ map? (λ r. wrote (pen rows at) (laidRow r)) (ifUnlisted (tableIn (take at rows)) (rowOf (take (end - from) (drop from hex))))
             → Progress hex o b (end + 1) next (count + 1)
         unfolding penBehind
         good-line next t =
-            map-is (λ r. wrote (pen rows at) (laidRow r)) (unlisted (tableIn (take at rows)) (rowOf (take (end - from) (drop from hex)))) (pen b next) (sym t)
+            map-is (λ r. wrote (pen rows at) (laidRow r)) (ifUnlisted (tableIn (take at rows)) (rowOf (take (end - from) (drop from hex)))) (pen b next) (sym t)
             (λ r q w. joined r q (record { is = sym w }))
           where
-            joined : (r : Entry) → unlisted (tableIn (take at rows)) (rowOf (take (end - from) (drop from hex))) ≡ some r → Wrote (pen rows at) (laidRow r) (pen b next) → Progress hex o b (end + 1) next (count + 1)
+            joined : (r : Entry) → ifUnlisted (tableIn (take at rows)) (rowOf (take (end - from) (drop from hex))) ≡ some r → Wrote (pen rows at) (laidRow r) (pen b next) → Progress hex o b (end + 1) next (count + 1)
             joined r q w = record {
               es = p .es ++ r ∷ [];
               within = omega arith;

@@ -19,7 +19,7 @@ use Rattle.octets.proofs.Cases.{cases, never, both, neither, or-first, or-secon
 use Rattle.octets.proofs.Classes.{between-true, same-is, same-itself, upper-lower, upper-twice}
 use Rattle.octets.proofs.Optional.{missing, some-same, map-is, guard-is, then-is, when-is, each-none, each-is}
 use Rattle.octets.proofs.Answers.{orElse-accepted}
-use Rattle.types.specs.Codes.{binary, utcOffset, splits}
+use Rattle.types.specs.Codes.{binary, utcOffset, typeSplits}
 use Rattle.types.specs.Table.{Row, Entry, entry, Table, namesOf, find, defaults}
 use Rattle.types.specs.Rows.{rowOctet, isRow, frameOf, entryOf, rowOf, endedLines, rowsOf, mayJoin, tableOf, Keeps}
 use Rattle.types.proofs.Frames.{Row-told, row-told, no-keyword, one-or-many}
@@ -30,7 +30,7 @@ unfoldable pub right : Entry → Bool
 right e = isRow (e .row .code) (pick (e .row .many) 1 0) (e .name)
 
 defaults-right : all right defaults ≡ true
-unfolding right all defaults isRow between splits rowOctet isUpper isDigit same
+unfolding right all defaults isRow between typeSplits rowOctet isUpper isDigit same
 defaults-right = refl
 
 entry-right : (f : List ℕ) (e : Entry) → entryOf f ≡ some e → right e ≡ true
@@ -83,7 +83,7 @@ module _ (t : Table) (w : Well-formed t) (n : List ℕ) (r : Row) (h : find t n 
   found-code = between-true binary utcOffset (r .code) (found-told .coded)
 
   -- a name with many values has a type that splits
-  pub found-many : r .many ≡ true → splits (r .code) ≡ true
+  pub found-many : r .many ≡ true → typeSplits (r .code) ≡ true
   found-many m = rw m at (found-told .some-many)
 
   -- the name is one of a property

@@ -73,5 +73,5 @@ unfoldable pub codeNamed : List ℕ → ℕ
 codeNamed n = placeFrom 1 n typeNames
 
 -- 01, Values: values of the fourteen types split at commas, except binary, cal-address, recur and uri
-unfoldable pub splits : ℕ → Bool
-splits c = between binary utcOffset c and not (eqb c binary or eqb c calAddress or eqb c recur or eqb c uri)
+unfoldable pub typeSplits : ℕ → Bool
+typeSplits c = between binary utcOffset c and not (eqb c binary or eqb c calAddress or eqb c recur or eqb c uri)

@@ -37,17 +37,17 @@ unfoldable pub types : Table
 types = numbered 1 typeNames
 
 -- the first of some pieces
-unfoldable pub first : List (List ℕ) → List ℕ
-first [] = []
-first (l ∷ ls) = l
+unfoldable pub firstPiece : List (List ℕ) → List ℕ
+firstPiece [] = []
+firstPiece (l ∷ ls) = l
 
 -- the octets before the first line feed
 unfoldable pub firstLine : List ℕ → List ℕ
-firstLine s = first (split (code "\n") s)
+firstLine s = firstPiece (split (code "\n") s)
 
 -- a row, where the table does not list its name
-unfoldable pub unlisted : Table → Option Entry → Option Entry
-unlisted t r = guard (λ e. not (isSome (find t (e .name)))) r
+unfoldable pub ifUnlisted : Table → Option Entry → Option Entry
+ifUnlisted t r = guard (λ e. not (isSome (find t (e .name)))) r
 
 -- the pen behind what was laid out, with the buffer as it is then
 unfoldable pub penBehind : Laid → List ℕ → Option Pen

@@ -12,7 +12,7 @@ use Rattle.octets.specs.Optional.{map?, both?, then?, when, guard, each}
 use Rattle.octets.specs.Classes.{between, isUpper, isDigit, hexDigit}
 use Rattle.octets.specs.Limits.{mostRows}
 use Rattle.octets.specs.Answers.{Answer, orElse}
-use Rattle.types.specs.Codes.{binary, utcOffset, splits}
+use Rattle.types.specs.Codes.{binary, utcOffset, typeSplits}
 use Rattle.types.specs.Table.{Entry, entry, Table, namesOf, defaults}
 
 -- two hexadecimal digits, of either case
@@ -32,7 +32,7 @@ rowOctet c = isUpper c or isDigit c or eqb c (code "-")
 -- one of the fourteen codes; 0 for one value, or 1 for many of a type that splits; 1 to 32 name octets; neither BEGIN nor END
 unfoldable pub isRow : ℕ → ℕ → List ℕ → Bool
 isRow c m n =
-    between binary utcOffset c and (eqb m 0 or (eqb m 1 and splits c)) and between 1 32 (length n) and all rowOctet n
+    between binary utcOffset c and (eqb m 0 or (eqb m 1 and typeSplits c)) and between 1 32 (length n) and all rowOctet n
     and not (same n (octets "BEGIN") or same n (octets "END"))
 
 -- a frame: type code, one or many, name

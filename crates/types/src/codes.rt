@@ -3,7 +3,7 @@ ghost use mathlib.Core.Path.{_≡_};
 ghost use Rattle.octets.specs.Basics.{octets, same};
 ghost use Rattle.octets.specs.Classes.{lower};
 ghost use Rattle.octets.specs.Pen.{pen, Wrote};
-ghost use Rattle.types.specs.Codes.{codeNamed, typeName, splits};
+ghost use Rattle.types.specs.Codes.{codeNamed, typeName, typeSplits};
 ghost use Rattle.types.specs.Table.{find};
 ghost use Rattle.types.specs.Reading.{under, types};
 ghost use Rattle.types.specs.Laid.{rowFound};
@@ -75,7 +75,7 @@ fn type_u(name: &[u8]) -> Found
 // Whether the values of a type split at commas, by its code. Binary (1), cal-address (3), recur (10) and uri (13) never do, and each of the others does; a code
 // outside the fourteen has no values that split.
 pub fn does_split(code: u8) -> bool
-    ensures { λ r. ⌜ r ≡ splits code ⌝ }
+    ensures { λ r. ⌜ r ≡ typeSplits code ⌝ }
 {
     match code {
         1 => false,

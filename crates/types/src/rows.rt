@@ -8,11 +8,11 @@ ghost use Rattle.octets.specs.Classes.{between};
 ghost use Rattle.octets.specs.Optional.{map?, isSome, guard};
 ghost use Rattle.octets.specs.Pen.{pen, wrote};
 ghost use Rattle.octets.specs.Answers.{outcome, answer};
-ghost use Rattle.types.specs.Codes.{binary, utcOffset, splits};
+ghost use Rattle.types.specs.Codes.{binary, utcOffset, typeSplits};
 ghost use Rattle.types.specs.Table.{find};
 ghost use Rattle.types.specs.Rows.{rowOctet, entryOf, rowOf, rowsOf, mayJoin};
 ghost use Rattle.types.specs.Laid.{laidRow, laid, tableIn, laidOf, roomForRows};
-ghost use Rattle.types.specs.Reading.{firstLine, unlisted, penBehind};
+ghost use Rattle.types.specs.Reading.{firstLine, ifUnlisted, penBehind};
 use crate::Found;
 use crate::ROOM_FOR_ROWS;
 use crate::codes::does_split;
@@ -106,7 +106,7 @@ fn line_end(hex: &[u8], from: usize) -> usize
 // Lays out the row of a line, where it is one and its name is not listed already.
 fn lay_line(line: &[u8], rows: &mut [u8], at: usize) -> Laid
     requires { ⌜ at ≤ length (now rows) ⌝ }
-    ensures { λ r. ⌜ penBehind r (now (rows .exit)) ≡ map? (λ e. wrote (pen (now (rows .entry)) at) (laidRow e)) (unlisted (tableIn (take at (now (rows .entry)))) (rowOf (now (line .entry)))) ⌝ }
+    ensures { λ r. ⌜ penBehind r (now (rows .exit)) ≡ map? (λ e. wrote (pen (now (rows .entry)) at) (laidRow e)) (ifUnlisted (tableIn (take at (now (rows .entry)))) (rowOf (now (line .entry)))) ⌝ }
 {
     let mut frame = [0u8; 34];
     let n = decode(line, &mut frame);
@@ -116,7 +116,7 @@ fn lay_line(line: &[u8], rows: &mut [u8], at: usize) -> Laid
 // Lays out the row of a frame, where it is one and its name is not listed already.
 fn lay_frame(frame: &[u8], rows: &mut [u8], at: usize) -> Laid
     requires { ⌜ at ≤ length (now rows) ⌝ }
-    ensures { λ r. ⌜ penBehind r (now (rows .exit)) ≡ map? (λ e. wrote (pen (now (rows .entry)) at) (laidRow e)) (unlisted (tableIn (take at (now (rows .entry)))) (entryOf (now (frame .entry)))) ⌝ }
+    ensures { λ r. ⌜ penBehind r (now (rows .exit)) ≡ map? (λ e. wrote (pen (now (rows .entry)) at) (laidRow e)) (ifUnlisted (tableIn (take at (now (rows .entry)))) (entryOf (now (frame .entry)))) ⌝ }
 {
     if !is_row(frame) {
         return Laid::Malformed;
@@ -189,7 +189,7 @@ fn is_row(frame: &[u8]) -> bool
 
 // One of the fourteen codes, with 0 for one value, or 1 for many of a type that splits.
 fn is_kind(code: u8, many: u8) -> bool
-    ensures { λ r. ⌜ r ≡ (between binary utcOffset code and (eqb many 0 or (eqb many 1 and splits code))) ⌝ }
+    ensures { λ r. ⌜ r ≡ (between binary utcOffset code and (eqb many 0 or (eqb many 1 and typeSplits code))) ⌝ }
 {
     if code < 1 {
         return false;

@@ -18,9 +18,9 @@ use Rattle.calendar.specs.Dates.{dateIs, timeIs, dateTimeIs, offsetIs, dateText
 use Rattle.calendar.specs.Durations.{durationIs, periodEndIs, periodEndText}
 use Rattle.calendar.specs.Recurrence.{partsText}
 use Rattle.calendar.proofs.Again.{text-capital}
-use Rattle.json.specs.Tree.{Json, null, falsity, truth, num, str, arr, obj, Members, string?, number?, boolean?, array?, object?, listOf, octetsOf, elements}
+use Rattle.json.specs.Tree.{Json, null, falsity, truth, num, str, arr, obj, Members, string?, number?, boolean?, array?, object?, listOfItems, octetsOf, elements}
 use Rattle.content.proofs.WrittenOctets.{printable, joined-has}
-use Rattle.values.specs.Sorts.{Sort, plain, binary, boolean, date, dateTime, duration, float, geo, integer, period, recur, text, status, time, utcOffset, splits}
+use Rattle.values.specs.Sorts.{Sort, plain, binary, boolean, date, dateTime, duration, float, geo, integer, period, recur, text, status, time, utcOffset, sortSplits}
 use Rattle.values.specs.Texts.{textIs, textText}
 use Rattle.values.specs.Simple.{binaryIs, booleanText, floatOf, integerOf}
 use Rattle.values.specs.Recur.{recurIs, recurText, ruleParts, kindsAre}
@@ -60,7 +60,7 @@ module _ (p : List ℕ → Bool) (f : List ℕ → List ℕ) (law : (t : List �
 
 list-clean : (p : List Json → Bool) (f : List Json → List ℕ) (j : Json) → (p (elements j) ≡ true → Clean (f (elements j))) → isArray p j ≡ true → Clean (f (elements j))
 unfolding isArray elements given
-list-clean p f j law h = law (holds-is (λ js. p (listOf js)) (array? j) h (λ js e k. rw e k))
+list-clean p f j law h = law (holds-is (λ js. p (listOfItems js)) (array? j) h (λ js e k. rw e k))
 
 -- arrays of two and of two or three
 two-all : (p : Json → Bool) (js : List Json) → isTwo p p js ≡ true → all p js ≡ true
@@ -148,4 +148,4 @@ value-clean utcOffset j k h = string-clean (λ t. offsetIs (upper t)) (λ t. off
 -- THE LAW
 pub values-clean : (many : Bool) (s : Sort) (vs : List Json) → All Encoded vs → valuesAre many s vs ≡ true → Clean (valuesText s vs)
 unfolding valuesAre valuesText
-values-clean many s vs k h = each-clean (code ",") (unfold between in refl) (valueIs s) (valueText s) (value-clean s) vs k (both ((many and splits s) or single vs) (all (valueIs s) vs) h .1)
+values-clean many s vs k h = each-clean (code ",") (unfold between in refl) (valueIs s) (valueText s) (value-clean s) vs k (both ((many and sortSplits s) or single vs) (all (valueIs s) vs) h .1)

@@ -13,7 +13,7 @@ use Rattle.octets.specs.Utf8.{Due, start, due, dueAfter, isStart, utf8}
 use Rattle.octets.proofs.Cases.{never, both, neither, and-true}
 use Rattle.octets.proofs.Classes.{between-true}
 use Rattle.octets.proofs.Utf8.{ascii, ascii-utf8}
-use Rattle.json.specs.Tree.{Json, null, falsity, truth, num, str, arr, obj, Items, noItems, item, Members, noMembers, member, string?, number?, array?, object?, listOf, octetsOf, elements, element, members}
+use Rattle.json.specs.Tree.{Json, null, falsity, truth, num, str, arr, obj, Items, noItems, item, Members, noMembers, member, string?, number?, array?, object?, listOfItems, octetsOf, elements, element, members}
 use Rattle.json.proofs.Outs.{by}
 use Rattle.json.proofs.Surrogates.{isED, looseDue, looseAfter, loose, ed-next}
 use Rattle.json.proofs.Decoding.{Decoded, d-null, d-false, d-true, d-num, d-str, d-arr, d-obj, DecodedItems, d-none, d-item, DecodedMembers, d-empty, d-member}
@@ -100,8 +100,8 @@ encoded-octets (e-str h) = h
 encoded-octets (e-arr h) = none-utf8
 encoded-octets (e-obj h) = none-utf8
 
-items-list : {js : Items} → EncodedItems js → All Encoded (listOf js)
-unfolding listOf
+items-list : {js : Items} → EncodedItems js → All Encoded (listOfItems js)
+unfolding listOfItems
 items-list e-none = tt
 items-list (e-item h k) = (h, items-list k)
 

@@ -22,7 +22,7 @@ use Rattle.calendar.specs.Dates.{dateOf, timeOf, dateTimeOf, offsetOf, dateIs, 
 use Rattle.calendar.specs.Durations.{durationOf, durationIs, periodEndOf, periodEndIs, periodEndText}
 use Rattle.calendar.specs.declared.texts.Form.the-variants.{Date, Time, DateTime, Offset}
 use Rattle.calendar.proofs.Readback.{capital, capital-upper, capital-printable, Returned, form-returned, duration-returned, period-end-returned}
-use Rattle.json.specs.Tree.{Json, falsity, truth, str, arr, noItems, item, string?, number?, boolean?, array?, listOf, octetsOf, elements}
+use Rattle.json.specs.Tree.{Json, falsity, truth, str, arr, noItems, item, string?, number?, boolean?, array?, listOfItems, octetsOf, elements}
 use Rattle.values.specs.Sorts.{Sort, plain, binary, boolean, date, dateTime, duration, period, time, utcOffset}
 use Rattle.values.specs.Simple.{binaryIs, booleanOf, booleanText}
 use Rattle.values.specs.Read.{readPlain, readBinary, asString, periodOf, readPeriod}
@@ -156,11 +156,11 @@ boolean-law = raised-law boolean (λ v. booleanOf (upper v)) booleanOf (λ s. re
 -- periods
 module _ (x y : List ℕ) (hx : all capital x ≡ true) (hy : all capital y ≡ true) where
   pair-text : valueText period (arr (item (str x) (item (str y) noItems))) ≡ joined (code "/") (dateTimeText x ∷ periodEndText y ∷ [])
-  unfolding valueText elements array? given listOf periodText octetsOf number? string?
+  unfolding valueText elements array? given listOfItems periodText octetsOf number? string?
   pair-text = rw (capital-upper x hx, capital-upper y hy)
 
   pair-is : dateTimeIs x ≡ true → periodEndIs y ≡ true → valueIs period (arr (item (str x) (item (str y) noItems))) ≡ true
-  unfolding valueIs isArray isTwo isLettered holds array? listOf string?
+  unfolding valueIs isArray isTwo isLettered holds array? listOfItems string?
   pair-is a b = rw (capital-upper x hx, capital-upper y hy, a, b)
 
 pair-back : (a b x y : List ℕ) → dateTimeOf a ≡ some x → periodEndOf b ≡ some y → Back period (joined (code "/") (a ∷ b ∷ [])) (arr (item (str x) (item (str y) noItems)))

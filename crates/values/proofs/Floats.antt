@@ -18,7 +18,7 @@ use Rattle.octets.proofs.Cases.{cases, alike, apart, All-weaker, all-All}
 use Rattle.octets.proofs.Decimal.{digits-all}
 use Rattle.octets.proofs.Pieces.{split-filled, joined-split, split-last as split-alone}
 use Rattle.octets.proofs.Positions.{from, upto}
-use Rattle.calendar.specs.Walk.{before}
+use Rattle.calendar.specs.Walk.{beforeFirst}
 use Rattle.calendar.proofs.Options.{some-when}
 use Rattle.calendar.proofs.Pieces.{before-take, split-more, split-last}
 use Rattle.values.specs.Simple.{pointed, floatOf, inRange, integerOf}
@@ -44,16 +44,16 @@ fraction w v h = cases (digits v)
     (λ d. rw d (fraction-by w v (split (code ".") v) (joined-split (code ".") v) (split-filled (code ".") v) d))
 
 -- digits, and a point with digits or none; `rest` is what follows the sign, and its first point stands at e
-module _ (s rest : List ℕ) (e : ℕ) (r : rest ≡ unsigned s) (is : e ≡ length (before (code ".") rest)) where
+module _ (s rest : List ℕ) (e : ℕ) (r : rest ≡ unsigned s) (is : e ≡ length (beforeFirst (code ".") rest)) where
   float-is : isSome (floatOf s) ≡ pointed (split (code ".") rest)
   unfolding floatOf
   float-is = some-when _ _ ∙ ap (λ (u : List ℕ). pointed (split (code ".") u)) (sym r)
 
-  first : before (code ".") rest ≡ take (e - 0) (drop 0 rest)
+  first : beforeFirst (code ".") rest ≡ take (e - 0) (drop 0 rest)
   first = before-take (code ".") rest ∙ ap (λ (n : ℕ). take n rest) (sym is) ∙ sym (upto rest e)
 
   more : e < length rest → split (code ".") rest ≡ take (e - 0) (drop 0 rest) ∷ split (code ".") (drop (e + 1) rest)
-  more h = split-more (code ".") rest (rw (← is) h) ∙ ap (λ (n : ℕ). before (code ".") rest ∷ split (code ".") (drop (n + 1) rest)) (sym is) ∙ ap (λ (l : List ℕ). l ∷ split (code ".") (drop (e + 1) rest)) first
+  more h = split-more (code ".") rest (rw (← is) h) ∙ ap (λ (n : ℕ). beforeFirst (code ".") rest ∷ split (code ".") (drop (n + 1) rest)) (sym is) ∙ ap (λ (l : List ℕ). l ∷ split (code ".") (drop (e + 1) rest)) first
 
   last : length rest ≤ e → split (code ".") rest ≡ take (e - 0) (drop 0 rest) ∷ []
   last h = split-last (code ".") rest (rw (← is) h) ∙ ap (λ (l : List ℕ). l ∷ []) first

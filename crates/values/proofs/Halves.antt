@@ -20,14 +20,14 @@ use Rattle.octets.proofs.Pieces.{split-filled}
 use Rattle.octets.proofs.Positions.{ended, from, upto}
 use Rattle.calendar.specs.Dates.{dateTimeOf}
 use Rattle.calendar.specs.Durations.{periodEndOf}
-use Rattle.calendar.specs.Walk.{before}
+use Rattle.calendar.specs.Walk.{beforeFirst}
 use Rattle.calendar.proofs.Pieces.{before-le, before-take, before-all, split-more, split-last, Uncased, uncased, split-upper}
 use Rattle.values.specs.Simple.{floatOf}
 use Rattle.values.specs.Read.{geoOf, readGeo, periodOf, readPeriod}
 use Rattle.values.specs.Single.{isPair}
-use Rattle.values.specs.Shown.{behind, arrayShown}
+use Rattle.values.specs.Shown.{behindFirst, arrayShown}
 
-pub found-le : (sep : ℕ) (s : List ℕ) (e : ℕ) → e ≡ length (before sep s) → e ≤ length s
+pub found-le : (sep : ℕ) (s : List ℕ) (e : ℕ) → e ≡ length (beforeFirst sep s) → e ≤ length s
 found-le sep s e is = rw is (before-le sep s)
 
 -- where what lies behind a place begins
@@ -35,12 +35,12 @@ pub past-in : (s : List ℕ) (e : ℕ) → length s ≤ e → drop (length s) s 
 past-in s e h = ended s (length s) (omega arith) ∙ sym (ended s (e + 1) (omega arith))
 
 -- the two parts as the code has them
-module _ (sep : ℕ) (s : List ℕ) (e : ℕ) (is : e ≡ length (before sep s)) where
-  pub first-half : take (e - 0) (drop 0 s) ≡ before sep s
+module _ (sep : ℕ) (s : List ℕ) (e : ℕ) (is : e ≡ length (beforeFirst sep s)) where
+  pub first-half : take (e - 0) (drop 0 s) ≡ beforeFirst sep s
   first-half = upto s e ∙ ap (λ (n : ℕ). take n s) is ∙ sym (before-take sep s)
 
-  pub second-half : (r : ℕ) → drop r s ≡ drop (e + 1) s → take (length s - r) (drop r s) ≡ behind sep s
-  unfolding behind
+  pub second-half : (r : ℕ) → drop r s ≡ drop (e + 1) s → take (length s - r) (drop r s) ≡ behindFirst sep s
+  unfolding behindFirst
   second-half r d = from s r ∙ d ∙ ap (λ (n : ℕ). drop (n + 1) s) is
 
   -- one separator, and no other
@@ -48,39 +48,39 @@ module _ (sep : ℕ) (s : List ℕ) (e : ℕ) (is : e ≡ length (before sep s))
   unfolding isPair
   no-pair h = rw (split-last sep s (rw (← is) h))
 
-  module _ (h : e < length s) (r : ℕ) (found : r ≡ length (before sep (take (length s - (e + 1)) (drop (e + 1) s)))) where
+  module _ (h : e < length s) (r : ℕ) (found : r ≡ length (beforeFirst sep (take (length s - (e + 1)) (drop (e + 1) s)))) where
     rest : List ℕ
     rest = take (length s - (e + 1)) (drop (e + 1) s)
 
-    pieces : split sep s ≡ before sep s ∷ split sep rest
+    pieces : split sep s ≡ beforeFirst sep s ∷ split sep rest
     unfolding rest
-    pieces = rw (from s (e + 1)) (split-more sep s (rw (← is) h) ∙ ap (λ (n : ℕ). before sep s ∷ split sep (drop (n + 1) s)) (sym is))
+    pieces = rw (from s (e + 1)) (split-more sep s (rw (← is) h) ∙ ap (λ (n : ℕ). beforeFirst sep s ∷ split sep (drop (n + 1) s)) (sym is))
 
     pub pair-more : leb (length (take (length s - (e + 1)) (drop (e + 1) s))) r ≡ isPair (split sep s)
     unfolding rest isPair
     pair-more = cases (ltb r (length rest))
         (λ t. let l = ltb-true r (length rest) t in
-        rw (lt-leb (length rest) r l, pieces, split-more sep rest (rw (← found) l)) (several (split sep (drop (length (before sep rest) + 1) rest)) (split-filled sep _)))
+        rw (lt-leb (length rest) r l, pieces, split-more sep rest (rw (← found) l)) (several (split sep (drop (length (beforeFirst sep rest) + 1) rest)) (split-filled sep _)))
         (λ t. let l = ltb-false r (length rest) t in
         rw (le-leb (length rest) r l, pieces, split-last sep rest (rw (← found) l)))
       where
-        several : (ls : List (List ℕ)) → (ls ≡ [] → ⊥) → false ≡ isPair (before sep s ∷ before sep rest ∷ ls)
+        several : (ls : List (List ℕ)) → (ls ≡ [] → ⊥) → false ≡ isPair (beforeFirst sep s ∷ beforeFirst sep rest ∷ ls)
         several [] n = absurd (n refl)
         several (l ∷ ls) n = unfold isPair in refl
 
 -- exactly two pieces are what stands before the separator and behind it
-pub pair-split : (sep : ℕ) (s : List ℕ) → isPair (split sep s) ≡ true → split sep s ≡ before sep s ∷ behind sep s ∷ []
-unfolding behind isPair
-pair-split sep s p = cases (ltb (length (before sep s)) (length s))
-    (λ t. let m = split-more sep s (ltb-true _ (length s) t) in m ∙ ap (λ (ls : List (List ℕ)). before sep s ∷ ls) (alone (drop (length (before sep s) + 1) s) (rw m at p)))
+pub pair-split : (sep : ℕ) (s : List ℕ) → isPair (split sep s) ≡ true → split sep s ≡ beforeFirst sep s ∷ behindFirst sep s ∷ []
+unfolding behindFirst isPair
+pair-split sep s p = cases (ltb (length (beforeFirst sep s)) (length s))
+    (λ t. let m = split-more sep s (ltb-true _ (length s) t) in m ∙ ap (λ (ls : List (List ℕ)). beforeFirst sep s ∷ ls) (alone (drop (length (beforeFirst sep s) + 1) s) (rw m at p)))
     (λ t. never p (rw (split-last sep s (ltb-false _ (length s) t)) (unfold isPair in refl)))
   where
-    alone : (v : List ℕ) → isPair (before sep s ∷ split sep v) ≡ true → split sep v ≡ v ∷ []
-    alone v q = cases (ltb (length (before sep v)) (length v))
-        (λ t. never q (rw (split-more sep v (ltb-true _ (length v) t)) (several (split sep (drop (length (before sep v) + 1) v)) (split-filled sep _))))
-        (λ t. let l = ltb-false (length (before sep v)) (length v) t in split-last sep v l ∙ ap (λ (x : List ℕ). x ∷ []) (before-all sep v l))
+    alone : (v : List ℕ) → isPair (beforeFirst sep s ∷ split sep v) ≡ true → split sep v ≡ v ∷ []
+    alone v q = cases (ltb (length (beforeFirst sep v)) (length v))
+        (λ t. never q (rw (split-more sep v (ltb-true _ (length v) t)) (several (split sep (drop (length (beforeFirst sep v) + 1) v)) (split-filled sep _))))
+        (λ t. let l = ltb-false (length (beforeFirst sep v)) (length v) t in split-last sep v l ∙ ap (λ (x : List ℕ). x ∷ []) (before-all sep v l))
       where
-        several : (ls : List (List ℕ)) → (ls ≡ [] → ⊥) → isPair (before sep s ∷ before sep v ∷ ls) ≡ false
+        several : (ls : List (List ℕ)) → (ls ≡ [] → ⊥) → isPair (beforeFirst sep s ∷ beforeFirst sep v ∷ ls) ≡ false
         several [] n = absurd (n refl)
         several (l ∷ ls) n = unfold isPair in refl
 
@@ -102,7 +102,7 @@ pub geo-none : (s : List ℕ) → isPair (split (code ";") s) ≡ false → isSo
 unfolding readGeo
 geo-none s h = geo-other (split (code ";") s) h
 
-pub geo-some : (s : List ℕ) → isPair (split (code ";") s) ≡ true → isSome (readGeo s) ≡ (isSome (floatOf (before (code ";") s)) and isSome (floatOf (behind (code ";") s)))
+pub geo-some : (s : List ℕ) → isPair (split (code ";") s) ≡ true → isSome (readGeo s) ≡ (isSome (floatOf (beforeFirst (code ";") s)) and isSome (floatOf (behindFirst (code ";") s)))
 unfolding readGeo geoOf
 geo-some s h = rw (pair-split (code ";") s h) (some-two _ _ _)
 
@@ -123,7 +123,7 @@ unfolding readPeriod
 period-none s h = rw (split-upper (code "/") slash-uncased s) (period-other (split (code "/") s) h)
 
 pub period-some : (s : List ℕ) → isPair (split (code "/") s) ≡ true
-    → isSome (readPeriod s) ≡ (isSome (dateTimeOf (upper (before (code "/") s))) and isSome (periodEndOf (upper (behind (code "/") s))))
+    → isSome (readPeriod s) ≡ (isSome (dateTimeOf (upper (beforeFirst (code "/") s))) and isSome (periodEndOf (upper (behindFirst (code "/") s))))
 unfolding readPeriod periodOf
 period-some s h = rw (split-upper (code "/") slash-uncased s, pair-split (code "/") s h) (some-two _ _ _)
 

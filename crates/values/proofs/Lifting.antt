@@ -16,7 +16,7 @@ use Rattle.octets.proofs.Pieces.{Free, split-last, split-free, split-filled, jo
 use Rattle.octets.proofs.Utf8.{ascii}
 use Rattle.json.specs.Tree.{Json}
 use Rattle.content.proofs.WrittenClean.{clean-joined}
-use Rattle.values.specs.Sorts.{Sort, splits}
+use Rattle.values.specs.Sorts.{Sort, sortSplits}
 use Rattle.values.specs.Read.{alone, listed, readValues}
 use Rattle.values.specs.Write.{valueIs, valueText, valuesText}
 use Rattle.values.proofs.Neat.{Neat}
@@ -46,7 +46,7 @@ pub record Held (sort : Sort) (raw : List ℕ) (vs : List Json) : Type 0 where
   pub pieces : All (λ j. readValues sort (valueText sort j) ≡ some (j ∷ [])) vs
   pub are : all (valueIs sort) vs ≡ true
   pub one-or-more : filled vs ≡ true
-  pub only : splits sort ≡ false → single vs ≡ true
+  pub only : sortSplits sort ≡ false → single vs ≡ true
   pub line : clean raw ≡ true → clean (valuesText sort vs) ≡ true
   pub neat : clean raw ≡ true → All (Neat 2) vs
 
@@ -106,7 +106,7 @@ module _ (sort : Sort) (R : List ℕ → Option Json) (law : ItemLaw sort R) (re
 
 -- values between commas
 module _ (sort : Sort) (R : List ℕ → Option Json) (law : ListLaw sort R) (reads : (s : List ℕ) → readValues sort s ≡ listed R s)
-    (many : splits sort ≡ true) where
+    (many : sortSplits sort ≡ true) where
   one-piece : (j : Json) → R (valueText sort j) ≡ some j → Free (code ",") (valueText sort j) → readValues sort (valueText sort j) ≡ some (j ∷ [])
   unfolding listed each both?
   one-piece j e f = reads (valueText sort j) ∙ rw (split-last (code ",") (valueText sort j) f, e)

@@ -17,7 +17,7 @@ use Rattle.octets.proofs.Utf8.{ascii, broken-stays, utf8-both, utf8-ascii, low-
 use Rattle.octets.proofs.Transducer.{Runs, Keeps, run-utf8}
 use Rattle.json.specs.Tree.{Json, null, falsity, truth, num, str, arr, obj, Items, noItems, item, Members, noMembers, member, itemsOf}
 use Rattle.json.specs.Reads.{ok}
-use Rattle.json.specs.Numbers.{number}
+use Rattle.json.specs.Numbers.{numberRead}
 use Rattle.json.specs.Print.{escaped, quoted, printString, printKey, print, firstItem, moreItems, firstMember, moreMembers}
 use Rattle.json.proofs.Printing.{Printable, p-null, p-false, p-true, p-num, p-str, p-arr, p-obj, PrintableItems, p-none, p-item, PrintableMembers, p-empty, p-member, fitOctet, text-fit, depth, depthItems, depthMembers}
 use Rattle.tape.specs.Sound.{hasLone, distinctKeys, sound, soundItems, soundMembers}
@@ -32,7 +32,7 @@ mutual
     n-null : {d : ℕ} → Neat d null
     n-false : {d : ℕ} → Neat d falsity
     n-true : {d : ℕ} → Neat d truth
-    n-num : {d : ℕ} {t : List ℕ} → number t ≡ ok t [] → utf8 t ≡ true → Neat d (num t)
+    n-num : {d : ℕ} {t : List ℕ} → numberRead t ≡ ok t [] → utf8 t ≡ true → Neat d (num t)
     n-str : {d : ℕ} {t : List ℕ} → Textual t → Neat d (str t)
     n-arr : {d : ℕ} {js : Items} → NeatItems d js → Neat (suc d) (arr js)
     n-obj : {d : ℕ} {ms : Members} → distinctKeys ms ≡ true → NeatMembers d ms → Neat (suc d) (obj ms)

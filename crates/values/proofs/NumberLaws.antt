@@ -23,9 +23,9 @@ use Rattle.octets.proofs.Optional.{missing, when-is, map-is, both-is}
 use Rattle.octets.proofs.Pieces.{Free, split-last, split-joined, split-filled, joined-split}
 use Rattle.octets.proofs.Utf8.{printable-clean}
 use Rattle.octets.proofs.Decimal.{DigitFirst, digits-first, digits-all, trim-twice, trim-digits, unsigned-minusIf, minus-minusIf, all-minusIf, integer-minus, integer-unsigned, integer-value, integer-twice}
-use Rattle.json.specs.Tree.{Json, num, arr, noItems, item, string?, number?, array?, listOf, octetsOf, elements}
+use Rattle.json.specs.Tree.{Json, num, arr, noItems, item, string?, number?, array?, listOfItems, octetsOf, elements}
 use Rattle.json.specs.Reads.{ok}
-use Rattle.json.specs.Numbers.{Place, start, minus as signed, zero as nought, int, point, frac, behindInt, firstDigit, advance, isBeyond, mayEnd, scan, number}
+use Rattle.json.specs.Numbers.{NumberPlace, start, minus as signed, zero as nought, int, point, frac, behindInt, firstDigit, advance, isBeyond, numberEnds, scan, numberRead}
 use Rattle.values.specs.Sorts.{Sort, float, geo, integer}
 use Rattle.values.specs.Simple.{pointed, floatOf, inRange, integerOf}
 use Rattle.values.specs.Read.{asNumber, geoOf, readGeo}
@@ -119,16 +119,16 @@ trimmed [] = tt
 trimmed (c ∷ s) = cases (eqb c (code "0") and isDigit (getD s 0 0)) (λ e. rw e (trimmed s)) (λ e. rw e e)
 
 -- The number is scanned to its end.
-abbrev Scanned : Place → List ℕ → Type 0
+abbrev Scanned : NumberPlace → List ℕ → Type 0
 Scanned q s = scan q s ≡ ok tt []
 
-scan-on : (q r : Place) (c : ℕ) (s : List ℕ) → advance q c ≡ r → isBeyond r ≡ false → Scanned r s → Scanned q (c ∷ s)
+scan-on : (q r : NumberPlace) (c : ℕ) (s : List ℕ) → advance q c ≡ r → isBeyond r ≡ false → Scanned r s → Scanned q (c ∷ s)
 unfolding scan
 scan-on q r c s e n h = rw (e, n, h)
 
 frac-scan : (s : List ℕ) → all isDigit s ≡ true → Scanned frac s
 unfolding all
-frac-scan [] h = unfold scan mayEnd in refl
+frac-scan [] h = unfold scan numberEnds in refl
 frac-scan (c ∷ s) h =
     let b = both (isDigit c) (all isDigit s) h in
     scan-on frac frac c s (unfold advance in rw (b .0)) (unfold isBeyond in refl) (frac-scan s (b .1))
@@ -140,19 +140,19 @@ point-scan (c ∷ s) h =
     (frac-scan s (unfold all in both (isDigit c) (all isDigit s) (digits-all (c ∷ s) h) .1))
 
 int-scan : (c : ℕ) (s : List ℕ) → isDigit c ≡ true → Pointed (c ∷ s) → Scanned int s
-int-scan c [] a h = unfold scan mayEnd in refl
+int-scan c [] a h = unfold scan numberEnds in refl
 int-scan c (d ∷ s) a h = same? d (code ".")
     (λ e. scan-on int point d s (rw e (unfold advance behindInt isDigit between in refl)) (unfold isBeyond in refl) (point-scan s (behind-point c d s a h e)))
     (λ n. let k = behind-digit c d s a h n in
     scan-on int int d s (unfold advance in rw (k .0)) (unfold isBeyond in refl) (int-scan d s (k .0) (k .1)))
 
 nought-scan : (c : ℕ) (s : List ℕ) → isDigit c ≡ true → isDigit (getD s 0 0) ≡ false → Pointed (c ∷ s) → Scanned nought s
-nought-scan c [] a z h = unfold scan mayEnd in refl
+nought-scan c [] a z h = unfold scan numberEnds in refl
 nought-scan c (d ∷ s) a z h = same? d (code ".")
     (λ e. scan-on nought point d s (rw e (unfold advance behindInt in refl)) (unfold isBeyond in refl) (point-scan s (behind-point c d s a h e)))
     (λ n. never (behind-digit c d s a h n .0) z)
 
-first-scan : (q : Place) → ((c : ℕ) → isDigit c ≡ true → advance q c ≡ firstDigit c) → (s : List ℕ) → Trimmed s → Pointed s → Scanned q s
+first-scan : (q : NumberPlace) → ((c : ℕ) → isDigit c ≡ true → advance q c ≡ firstDigit c) → (s : List ℕ) → Trimmed s → Pointed s → Scanned q s
 first-scan q f [] t h = never (pointed-first [] h) no-digit
 first-scan q f (c ∷ s) t h =
     let a = pointed-first (c ∷ s) h in
@@ -165,8 +165,8 @@ unfolding minusIf
 signed-scan true s t h = scan-on start signed (code "-") s (unfold advance in refl) (unfold isBeyond in refl) (first-scan signed (λ c a. unfold advance in refl) s t h)
 signed-scan false s t h = first-scan start (λ c a. unfold advance in rw (apart isDigit c (code "-") a (unfold isDigit between in refl))) s t h
 
-scanned-number : (t : List ℕ) → Scanned start t → number t ≡ ok t []
-unfolding number
+scanned-number : (t : List ℕ) → Scanned start t → numberRead t ≡ ok t []
+unfolding numberRead
 scanned-number t h = let n : length t - 0 ≡ length t = omega arith in rw (h, n, take-length t)
 
 -- Its octets separate nothing.
@@ -206,7 +206,7 @@ figure-printable c h = either (between (code "0") (code "9") c) _ h
 
 -- a number as it is read
 pub record Numeral (t : List ℕ) : Type 0 where
-  pub number-is : number t ≡ ok t []
+  pub number-is : numberRead t ≡ ok t []
   pub figures : all figureOctet t ≡ true
 
 pub numeral : (b : Bool) (s : List ℕ) → Trimmed s → Pointed s → Numeral (minusIf b s)
@@ -328,11 +328,11 @@ module _ (x y : List ℕ) (hx : Float x) (hy : Float y) where
   pair = arr (item (num x) (item (num y) noItems))
 
   pair-text : valueText geo pair ≡ joined (code ";") (x ∷ y ∷ [])
-  unfolding valueText elementsText elements array? given listOf octetsOf number? string?
+  unfolding valueText elementsText elements array? given listOfItems octetsOf number? string?
   pair-text = refl
 
   pair-is : valueIs geo pair ≡ true
-  unfolding valueIs isArray isTwo holds array? listOf
+  unfolding valueIs isArray isTwo holds array? listOfItems
   pair-is = and-true (number-test floatOf x (hx .again)) (number-test floatOf y (hy .again))
 
   pair-again : readGeo (joined (code ";") (x ∷ y ∷ [])) ≡ some pair

@@ -22,7 +22,7 @@ use Rattle.octets.proofs.Pieces.{split-filled}
 use Rattle.octets.proofs.Utf8.{printable-clean}
 use Rattle.octets.proofs.Decimal.{digits-first, minus-minusIf, unsigned-digits}
 use Rattle.calendar.specs.Dates.{momentOf, momentIs, momentText}
-use Rattle.calendar.specs.Recurrence.{Sort, frequency, moment, count, weekday, ordinal, numbers, Key, keys, keyIn, keyNamed, untilOf, countOf, numberOf, itemOf, several, Part, part, keyedPart, partOf, names, isRule, partsOf, partText, partsText}
+use Rattle.calendar.specs.Recurrence.{PartSort, frequency, moment, count, weekday, ordinal, numbers, Key, keys, keyIn, keyNamed, untilOf, countOf, numberOf, itemOf, several, Part, part, keyedPart, partOf, names, isRule, partsOf, partText, partsText}
 use Rattle.calendar.proofs.Octets.{itemOctet}
 use Rattle.calendar.proofs.Readback.{capital-upper, moment-returned}
 use Rattle.calendar.proofs.Walk.{readPart, readParts, rule-parts, named-found}
@@ -40,7 +40,7 @@ use Rattle.values.proofs.FixedLaws.{capital-neat}
 use Rattle.values.proofs.NumberLaws.{integer-numeral, numeral-neat}
 
 -- The keys: their names come back from lowercase, are names in jCal, and no bound of a number is beyond an integer's.
-unfoldable small : Sort → Bool
+unfoldable small : PartSort → Bool
 small frequency = true
 small moment = true
 small count = true
@@ -77,7 +77,7 @@ fits-named k h =
     (record { back = same-is (upper (lower (k .name))) (k .name) (a .0); lowered = b .0; textual = clean-textual (lower (k .name)) (printable-clean (lower (k .name)) (c .0)) }, c .1)
 
 -- A value of a part.
-unfoldable itemKind : Sort → Json → Bool
+unfoldable itemKind : PartSort → Json → Bool
 itemKind frequency j = isWord j
 itemKind moment j = isUntil j
 itemKind count j = isInteger j
@@ -85,7 +85,7 @@ itemKind weekday j = isWord j
 itemKind ordinal j = isWord j
 itemKind (numbers signed most lo hi) j = isInteger j
 
-record Fitting (sort : Sort) (v : List ℕ) : Type 0 where
+record Fitting (sort : PartSort) (v : List ℕ) : Type 0 where
   text : itemText sort (itemJson sort v) ≡ v
   kind : itemKind sort (itemJson sort v) ≡ true
   plain : array? (itemJson sort v) ≡ none
@@ -132,7 +132,7 @@ count-text v d e =
     let m : minus v ≡ false = unfold minusIf in minus-minusIf false v f in
     rw (m, unsigned-digits v f) (unfold minusIf in e)
 
-module _ (sort : Sort) (v : List ℕ) (j : itemJson sort v ≡ num v) (k : itemKind sort (num v) ≡ isInteger (num v)) where
+module _ (sort : PartSort) (v : List ℕ) (j : itemJson sort v ≡ num v) (k : itemKind sort (num v) ≡ isInteger (num v)) where
   integer-text : itemText sort (num v) ≡ integerText v
   unfolding itemText number? given
   integer-text = refl
@@ -182,7 +182,7 @@ until-fitting v t e =
     tested : (t : List ℕ) → itemKind moment (str t) ≡ momentIs (upper t)
     tested t = unfold itemKind isUntil holds string? in refl
 
-module _ (sort : Sort) (v : List ℕ) (e : itemOf sort v ≡ some v) (j : itemJson sort v ≡ str v) (t : itemText sort (str v) ≡ v) (k : itemKind sort (str v) ≡ isWord (str v)) where
+module _ (sort : PartSort) (v : List ℕ) (e : itemOf sort v ≡ some v) (j : itemJson sort v ≡ str v) (t : itemText sort (str v) ≡ v) (k : itemKind sort (str v) ≡ isWord (str v)) where
   word-fitting : Fitting sort v
   word-fitting =
       let o = value-octets sort v v e in
@@ -193,11 +193,11 @@ module _ (sort : Sort) (v : List ℕ) (e : itemOf sort v ≡ some v) (j : itemJs
         neat = λ d. rw j (word-neat d v o);
       }
 
-word-text : (sort : Sort) (v : List ℕ) → stringText sort v ≡ v → itemText sort (str v) ≡ v
+word-text : (sort : PartSort) (v : List ℕ) → stringText sort v ≡ v → itemText sort (str v) ≡ v
 unfolding itemText number? string? given
 word-text sort v e = e
 
-item-fitting : (sort : Sort) (v : List ℕ) → small sort ≡ true → itemOf sort v ≡ some v → Fitting sort v
+item-fitting : (sort : PartSort) (v : List ℕ) → small sort ≡ true → itemOf sort v ≡ some v → Fitting sort v
 item-fitting frequency v l e = word-fitting frequency v e (unfold itemJson in refl) (word-text frequency v (unfold stringText in refl)) (unfold itemKind in refl)
 item-fitting moment v l e = some-is (momentOf v) (when-is (isSome (momentOf v)) v v (unfold itemOf untilOf in e) .0) (λ t q. until-fitting v t q)
 item-fitting count v l e = count-fitting v (unfold itemOf in e)
@@ -206,7 +206,7 @@ item-fitting ordinal v l e = word-fitting ordinal v e (unfold itemJson in refl) 
 item-fitting (numbers signed most lo hi) v l e = numbers-fitting signed most lo hi v (unfold small in l) (unfold itemOf in e)
 
 -- The values of a part: one plain, several an array.
-module _ (sort : Sort) where
+module _ (sort : PartSort) where
   items-text : (vs : List (List ℕ)) → All (Fitting sort) vs → itemTexts sort (itemsOf (map (itemJson sort) vs)) ≡ vs
   unfolding itemTexts itemsOf
   items-text [] h = refl
@@ -245,7 +245,7 @@ module _ (sort : Sort) where
   values-neat (v ∷ []) h = h .0 .neat 1
   values-neat (v ∷ w ∷ vs) h = n-arr (neat-items 0 (map (itemJson sort) (v ∷ w ∷ vs)) (items-neat 0 (v ∷ w ∷ vs) h))
 
-kind-of : (sort : Sort) (vs : List (List ℕ)) → filled vs ≡ true → (several sort or single vs) ≡ true → All (Fitting sort) vs → kindIs sort (plainOr (map (itemJson sort) vs)) ≡ true
+kind-of : (sort : PartSort) (vs : List (List ℕ)) → filled vs ≡ true → (several sort or single vs) ≡ true → All (Fitting sort) vs → kindIs sort (plainOr (map (itemJson sort) vs)) ≡ true
 unfolding kindIs several
 kind-of frequency vs f m h = unfold itemKind in value-kind frequency vs m h
 kind-of moment vs f m h = unfold itemKind in value-kind moment vs m h

@@ -19,8 +19,8 @@ use Rattle.octets.proofs.Optional.{missing, some-same, map-is, guard-is}
 use Rattle.octets.proofs.Utf8.{ascii, ascii-high, utf8-joined}
 use Rattle.octets.proofs.Transducer.{Runs, Keeps, run-all, run-utf8}
 use Rattle.types.specs.Codes as typed
-use Rattle.json.specs.Tree.{Json, str, arr, string?, number?, array?, itemsOf, listOf, octetsOf, elements}
-use Rattle.values.specs.Sorts.{text, status, splits}
+use Rattle.json.specs.Tree.{Json, str, arr, string?, number?, array?, itemsOf, listOfItems, octetsOf, elements}
+use Rattle.values.specs.Sorts.{text, status, sortSplits}
 use Rattle.values.specs.Texts.{Act, add, next, escape, stop, act, escapes, done, textsFrom, texts, fields, textIs, escapedOctet, textText}
 use Rattle.values.specs.Read.{twoOrThree, readStatus, readValues}
 use Rattle.values.specs.Write.{isString, isTwoOrThree, isArray, valueIs, elementsText, valueText, valuesText}
@@ -330,8 +330,8 @@ text-is : (t : List ℕ) → Text t → valueIs text (str t) ≡ true
 unfolding valueIs
 text-is t h = string-is t h
 
-text-splits : splits text ≡ true
-unfolding splits typed.splits between
+text-splits : sortSplits text ≡ true
+unfolding sortSplits typed.typeSplits between
 text-splits = refl
 
 map-text : (ts : List (List ℕ)) → map (valueText text) (map str ts) ≡ map textText ts
@@ -382,8 +382,8 @@ unfolding readValues
 text-held raw vs e = map-is (map str) (texts raw) vs e (λ ts q w. rw (← w) (texts-held raw ts q))
 
 -- REQUEST-STATUS
-pub list-items : (js : List Json) → listOf (itemsOf js) ≡ js
-unfolding listOf itemsOf
+pub list-items : (js : List Json) → listOfItems (itemsOf js) ≡ js
+unfolding listOfItems itemsOf
 list-items [] = refl
 list-items (j ∷ js) = ap (λ (l : List Json). j ∷ l) (list-items js)
 

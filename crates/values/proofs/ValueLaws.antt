@@ -16,7 +16,7 @@ use Rattle.calendar.specs.Dates.{dateOf, timeOf, dateTimeOf, offsetOf}
 use Rattle.calendar.specs.Durations.{durationOf}
 use Rattle.types.specs.Codes as typed
 use Rattle.json.specs.Tree.{Json, str, string?, number?, octetsOf}
-use Rattle.values.specs.Sorts.{Sort, plain, binary, boolean, date, dateTime, duration, float, geo, integer, period, recur, text, status, time, utcOffset, sortOf, splits}
+use Rattle.values.specs.Sorts.{Sort, plain, binary, boolean, date, dateTime, duration, float, geo, integer, period, recur, text, status, time, utcOffset, sortOf, sortSplits}
 use Rattle.values.specs.Simple.{booleanOf, floatOf, integerOf}
 use Rattle.values.specs.Recur.{recurOf}
 use Rattle.values.specs.Read.{readPlain, readBinary, asString, asNumber, readPeriod, readGeo, readStatus, alone, readValues, valuesOf}
@@ -30,27 +30,27 @@ use Rattle.values.proofs.RecurLaws.{recur-law}
 pub values-held : (sort : Sort) (raw : List ℕ) (vs : List Json) → readValues sort raw ≡ some vs → Held sort raw vs
 values-held plain = alone-held plain readPlain plain-law (λ s. unfold readValues in refl)
 values-held binary = alone-held binary readBinary binary-law (λ s. unfold readValues in refl)
-values-held boolean = listed-held boolean (λ v. booleanOf (upper v)) boolean-law (λ s. unfold readValues in refl) (unfold splits typed.splits between in refl)
-values-held date = listed-held date (asString dateOf) date-law (λ s. unfold readValues in refl) (unfold splits typed.splits between in refl)
-values-held dateTime = listed-held dateTime (asString dateTimeOf) date-time-law (λ s. unfold readValues in refl) (unfold splits typed.splits between in refl)
-values-held duration = listed-held duration (asString durationOf) duration-law (λ s. unfold readValues in refl) (unfold splits typed.splits between in refl)
-values-held float = listed-held float (asNumber floatOf) float-law (λ s. unfold readValues in refl) (unfold splits typed.splits between in refl)
+values-held boolean = listed-held boolean (λ v. booleanOf (upper v)) boolean-law (λ s. unfold readValues in refl) (unfold sortSplits typed.typeSplits between in refl)
+values-held date = listed-held date (asString dateOf) date-law (λ s. unfold readValues in refl) (unfold sortSplits typed.typeSplits between in refl)
+values-held dateTime = listed-held dateTime (asString dateTimeOf) date-time-law (λ s. unfold readValues in refl) (unfold sortSplits typed.typeSplits between in refl)
+values-held duration = listed-held duration (asString durationOf) duration-law (λ s. unfold readValues in refl) (unfold sortSplits typed.typeSplits between in refl)
+values-held float = listed-held float (asNumber floatOf) float-law (λ s. unfold readValues in refl) (unfold sortSplits typed.typeSplits between in refl)
 values-held geo = alone-held geo readGeo geo-law (λ s. unfold readValues in refl)
-values-held integer = listed-held integer (asNumber integerOf) integer-law (λ s. unfold readValues in refl) (unfold splits typed.splits between in refl)
-values-held period = listed-held period readPeriod period-law (λ s. unfold readValues in refl) (unfold splits typed.splits between in refl)
+values-held integer = listed-held integer (asNumber integerOf) integer-law (λ s. unfold readValues in refl) (unfold sortSplits typed.typeSplits between in refl)
+values-held period = listed-held period readPeriod period-law (λ s. unfold readValues in refl) (unfold sortSplits typed.typeSplits between in refl)
 values-held recur = alone-held recur (λ s. recurOf (upper s)) recur-law (λ s. unfold readValues in refl)
 values-held text = text-held
 values-held status = alone-held status readStatus status-law (λ s. unfold readValues in refl)
-values-held time = listed-held time (asString timeOf) time-law (λ s. unfold readValues in refl) (unfold splits typed.splits between in refl)
-values-held utcOffset = listed-held utcOffset (asString offsetOf) offset-law (λ s. unfold readValues in refl) (unfold splits typed.splits between in refl)
+values-held time = listed-held time (asString timeOf) time-law (λ s. unfold readValues in refl) (unfold sortSplits typed.typeSplits between in refl)
+values-held utcOffset = listed-held utcOffset (asString offsetOf) offset-law (λ s. unfold readValues in refl) (unfold sortSplits typed.typeSplits between in refl)
 
 -- jCal's tests, for a name that may have many values, or one that has one
 pub values-are : (sort : Sort) (raw : List ℕ) (vs : List Json) → Held sort raw vs → (many : Bool) → (many or single vs) ≡ true → valuesAre many sort vs ≡ true
 unfolding valuesAre
 values-are sort raw vs h many e = and-true (count many e) (h .are)
   where
-    count : (many : Bool) → (many or single vs) ≡ true → ((many and splits sort) or single vs) ≡ true
-    count true e = cases (splits sort) (λ y. rw y) (λ n. or-second (splits sort) (h .only n))
+    count : (many : Bool) → (many or single vs) ≡ true → ((many and sortSplits sort) or single vs) ≡ true
+    count true e = cases (sortSplits sort) (λ y. rw y) (λ n. or-second (sortSplits sort) (h .only n))
     count false e = e
 
 -- by name and code

@@ -10,13 +10,13 @@ use Rattle.octets.specs.Optional.{map?, isSome, holds, given}
 use Rattle.octets.specs.Classes.{isLetter, isDigit, isLowerName, upper, lower}
 use Rattle.octets.specs.Decimal.{isSign, integerText}
 use Rattle.calendar.specs.Dates.{momentOf, momentIs, momentText}
-use Rattle.calendar.specs.Recurrence.{Sort, frequency, moment, count, weekday, ordinal, numbers, Key, keyNamed, Part, partsOf, partsText}
+use Rattle.calendar.specs.Recurrence.{PartSort, frequency, moment, count, weekday, ordinal, numbers, Key, keyNamed, Part, partsOf, partsText}
 use Rattle.json.specs.Tree.{Json, num, str, obj, Items, noItems, item, Members, noMembers, member, string?, number?, array?}
 use Rattle.content.specs.Parameters.{plainOr}
 use Rattle.values.specs.Simple.{integerOf}
 
 -- a value of a part in jCal; UNTIL in the extended form
-unfoldable pub itemJson : Sort → List ℕ → Json
+unfoldable pub itemJson : PartSort → List ℕ → Json
 itemJson frequency s = str s
 itemJson moment s = str (given s (λ t. t) (momentOf s))
 itemJson count s = num s
@@ -57,7 +57,7 @@ someItems p (item j js) = p j and allItems p js
 unfoldable pub oneOrMore : (Json → Bool) → Json → Bool
 oneOrMore p j = given (p j) (someItems p) (array? j)
 
-unfoldable pub kindIs : Sort → Json → Bool
+unfoldable pub kindIs : PartSort → Json → Bool
 kindIs frequency j = isWord j
 kindIs moment j = isUntil j
 kindIs count j = isInteger j
@@ -71,7 +71,7 @@ kindsAre noMembers = true
 kindsAre (member k j ms) = isLowerName k and holds (λ (key : Key). kindIs (key .sort) j) (keyNamed (upper k)) and kindsAre ms
 
 -- the texts of a part's values, as the recurrence reader takes them: -0 is 0, and UNTIL goes into the basic form
-unfoldable pub stringText : Sort → List ℕ → List ℕ
+unfoldable pub stringText : PartSort → List ℕ → List ℕ
 stringText frequency t = t
 stringText moment t = momentText (upper t)
 stringText count t = t
@@ -79,14 +79,14 @@ stringText weekday t = t
 stringText ordinal t = t
 stringText (numbers signed most lo hi) t = t
 
-unfoldable pub itemText : Sort → Json → List ℕ
+unfoldable pub itemText : PartSort → Json → List ℕ
 itemText sort j = given (given [] (stringText sort) (string? j)) integerText (number? j)
 
-unfoldable pub itemTexts : Sort → Items → List (List ℕ)
+unfoldable pub itemTexts : PartSort → Items → List (List ℕ)
 itemTexts sort noItems = []
 itemTexts sort (item j js) = itemText sort j ∷ itemTexts sort js
 
-unfoldable pub valueTexts : Sort → Json → List (List ℕ)
+unfoldable pub valueTexts : PartSort → Json → List (List ℕ)
 valueTexts sort j = given (itemText sort j ∷ []) (itemTexts sort) (array? j)
 
 unfoldable pub memberText : List ℕ → Json → List ℕ

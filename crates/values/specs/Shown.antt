@@ -12,8 +12,8 @@ use Rattle.octets.specs.Optional.{given}
 use Rattle.octets.specs.Classes.{upper, lower}
 use Rattle.octets.specs.Decimal.{minus, unsigned, trim, minusIf}
 use Rattle.calendar.specs.Dates.{dateTimeOf, momentOf}
-use Rattle.calendar.specs.Recurrence.{Sort as Kind, frequency, moment, count, weekday, ordinal, numbers}
-use Rattle.calendar.specs.Walk.{before, keyAt, firstPart, itemShown}
+use Rattle.calendar.specs.Recurrence.{PartSort as Kind, frequency, moment, count, weekday, ordinal, numbers}
+use Rattle.calendar.specs.Walk.{beforeFirst, keyAt, firstPart, itemShown}
 use Rattle.json.specs.Tree.{Json}
 use Rattle.json.specs.Print.{printString, print}
 
@@ -27,8 +27,8 @@ unfoldable pub runOctet : ℕ → Bool
 runOctet c = leb 32 c and not (eqb c (code "\"") or eqb c (code ",") or eqb c (code ";") or eqb c (code "\\") or eqb c 127)
 
 -- what lies behind the first `sep`
-unfoldable pub behind : ℕ → List ℕ → List ℕ
-behind sep s = drop (length (before sep s) + 1) s
+unfoldable pub behindFirst : ℕ → List ℕ → List ℕ
+behindFirst sep s = drop (length (beforeFirst sep s) + 1) s
 
 -- a text that may be missing
 unfoldable pub stringShown : Option (List ℕ) → List ℕ
@@ -45,13 +45,13 @@ unfoldable pub arrayShown : List ℕ → List ℕ → List ℕ
 arrayShown x y = code "[" ∷ (x ++ code "," ∷ (y ++ octets "]"))
 
 unfoldable pub geoShown : List ℕ → List ℕ
-geoShown s = arrayShown (floatShown (before (code ";") s)) (floatShown (behind (code ";") s))
+geoShown s = arrayShown (floatShown (beforeFirst (code ";") s)) (floatShown (behindFirst (code ";") s))
 
 unfoldable pub endShown : List ℕ → List ℕ
 endShown s = printString (given (upper s) (λ t. t) (dateTimeOf (upper s)))
 
 unfoldable pub periodShown : List ℕ → List ℕ
-periodShown s = arrayShown (stringShown (dateTimeOf (upper (before (code "/") s)))) (endShown (behind (code "/") s))
+periodShown s = arrayShown (stringShown (dateTimeOf (upper (beforeFirst (code "/") s)))) (endShown (behindFirst (code "/") s))
 
 -- a recurrence rule: a value of a part, the values, a part, and the object
 unfoldable pub itemJsonShown : Kind → List ℕ → List ℕ
@@ -67,15 +67,15 @@ listShown f sep s = joined (code ",") (map f (split sep s))
 
 unfoldable pub itemsShown : Kind → List ℕ → List ℕ
 itemsShown k v =
-    pick (ltb (length (before (code ",") v)) (length v)) (code "[" ∷ (listShown (itemJsonShown k) (code ",") v ++ octets "]")) (itemJsonShown k v)
+    pick (ltb (length (beforeFirst (code ",") v)) (length v)) (code "[" ∷ (listShown (itemJsonShown k) (code ",") v ++ octets "]")) (itemJsonShown k v)
 
 unfoldable pub keyShown : List ℕ → List ℕ
 keyShown n = code "\"" ∷ (lower n ++ octets "\":")
 
-unfoldable pub partShown : List ℕ → List ℕ
-partShown p =
+unfoldable pub partJsonShown : List ℕ → List ℕ
+partJsonShown p =
     keyShown (take ((firstPart p) .name) p)
     ++ itemsShown ((keyAt ((firstPart p) .key)) .sort) (take ((firstPart p) .to - (firstPart p) .from) (drop ((firstPart p) .from) p))
 
 unfoldable pub recurShown : List ℕ → List ℕ
-recurShown s = code "{" ∷ (listShown partShown (code ";") s ++ octets "}")
+recurShown s = code "{" ∷ (listShown partJsonShown (code ";") s ++ octets "}")

@@ -27,19 +27,19 @@ sortOf n c =
     (pick (eqb c code.utcOffset) utcOffset plain)))))))))))
 
 -- values split at commas as their type says, plain ones as URIs; GEO and REQUEST-STATUS are one array each
-unfoldable pub splits : Sort → Bool
-splits plain = code.splits code.uri
-splits binary = code.splits code.binary
-splits boolean = code.splits code.boolean
-splits date = code.splits code.date
-splits dateTime = code.splits code.dateTime
-splits duration = code.splits code.duration
-splits float = code.splits code.float
-splits geo = false
-splits integer = code.splits code.integer
-splits period = code.splits code.period
-splits recur = code.splits code.recur
-splits text = code.splits code.text
-splits status = false
-splits time = code.splits code.time
-splits utcOffset = code.splits code.utcOffset
+unfoldable pub sortSplits : Sort → Bool
+sortSplits plain = code.typeSplits code.uri
+sortSplits binary = code.typeSplits code.binary
+sortSplits boolean = code.typeSplits code.boolean
+sortSplits date = code.typeSplits code.date
+sortSplits dateTime = code.typeSplits code.dateTime
+sortSplits duration = code.typeSplits code.duration
+sortSplits float = code.typeSplits code.float
+sortSplits geo = false
+sortSplits integer = code.typeSplits code.integer
+sortSplits period = code.typeSplits code.period
+sortSplits recur = code.typeSplits code.recur
+sortSplits text = code.typeSplits code.text
+sortSplits status = false
+sortSplits time = code.typeSplits code.time
+sortSplits utcOffset = code.typeSplits code.utcOffset

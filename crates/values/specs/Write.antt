@@ -11,8 +11,8 @@ use Rattle.octets.specs.Classes.{plainOctet, upper}
 use Rattle.octets.specs.Decimal.{integerText}
 use Rattle.calendar.specs.Dates.{dateIs, timeIs, dateTimeIs, offsetIs, dateText, timeText, dateTimeText, offsetText}
 use Rattle.calendar.specs.Durations.{durationIs, periodEndIs, periodEndText}
-use Rattle.json.specs.Tree.{Json, string?, number?, boolean?, array?, object?, listOf, octetsOf, elements}
-use Rattle.values.specs.Sorts.{Sort, plain, binary, boolean, date, dateTime, duration, float, geo, integer, period, recur, text, status, time, utcOffset, splits}
+use Rattle.json.specs.Tree.{Json, string?, number?, boolean?, array?, object?, listOfItems, octetsOf, elements}
+use Rattle.values.specs.Sorts.{Sort, plain, binary, boolean, date, dateTime, duration, float, geo, integer, period, recur, text, status, time, utcOffset, sortSplits}
 use Rattle.values.specs.Texts.{textIs, textText}
 use Rattle.values.specs.Simple.{binaryIs, booleanText, floatOf, integerOf}
 use Rattle.values.specs.Recur.{recurIs, recurText}
@@ -43,7 +43,7 @@ isTwoOrThree p (a ∷ b ∷ c ∷ []) = p a and p b and p c
 isTwoOrThree p (a ∷ b ∷ c ∷ d ∷ js) = false
 
 unfoldable pub isArray : (List Json → Bool) → Json → Bool
-isArray p j = holds (λ js. p (listOf js)) (array? j)
+isArray p j = holds (λ js. p (listOfItems js)) (array? j)
 
 unfoldable pub valueIs : Sort → Json → Bool
 valueIs plain j = isString (all plainOctet) j
@@ -90,7 +90,7 @@ valueText utcOffset j = offsetText (upper (octetsOf j))
 
 -- several values only where the name may have many and the sort splits
 unfoldable pub valuesAre : Bool → Sort → List Json → Bool
-valuesAre many s vs = ((many and splits s) or single vs) and all (valueIs s) vs
+valuesAre many s vs = ((many and sortSplits s) or single vs) and all (valueIs s) vs
 
 unfoldable pub valuesText : Sort → List Json → List ℕ
 valuesText s vs = joined (code ",") (map (valueText s) vs)

@@ -1,7 +1,7 @@
 // What rules a value, by the property's name and the type's code.
 ghost use mathlib.Core.Path.{_≡_};
 ghost use Rattle.octets.specs.Classes.{lower};
-ghost use Rattle.values.specs.Sorts.{sortOf, splits};
+ghost use Rattle.values.specs.Sorts.{sortOf, sortSplits};
 ghost use Rattle.values.specs.Single.{isText};
 ghost use Rattle.values.specs.Coded.{sortSaid};
 use octets::same_name;
@@ -95,7 +95,7 @@ impl Sort {
 
     // Its values split at commas, as its type says, plain ones as URIs do; but GEO and REQUEST-STATUS are one array each.
     pub fn splits(self) -> bool
-        ensures { λ r. ⌜ r ≡ splits (sortSaid self) ⌝ }
+        ensures { λ r. ⌜ r ≡ sortSplits (sortSaid self) ⌝ }
     {
         match self {
             Sort::Plain => does_split(13),

@@ -47,7 +47,7 @@ use denote.Triple.Walked.{says, needs, Stays, stay-slice, stay-none, walkOf, goe
 use denote.Exit.{yes as kept}
 use Rattle.stop_list.specs.declared.Stop.{Stop}
 use Rattle.stop_list.specs.declared.runs.Run.{Run}
-use Rattle.stop_list.specs.Runs.{nextRun, advanced, stopsOf, Begins, Laid}
+use Rattle.stop_list.specs.Runs.{nextRun, advanced, stopsOf, Begins, StopsLaid}
 use Rattle.stop_list.proofs.Again.{LentAgain, lends-again, comes-back}
 use Rattle.stop_list.proofs.Running.{next-at, advances}
 use Rattle.stop_list.proofs.Filling.{Going, starts, at-place, goes-on, stops}
@@ -125,7 +125,7 @@ module _ {M : Type 1} (𝓤 : URA M) (H : Heap 𝓤) (A : Atoms 𝓤) (W : Given
   abbrev others : Fml
   others = fsep (S .own f (machS f ∷ [])) ftrue
 
-  exits : (zs : List Stop) (n : ℕ) → n < 2 ^ 64 → length zs ≡ length ys → Laid (stopsOf f) ys zs n → ent 𝓤 (⋆ 𝓤 H A (‵ (had zs) ∷ ‵ (flft κ q) ∷ ‵ others ∷ [])) (Post (vint w64 n))
+  exits : (zs : List Stop) (n : ℕ) → n < 2 ^ 64 → length zs ≡ length ys → StopsLaid (stopsOf f) ys zs n → ent 𝓤 (⋆ 𝓤 H A (‵ (had zs) ∷ ‵ (flft κ q) ∷ ‵ others ∷ [])) (Post (vint w64 n))
   exits zs n n-fits long laid =
       qed W (‵ (had zs) ∷ ‵ (flft κ q) ∷ ‵ others ∷ []) ∵
       suffices ! _ (ends-at 𝓤 H A fill.ended stayed (fill.clauses 𝓤 H A mem run) W (((κ, tt), (q, tt), tt, a, vals), tt) (vint w64 n) n (zs, (tt, tt)) (long, (tt, tt))) $ says ! laid $

@@ -43,8 +43,8 @@ use Rattle.stop_list.specs.declared.Stop.{Stop}
 use Rattle.stop_list.specs.declared.Listed.{Listed}
 use Rattle.stop_list.specs.declared.runs.Run.{Run}
 use Rattle.stop_list.specs.declared.plans.Plan.{Plan}
-use Rattle.stop_list.specs.Stops.{listOf, answer, outcome}
-use Rattle.stop_list.specs.Runs.{stopsOf, Begins, Laid}
+use Rattle.stop_list.specs.Stops.{listOf, listAnswer, listOutcome}
+use Rattle.stop_list.specs.Runs.{stopsOf, Begins, StopsLaid}
 use Rattle.stop_list.specs.Plans.{planOf, concluded}
 use Rattle.stop_list.proofs.Listing.{plan-begins, plan-lists}
 use Rattle.stop_list.proofs.Stop as T
@@ -173,8 +173,8 @@ module _ {M : Type 1} (𝓤 : URA M) (H : Heap 𝓤) (A : Atoms 𝓤) (W : Given
     begins : Begins (p .run) (length ys)
     begins = rw e (plan-begins (t .now) (r .now) (length ys))
 
-    lists : (us : List Stop) (n : ℕ) (d : Listed) → Laid (stopsOf (p .run)) ys us n → d ≡ concluded (p .listed) n
-        → outcome d us ≡ answer (listOf (t .now) (r .now) (length ys)) ys
+    lists : (us : List Stop) (n : ℕ) (d : Listed) → StopsLaid (stopsOf (p .run)) ys us n → d ≡ concluded (p .listed) n
+        → listOutcome d us ≡ listAnswer (listOf (t .now) (r .now) (length ys)) ys
     lists us n d l c = rw (c, e) (plan-lists (t .now) (r .now) ys us n (rw e at l))
 
     -- `fill`, to which the list is given up
@@ -196,7 +196,7 @@ module _ {M : Type 1} (𝓤 : URA M) (H : Heap 𝓤) (A : Atoms 𝓤) (W : Given
           qed W (‵ (Q .own p (machQ p ∷ [])) ∷ ‵ (usize .own n (vint w64 n ∷ [])) ∷ []) ∵ nothing ! $ move ! (2 ∷ 0 ∷ []) $ join ! $ move ! (1 ∷ 0 ∷ []) $ join ! $
           nothing ! $ join ! $ frame ! $ done !
 
-    exits : (us : List Stop) (n : ℕ) (d : Listed) → Is L d (machL d ∷ []) → length us ≡ length ys → Laid (stopsOf (p .run)) ys us n → d ≡ concluded (p .listed) n
+    exits : (us : List Stop) (n : ℕ) (d : Listed) → Is L d (machL d ∷ []) → length us ≡ length ys → StopsLaid (stopsOf (p .run)) ys us n → d ≡ concluded (p .listed) n
         → ent 𝓤 (⋆ 𝓤 H A ((‵ (flft κ₁ q₁) ⊛ ‵ (flft κ₂ q₂) ⊛ ‵ ftrue) ∷ (‵ (flft κ q) ⊛ ‵ ftrue) ∷ ‵ OwnT ∷ ‵ OwnR ∷ ‵ (finally R γ us) ∷ [])) (Post (machL d))
     exits us n d d-is l laid c =
         qed W ((‵ (flft κ₁ q₁) ⊛ ‵ (flft κ₂ q₂) ⊛ ‵ ftrue) ∷ (‵ (flft κ q) ⊛ ‵ ftrue) ∷ ‵ OwnT ∷ ‵ OwnR ∷ ‵ (finally R γ us) ∷ []) ∵
@@ -241,8 +241,8 @@ module _ {M : Type 1} (𝓤 : URA M) (H : Heap 𝓤) (A : Atoms 𝓤) (W : Given
         -- [what `fill` asks; the plan; the texts' tokens; true; rule; start; _9; …; _8; …; _7; …; _6; …]
         calls-at ! fm (FillC 𝓤 H A mem run) known-fill (to-fill p p-is e) (and-then ! (load ! (from ! (stop !)) (look ! 6 refl)) (and-then ! (load ! (from ! (stop !)) (look ! 12 refl)) (no-more !))) (λ w′.
         use1 W (later (some (λ (n : ℕ). ((‵ (flft κ q) ⊛ ‵ ftrue) ⊛ ‵ (usize .own n (w′ ∷ []))) ⊛ raw (ensured 𝓤 H A fill.ended (fill.clauses 𝓤 H A mem run) (κ, tt) (x, (p .run, tt)) tt n)))) (id⊢ 𝓤 _) $ await ! tt $ pick ! (λ n.
-        split ! $ move ! (1 ∷ []) $ use1 W (some (λ (us : List Stop × (Unit {0} × Unit {0})). ‵ (lasts fill.ended (κ, tt) (x, (p .run, tt)) us) ⊛ raw (fact 𝓤 (Laid (stopsOf (p .run)) ys (us .0) n)))) (id⊢ 𝓤 _) $ pick ! (λ us.
-        split ! $ move ! (1 ∷ []) $ heard ! (Laid (stopsOf (p .run)) ys (us .0) n) (λ laid. fsplit ! $ fsplit ! $ move ! (1 ∷ []) $ feqL ! (λ l.
+        split ! $ move ! (1 ∷ []) $ use1 W (some (λ (us : List Stop × (Unit {0} × Unit {0})). ‵ (lasts fill.ended (κ, tt) (x, (p .run, tt)) us) ⊛ raw (fact 𝓤 (StopsLaid (stopsOf (p .run)) ys (us .0) n)))) (id⊢ 𝓤 _) $ pick ! (λ us.
+        split ! $ move ! (1 ∷ []) $ heard ! (StopsLaid (stopsOf (p .run)) ys (us .0) n) (λ laid. fsplit ! $ fsplit ! $ move ! (1 ∷ []) $ feqL ! (λ l.
         -- [the list at last; true; list's token and the count; the plan; …]
         move ! (2 ∷ []) $ split ! $ move ! (1 ∷ []) $ peeks ! usize (Is usize) (shows 𝓤 H A usize) n (w′ ∷ []) (λ is′.
         let told′ = uint-tells w64 n (w′ ∷ []) is′ in

@@ -55,7 +55,7 @@ use denote.Triple.Walked.{says, needs, Stays, stay-dropped, walkOf, goes-dropped
 use denote.Exit.{yes as kept}
 use Rattle.stop_list.specs.declared.Stop.{Stop}
 use Rattle.stop_list.specs.declared.Listed.{Listed}
-use Rattle.stop_list.specs.Stops.{listOf, answer, outcome}
+use Rattle.stop_list.specs.Stops.{listOf, listAnswer, listOutcome}
 use Rattle.stop_list.proofs.Stop as T
 use Rattle.stop_list.proofs.Stop.Laws as T′
 use Rattle.stop_list.proofs.Listed as E
@@ -165,7 +165,7 @@ module _ {M : Type 1} (𝓤 : URA M) (H : Heap 𝓤) (A : Atoms 𝓤) (W : Given
 
   -- what `list_stops` tells of the records lent, and what it comes to for the list
   abbrev Told : Listed → List Stop → Type 0
-  Told d us = outcome d us ≡ answer (listOf (t .now) (r .now) (length front)) front
+  Told d us = listOutcome d us ≡ listAnswer (listOf (t .now) (r .now) (length front)) front
 
   module _ (d : Listed) (zs : List Stop) (d-is : Is D d (machD d ∷ [])) (zs-is : Is L zs (machs zs)) where
     abbrev p : Page

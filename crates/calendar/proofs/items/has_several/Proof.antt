@@ -1,7 +1,7 @@
 -- `calendar::items::has_several` meets its contract.
 use borrow.Author.Needs.{needs}
 use Rattle.calendar.specs.Recurrence.{several}
-use Rattle.calendar.specs.Walk.{sortSaid}
+use Rattle.calendar.specs.Walk.{partSortSaid}
 use Rattle.calendar.proofs.items.has_several.Statement.{statement}
 use Rattle.calendar.proofs.items.has_several.Tie as tie
 
@@ -15,9 +15,9 @@ has-several-spec =
     (λ c. search needs)
     (λ c. search needs)
     (λ c. search needs)
-    (λ c. unfold sortSaid several in rw (c .enum-told .given .1))
-    (λ c. unfold sortSaid several in rw (c .enum-told2 .given .1))
-    (λ c. unfold sortSaid several in rw (c .enum-told3 .given .1))
-    (λ c. unfold sortSaid several in rw (c .enum-told4 .given .1))
-    (λ c. unfold sortSaid several in rw (c .enum-told5 .given .1))
-    (λ c. unfold sortSaid several in rw (c .enum-told6 .given .1)))
+    (λ c. unfold partSortSaid several in rw (c .enum-told .given .1))
+    (λ c. unfold partSortSaid several in rw (c .enum-told2 .given .1))
+    (λ c. unfold partSortSaid several in rw (c .enum-told3 .given .1))
+    (λ c. unfold partSortSaid several in rw (c .enum-told4 .given .1))
+    (λ c. unfold partSortSaid several in rw (c .enum-told5 .given .1))
+    (λ c. unfold partSortSaid several in rw (c .enum-told6 .given .1)))

@@ -5,7 +5,7 @@ use native.Mathlib.Omega.{arith}
 use borrow.Author.Needs.{needs}
 use borrow.Author.Tests.{not-true, not-false}
 use lib.ListN.{length, drop, length-take, length-drop}
-use Rattle.calendar.specs.Walk.{sortSaid}
+use Rattle.calendar.specs.Walk.{partSortSaid}
 use Rattle.calendar.proofs.Pieces.{scanned-le, scanned-in}
 use Rattle.calendar.specs.Reading.{valuesStand}
 use Rattle.calendar.proofs.Listing.{item-wrong, item-last, item-alone, item-on}
@@ -13,7 +13,7 @@ use Rattle.calendar.proofs.items.values_stand.Statement.{statement}
 use Rattle.calendar.proofs.items.values_stand.Tie as tie
 
 abbrev Inv-loop : tie.InvT-loop
-Inv-loop sort v many at₀ at = (at ≤ length v) × (valuesStand (sortSaid sort) v ≡ valuesStand (sortSaid sort) (drop at v))
+Inv-loop sort v many at₀ at = (at ≤ length v) × (valuesStand (partSortSaid sort) v ≡ valuesStand (partSortSaid sort) (drop at v))
 
 abbrev μ-loop : tie.MeasureT-loop
 μ-loop sort v many at₀ at = length v - at
@@ -25,17 +25,17 @@ part-item-stands-end c =
 
 returns : tie.Need-returns Inv-loop μ-loop
 returns c =
-    let t = sortSaid (c .before .before .before .before .before .before .before .before .args .sort) in
+    let t = partSortSaid (c .before .before .before .before .before .before .before .before .args .sort) in
     sym (c .before .before .before .before .before .loop .inv .1 ∙ item-wrong t (c .before .before .before .before .before .before .before .before .args .v .now) (c .before .before .before .before .before .loop .at) (c .before .before .before .find .result) (c .before .item-stands .result) (c .before .before .before .find .ensures) (c .before .item-stands .ensures) (not-true (c .before .item-stands .result) (c .if1 .taken)))
 
 returns-2 : tie.Need-returns-2 Inv-loop μ-loop
 returns-2 c =
-    let t = sortSaid (c .before .before .before .before .before .before .before .before .before .args .sort) in
+    let t = partSortSaid (c .before .before .before .before .before .before .before .before .before .args .sort) in
     sym (c .before .before .before .before .before .before .loop .inv .1 ∙ item-last t (c .before .before .before .before .before .before .before .before .before .args .v .now) (c .before .before .before .before .before .before .loop .at) (c .before .before .before .before .find .result) (c .before .before .item-stands .result) (c .before .before .before .before .find .ensures) (c .before .before .item-stands .ensures) (not-false (c .before .before .item-stands .result) (c .before .if1 .left)) (c .if2 .taken))
 
 returns-3 : tie.Need-returns-3 Inv-loop μ-loop
 returns-3 c =
-    let t = sortSaid (c .before .before .before .before .before .before .before .before .before .before .args .sort) in
+    let t = partSortSaid (c .before .before .before .before .before .before .before .before .before .before .args .sort) in
     sym (c .before .before .before .before .before .before .before .loop .inv .1 ∙ item-alone t (c .before .before .before .before .before .before .before .before .before .before .args .v .now) (c .before .before .before .before .before .before .before .loop .at) (c .before .before .before .before .before .find .result) (c .before .before .before .item-stands .result) (c .before .before .before .before .before .find .ensures) (c .before .before .before .item-stands .ensures) (c .before .if2 .left) (sym (c .before .before .before .before .before .before .before .before .has-several .ensures) ∙ not-true (c .before .before .before .before .before .before .before .before .has-several .result) (c .if3 .taken)))
 
 add-at : tie.Need-add-at Inv-loop μ-loop
@@ -55,7 +55,7 @@ loop-less c =
 
 loop-again : tie.Need-loop-again Inv-loop μ-loop
 loop-again c =
-    let t = sortSaid (c .before .before .before .before .before .before .before .before .before .before .args .sort) in
+    let t = partSortSaid (c .before .before .before .before .before .before .before .before .before .before .args .sort) in
     let e = scanned-in 44 (c .before .before .before .before .before .before .before .before .before .before .args .v .now) (c .before .before .before .before .before .before .before .loop .at) (c .before .before .before .before .before .find .result) (c .before .before .before .before .before .find .ensures) (c .before .if2 .left) in
     (omega arith, c .before .before .before .before .before .before .before .loop .inv .1 ∙ item-on t (c .before .before .before .before .before .before .before .before .before .before .args .v .now) (c .before .before .before .before .before .before .before .loop .at) (c .before .before .before .before .before .find .result) (c .before .before .before .item-stands .result) (c .before .before .before .before .before .find .ensures) (c .before .before .before .item-stands .ensures) (not-false (c .before .before .before .item-stands .result) (c .before .before .if1 .left)) (c .before .if2 .left) (sym (c .before .before .before .before .before .before .before .before .has-several .ensures) ∙ not-false (c .before .before .before .before .before .before .before .before .has-several .result) (c .if3 .left)))
 

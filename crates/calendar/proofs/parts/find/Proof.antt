@@ -4,13 +4,13 @@ use mathlib.Core.Path.{_≡_}
 use native.Mathlib.Omega.{arith}
 use borrow.Author.Needs.{needs}
 use lib.ListN.{length, drop}
-use Rattle.calendar.specs.Walk.{before}
+use Rattle.calendar.specs.Walk.{beforeFirst}
 use Rattle.calendar.proofs.Pieces.{before-here, before-on, before-end}
 use Rattle.calendar.proofs.parts.find.Statement.{statement}
 use Rattle.calendar.proofs.parts.find.Tie as tie
 
 abbrev Inv-loop : tie.InvT-loop
-Inv-loop s sep i₀ i = (i ≤ length s) × (i + length (before sep (drop i s)) ≡ length (before sep s))
+Inv-loop s sep i₀ i = (i ≤ length s) × (i + length (beforeFirst sep (drop i s)) ≡ length (beforeFirst sep s))
 
 abbrev μ-loop : tie.MeasureT-loop
 μ-loop s sep i₀ i = length s - i

@@ -1,7 +1,7 @@
 -- `calendar::rules::may_follow` meets its contract.
 use mathlib.Core.Path.{sym, ap, _∙_}
 use borrow.Author.Needs.{needs}
-use Rattle.calendar.specs.Recurrence.{Sort}
+use Rattle.calendar.specs.Recurrence.{PartSort}
 use Rattle.calendar.specs.Reading.{valuesStand}
 use Rattle.calendar.proofs.Turns.{follow-unknown, follow-barred, follow-free}
 use Rattle.calendar.proofs.rules.may_follow.Statement.{statement}
@@ -11,7 +11,7 @@ returns-2 : tie.Need-returns-2
 returns-2 c = follow-barred _ _ _ (c .before .before .if1 .left) (sym (c .before .is-barred .ensures) ∙ c .if2 .taken)
 
 returns-3 : tie.Need-returns-3
-returns-3 c = c .values-stand .ensures ∙ ap (λ (k : Sort). valuesStand k (c .before .before .before .before .before .before .args .v .now)) (c .before .sort-of .ensures) ∙ follow-free _ _ _ (c .before .before .before .before .if1 .left) (sym (c .before .before .before .is-barred .ensures) ∙ c .before .before .if2 .left)
+returns-3 c = c .values-stand .ensures ∙ ap (λ (k : PartSort). valuesStand k (c .before .before .before .before .before .before .args .v .now)) (c .before .sort-of .ensures) ∙ follow-free _ _ _ (c .before .before .before .before .if1 .left) (sym (c .before .before .before .is-barred .ensures) ∙ c .before .before .if2 .left)
 
 pub may-follow-spec : {M : Type 1} → statement M
 may-follow-spec =

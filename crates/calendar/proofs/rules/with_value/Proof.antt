@@ -1,32 +1,32 @@
 -- `calendar::rules::with_value` meets its contract: one field is new, or none.
 use borrow.Author.Needs.{needs}
 use borrow.Author.Tests.{ne-eqb}
-use Rattle.calendar.specs.Reading.{withValue}
+use Rattle.calendar.specs.Reading.{withPart}
 use Rattle.calendar.proofs.rules.with_value.Statement.{statement}
 use Rattle.calendar.proofs.rules.with_value.Tie as tie
 
 returns : tie.Need-returns
-unfolding withValue
+unfolding withPart
 returns c = rw (c .before .match .keys1, c .frequency-of .ensures)
 
 returns-2 : tie.Need-returns-2
-unfolding withValue
+unfolding withPart
 returns-2 c = rw (c .before .match .keys2, c .until-of .ensures)
 
 returns-3 : tie.Need-returns-3
-unfolding withValue
+unfolding withPart
 returns-3 c = rw (c .before .match .keys3, c .count-of .ensures)
 
 returns-4 : tie.Need-returns-4
-unfolding withValue
+unfolding withPart
 returns-4 c = rw (c .before .match .keys4, c .count-of2 .ensures)
 
 returns-5 : tie.Need-returns-5
-unfolding withValue
+unfolding withPart
 returns-5 c = rw (c .before .match .keys5, c .weekday-of .ensures)
 
 returns-6 : tie.Need-returns-6
-unfolding withValue
+unfolding withPart
 returns-6 c =
     let k = c .before .before .args .key in
     let n = c .match .rest in

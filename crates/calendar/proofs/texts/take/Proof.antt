@@ -2,7 +2,7 @@
 use mathlib.Core.Path.{sym, _∙_}
 use borrow.Author.Needs.{needs}
 use Rattle.octets.proofs.Positions.{upto}
-use Rattle.calendar.specs.Texts.{taken}
+use Rattle.calendar.specs.Texts.{readForm}
 use Rattle.calendar.proofs.Fixed.{passes, fails}
 use Rattle.calendar.proofs.texts.take.Statement.{statement}
 use Rattle.calendar.proofs.texts.take.Tie as tie

@@ -1,6 +1,6 @@
 -- `calendar::writing::put_part` meets its contract.
 use borrow.Author.Needs.{needs}
-use Rattle.calendar.specs.Walk.{sortSaid}
+use Rattle.calendar.specs.Walk.{partSortSaid}
 use Rattle.calendar.proofs.Showing.{part-wrote}
 use Rattle.calendar.proofs.writing.put_part.Statement.{statement}
 use Rattle.calendar.proofs.writing.put_part.Tie as tie
@@ -15,7 +15,7 @@ part-put-values-end : tie.Need-part-put-values-end
 part-put-values-end c = c .before .before .before .before .before .before .before .before .before .before .before .before .before .pre .2
 
 returns : tie.Need-returns
-returns c = part-wrote (c .before .before .before .before .before .before .before .before .before .before .before .before .before .before .before .before .before .args .s .now) (c .before .before .before .before .before .before .before .before .before .before .before .before .before .before .before .before .before .args .part) (sortSaid (c .before .before .before .before .sort-of .result)) (c .before .before .before .before .sort-of .ensures) (c .before .before .before .before .before .before .before .before .before .before .before .before .put-upper .ensures) (c .before .before .before .before .before .before .before .before .put .ensures) (c .before .before .put-values .ensures)
+returns c = part-wrote (c .before .before .before .before .before .before .before .before .before .before .before .before .before .before .before .before .before .args .s .now) (c .before .before .before .before .before .before .before .before .before .before .before .before .before .before .before .before .before .args .part) (partSortSaid (c .before .before .before .before .sort-of .result)) (c .before .before .before .before .sort-of .ensures) (c .before .before .before .before .before .before .before .before .before .before .before .before .put-upper .ensures) (c .before .before .before .before .before .before .before .before .put .ensures) (c .before .before .put-values .ensures)
 
 pub put-part-spec : {M : Type 1} → statement M
 put-part-spec =

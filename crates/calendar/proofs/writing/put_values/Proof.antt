@@ -7,7 +7,7 @@ use lib.ListN.{length, take, drop, length-take, length-drop}
 use Rattle.octets.specs.Pen.{pen}
 use Rattle.octets.proofs.Positions.{from, upto}
 use Rattle.octets.proofs.Pen.{Leads, leads-start, leads-on, leads-last}
-use Rattle.calendar.specs.Walk.{sortSaid}
+use Rattle.calendar.specs.Walk.{partSortSaid}
 use Rattle.calendar.proofs.Pieces.{scanned-le, scanned-in}
 use Rattle.calendar.specs.Walk.{itemShown, valuesShown}
 use Rattle.calendar.proofs.Showing.{shown-more, shown-last}
@@ -15,7 +15,7 @@ use Rattle.calendar.proofs.writing.put_values.Statement.{statement}
 use Rattle.calendar.proofs.writing.put_values.Tie as tie
 
 abbrev Inv-loop : tie.InvT-loop
-Inv-loop out₀ at sort v to₀ from₀ out to from = (from ≤ length v) × (length out ≡ length out₀) × Leads (pen out₀ at) (valuesShown (sortSaid sort) v) (pen out to) (valuesShown (sortSaid sort) (drop from v))
+Inv-loop out₀ at sort v to₀ from₀ out to from = (from ≤ length v) × (length out ≡ length out₀) × Leads (pen out₀ at) (valuesShown (partSortSaid sort) v) (pen out to) (valuesShown (partSortSaid sort) (drop from v))
 
 abbrev μ-loop : tie.MeasureT-loop
 μ-loop out₀ at sort v to₀ from₀ out to from = length v - from
@@ -30,7 +30,7 @@ unfolding valuesShown
 returns c =
     let v = c .before .before .before .before .before .before .before .before .before .before .before .args .v .now in
     let rest = take (length v - c .before .before .before .before .before .before .before .before .loop .from) (drop (c .before .before .before .before .before .before .before .before .loop .from) v) in
-    leads-last (c .before .before .before .before .before .before .before .before .loop .inv .2) (c .before .before .before .put-item .ensures) (rw (upto rest (c .before .before .before .before .before .before .find .result)) (shown-last 44 (itemShown (sortSaid (c .before .before .before .before .before .before .before .before .before .before .before .args .sort))) v (c .before .before .before .before .before .before .before .before .loop .from) (c .before .before .before .before .before .before .find .result) (c .before .before .before .before .before .before .find .ensures) (c .if1 .taken)))
+    leads-last (c .before .before .before .before .before .before .before .before .loop .inv .2) (c .before .before .before .put-item .ensures) (rw (upto rest (c .before .before .before .before .before .before .find .result)) (shown-last 44 (itemShown (partSortSaid (c .before .before .before .before .before .before .before .before .before .before .before .args .sort))) v (c .before .before .before .before .before .before .before .before .loop .from) (c .before .before .before .before .before .before .find .result) (c .before .before .before .before .before .before .find .ensures) (c .if1 .taken)))
 
 add-from : tie.Need-add-from Inv-loop μ-loop
 add-from c =
@@ -53,7 +53,7 @@ loop-again c =
     let v = c .before .before .before .before .before .before .before .before .before .before .before .before .before .before .before .args .v .now in
     let rest = take (length v - c .before .before .before .before .before .before .before .before .before .before .before .before .loop .from) (drop (c .before .before .before .before .before .before .before .before .before .before .before .before .loop .from) v) in
     let e = scanned-in 44 v (c .before .before .before .before .before .before .before .before .before .before .before .before .loop .from) (c .before .before .before .before .before .before .before .before .before .before .find .result) (c .before .before .before .before .before .before .before .before .before .before .find .ensures) (c .before .before .before .before .if1 .left) in
-    (omega arith, omega arith, leads-on (leads-on (c .before .before .before .before .before .before .before .before .before .before .before .before .loop .inv .2) (c .before .before .before .before .before .before .before .put-item .ensures) (rw (upto rest (c .before .before .before .before .before .before .before .before .before .before .find .result)) (shown-more 44 (itemShown (sortSaid (c .before .before .before .before .before .before .before .before .before .before .before .before .before .before .before .args .sort))) v (c .before .before .before .before .before .before .before .before .before .before .before .before .loop .from) (c .before .before .before .before .before .before .before .before .before .before .find .result) (c .before .before .before .before .before .before .before .before .before .before .find .ensures) (c .before .before .before .before .if1 .left)))) (c .before .before .put .ensures) refl)
+    (omega arith, omega arith, leads-on (leads-on (c .before .before .before .before .before .before .before .before .before .before .before .before .loop .inv .2) (c .before .before .before .before .before .before .before .put-item .ensures) (rw (upto rest (c .before .before .before .before .before .before .before .before .before .before .find .result)) (shown-more 44 (itemShown (partSortSaid (c .before .before .before .before .before .before .before .before .before .before .before .before .before .before .before .args .sort))) v (c .before .before .before .before .before .before .before .before .before .before .before .before .loop .from) (c .before .before .before .before .before .before .before .before .before .before .find .result) (c .before .before .before .before .before .before .before .before .before .before .find .ensures) (c .before .before .before .before .if1 .left)))) (c .before .before .put .ensures) refl)
 
 pub put-values-spec : {M : Type 1} → statement M
 put-values-spec =

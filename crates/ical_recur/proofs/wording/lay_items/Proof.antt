@@ -7,7 +7,7 @@ use lib.ListN.{length}
 use borrow.Author.Needs.{needs}
 use Rattle.octets.proofs.Pen.{nothing, then, kept, front-same, front-behind, Leads, leads-start, leads-on, leads-last}
 use Rattle.octets.specs.Pen.{pen, Wrote}
-use Rattle.calendar.specs.Walk.{sortSaid}
+use Rattle.calendar.specs.Walk.{partSortSaid}
 use Rattle.json.specs.Tape.{tagEnd}
 use Rattle.tape.proofs.Tags.{on-tape}
 use Rattle.tape.proofs.Walks.{Along, along-start, along-next, along-end}
@@ -21,7 +21,7 @@ use Rattle.ical_recur.proofs.wording.lay_items.Statement.{statement}
 use Rattle.ical_recur.proofs.wording.lay_items.Tie as tie
 
 abbrev Inv-loop : tie.InvT-loop
-Inv-loop out₀ at t i sort to₀ from₀ out to from = ((tagAt t from ≡ tagEnd) → ⊥) × ((xs : List ℕ) × Wrote (pen out₀ at) xs (pen out to)) × (allItems (itemIs (sortSaid sort)) (itemsAt t from) ≡ someItems (itemIs (sortSaid sort)) (itemsAt t i)) × Leads (pen out₀ at) (itemsText (sortSaid sort) (itemsAt t i)) (pen out to) (itemsText (sortSaid sort) (itemsAt t from)) × Along t i from
+Inv-loop out₀ at t i sort to₀ from₀ out to from = ((tagAt t from ≡ tagEnd) → ⊥) × ((xs : List ℕ) × Wrote (pen out₀ at) xs (pen out to)) × (allItems (itemIs (partSortSaid sort)) (itemsAt t from) ≡ someItems (itemIs (partSortSaid sort)) (itemsAt t i)) × Leads (pen out₀ at) (itemsText (partSortSaid sort) (itemsAt t i)) (pen out to) (itemsText (partSortSaid sort) (itemsAt t from)) × Along t i from
 
 abbrev μ-loop : tie.MeasureT-loop
 μ-loop out₀ at t i sort to₀ from₀ out to from = length t - from

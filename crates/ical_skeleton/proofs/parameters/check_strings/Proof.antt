@@ -3,7 +3,7 @@ use Prim.Native.Nat.{_-_}
 use mathlib.Core.Path.{sym, _∙_}
 use native.Mathlib.Omega.{arith}
 use lib.ListN.{length}
-use Rattle.conversion_theory.specs.Skeleton.{isString}
+use Rattle.conversion_theory.specs.Skeleton.{isJsonString}
 use Rattle.ical_skeleton.proofs.Lists.{Passing, list-not, passing-start, passing-next, passing-off, passing-end}
 use Rattle.ical_skeleton.proofs.Named.{string-is, string-not}
 use borrow.Author.Needs.{needs}
@@ -11,16 +11,16 @@ use Rattle.ical_skeleton.proofs.parameters.check_strings.Statement.{sta
 use Rattle.ical_skeleton.proofs.parameters.check_strings.Tie as tie
 
 abbrev Inv-loop : tie.InvT-loop
-Inv-loop t at i₀ i = Passing isString t i₀ i
+Inv-loop t at i₀ i = Passing isJsonString t i₀ i
 
 abbrev μ-loop : tie.MeasureT-loop
 μ-loop t at i₀ i = length t - i
 
 returns : tie.Need-returns Inv-loop μ-loop
-returns c = list-not isString _ _ (λ e. c .if1 .taken (c .before .tag .ensures ∙ e))
+returns c = list-not isJsonString _ _ (λ e. c .if1 .taken (c .before .tag .ensures ∙ e))
 
 loop-holds : tie.Need-loop-holds Inv-loop μ-loop
-loop-holds c = passing-start isString (c .after .ensures)
+loop-holds c = passing-start isJsonString (c .after .ensures)
 
 returns-2 : tie.Need-returns-2 Inv-loop μ-loop
 returns-2 c = passing-end (c .before .before .before .loop .inv) (c .before .before .before .before .after .ensures) (sym (c .before .before .before .before .before .before .tag .ensures) ∙ c .before .before .before .before .before .if1 .left) (sym (c .before .before .tag2 .ensures) ∙ c .before .if2 .taken) (c .after2 .ensures)

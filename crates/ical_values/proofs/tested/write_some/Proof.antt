@@ -1,6 +1,6 @@
 -- `ical_values::tested::write_some` meets its contract.
 use Rattle.ical_values.proofs.Grouped.{group-start, taken-stop, taken-last, taken-several, taken-on, joined-last, joined-more}
-use Rattle.ical_values.specs.Valued.{taken}
+use Rattle.ical_values.specs.Valued.{allTaken}
 use Rattle.content.specs.Folding.{folding, Folded}
 use Rattle.content.proofs.Folding.{none, then, Leads, leads-start, leads-on, leads-last}
 use Rattle.values.specs.Write.{valueIs, valueText}
@@ -22,7 +22,7 @@ use Rattle.ical_values.proofs.tested.write_some.Tie as tie
 
 abbrev Inv-loop : tie.InvT-loop
 Inv-loop out₀ t at sort sep several q₀ i₀ out q i = ((tagAt t i ≡ tagEnd) → ⊥) × ((xs : List ℕ) × Folded (folding out₀ q₀) xs (folding out q)) × Along t at i
-    × (taken several (valueIs (sortSaid sort)) (listAt t i) ≡ taken several (valueIs (sortSaid sort)) (listAt t at))
+    × (allTaken several (valueIs (sortSaid sort)) (listAt t i) ≡ allTaken several (valueIs (sortSaid sort)) (listAt t at))
     × Leads (folding out₀ q₀) (joined sep (map (valueText (sortSaid sort)) (listAt t at))) (folding out q) (joined sep (map (valueText (sortSaid sort)) (listAt t i)))
 
 abbrev μ-loop : tie.MeasureT-loop

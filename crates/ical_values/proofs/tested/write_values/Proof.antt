@@ -2,7 +2,7 @@
 use Rattle.ical_values.proofs.Told.{as-valued, geo-valued, status-valued}
 use Rattle.ical_values.proofs.Grouped.{left-here, taken-none, joined-none}
 use Rattle.ical_values.proofs.Sorts.{simple-left}
-use Rattle.ical_values.specs.Valued.{taken}
+use Rattle.ical_values.specs.Valued.{allTaken}
 use Rattle.ical_values.specs.Parts.{simple}
 use Rattle.octets.proofs.Pen.{front-same}
 use Rattle.content.proofs.Folding.{none, as-folded}
@@ -20,7 +20,7 @@ returns : tie.Need-returns
 returns c = as-valued _ _ _ _ _ _ _ (c .before .before .write-some .result) (c .before .before .before .before .before .before .may-be-several .ensures) (c .before .before .write-some .ensures)
 
 returns-2 : tie.Need-returns-2
-unfolding valuesAre valuesText taken
+unfolding valuesAre valuesText allTaken
 returns-2 c = let z = sym (c .before .before .before .tag .ensures) ∙ c .before .before .if1 .left in
     (taken-none _ _ _ _ z ∙ sym (c .before .before .before .before .may-be-several .ensures) ∙ c .before .if2 .taken, as-folded none (joined-none _ _ _ _ z), left-here z (c .after .ensures))
 
@@ -33,7 +33,7 @@ unfolding sortSaid
 returns-4 c = rw (c .before .before .before .before .enum-told2 .given .1) (status-valued _ _ _ _ _ (c .before .before .write-parts2 .result) (c .before .before .write-parts2 .ensures))
 
 returns-5 : tie.Need-returns-5
-unfolding valuesAre taken
+unfolding valuesAre allTaken
 returns-5 c = (taken-none _ _ _ _ (sym (c .before .before .tag .ensures) ∙ c .before .if1 .left) ∙ sym (c .before .before .before .may-be-several .ensures) ∙ c .if2 .left, front-same)
 
 pub write-values-spec : {M : Type 1} → statement M

@@ -8,7 +8,7 @@ use Rattle.types.specs.Laid.{tableIn}
 use Rattle.content.proofs.Scanning.{scan-high}
 use Rattle.content.specs.Buffer.{isLf}
 use Rattle.conversion_theory.specs.Property.{readProperty}
-use Rattle.jcal_properties.specs.Passed.{passed}
+use Rattle.jcal_properties.specs.Passed.{testSaid}
 use Rattle.jcal.specs.Events.{eventsIn}
 use Rattle.jcal.specs.Walk.{eachTested}
 use Rattle.jcal.proofs.Turns.{passed-as, failed-as, turn-none, turn-on, turn-off}
@@ -48,7 +48,7 @@ loop-again c =
     at-loop .loop .inv ∙ turn-on _ (at-start .args .buf .now) (at-loop .loop .i) (at-line-end .line-end .result) (record { within = at-loop-test .loop-test .taken; ends = at-line-end .line-end .ensures }) (passed-as (at-test-line .test-line .ensures) (c .enum-told .given .1))
 
 returns : tie.Need-returns Inv-loop μ-loop
-unfolding passed
+unfolding testSaid
 returns c =
     let at-why = c .before in
     let at-test-line = at-why .before .before in
@@ -59,7 +59,7 @@ returns c =
     turn-off _ (at-start .args .buf .now) (at-loop .loop .i) (at-line-end .line-end .result) (record { within = at-loop-test .loop-test .taken; ends = at-line-end .line-end .ensures }) _ (failed-as (at-test-line .test-line .ensures) (at-why .why .given .1)) ∙ sym (at-loop .loop .inv)
 
 returns-2 : tie.Need-returns-2 Inv-loop μ-loop
-unfolding passed
+unfolding testSaid
 returns-2 c =
     let at-loop = c .before in
     let at-start = at-loop .before .before .before in

@@ -2,7 +2,7 @@
 use mathlib.Core.Path.{_∙_}
 use borrow.Author.Needs.{needs}
 use lib.ListN.{length}
-use Rattle.content.specs.Kinds.{kindOf}
+use Rattle.content.specs.Kinds.{valueTypeSaid}
 use Rattle.conversion_theory.specs.Property.{codeOf}
 use Rattle.jcal_properties.specs.Shown.{namedType}
 use Rattle.jcal_properties.proofs.Typing.{bounded-as}
@@ -28,17 +28,17 @@ part-code-named-end c =
     bounded-as (length (at-start .args .params .now)) _ (at-start .pre) (at-kind .kind .given .1) .1
 
 returns : tie.Need-returns
-unfolding kindOf namedType
+unfolding valueTypeSaid namedType
 returns c = c .default-code .ensures ∙ rw (c .before .enum-told .given .1)
 
 returns-2 : tie.Need-returns-2
-unfolding kindOf namedType codeOf
+unfolding valueTypeSaid namedType codeOf
 returns-2 c =
     let at-kind = c .before .before .before in
     c .code-named .ensures ∙ rw (at-kind .kind .given .1)
 
 returns-3 : tie.Need-returns-3
-unfolding kindOf namedType
+unfolding valueTypeSaid namedType
 returns-3 c = c .default-code2 .ensures ∙ rw (c .before .enum-told2 .given .1)
 
 pub code-of-spec : {M : Type 1} → statement M

@@ -1,7 +1,7 @@
 -- `jcal_properties::property::put_type` meets its contract.
 use borrow.Author.Needs.{needs}
 use lib.ListN.{length}
-use Rattle.content.specs.Kinds.{kindOf}
+use Rattle.content.specs.Kinds.{valueTypeSaid}
 use Rattle.conversion_theory.specs.Property.{typeOf}
 use Rattle.jcal_properties.specs.Shown.{namedType}
 use Rattle.jcal_properties.proofs.Typing.{bounded-as}
@@ -27,21 +27,21 @@ part-put-name-end c =
     bounded-as (length (at-start .args .params .now)) _ (at-start .pre) (at-kind .kind .given .1) .1
 
 returns : tie.Need-returns
-unfolding kindOf namedType
+unfolding valueTypeSaid namedType
 returns c =
     let at-put-default = c .before .before in
     let at-enum-told = at-put-default .before .before in
     rw (at-enum-told .enum-told .given .1) (at-put-default .put-default .ensures)
 
 returns-2 : tie.Need-returns-2
-unfolding kindOf namedType typeOf
+unfolding valueTypeSaid namedType typeOf
 returns-2 c =
     let at-put-name = c .before .before in
     let at-kind = at-put-name .before .before .before .before in
     rw (at-kind .kind .given .1) (at-put-name .put-name .ensures)
 
 returns-3 : tie.Need-returns-3
-unfolding kindOf namedType
+unfolding valueTypeSaid namedType
 returns-3 c =
     let at-put-default2 = c .before .before in
     let at-enum-told2 = at-put-default2 .before .before in

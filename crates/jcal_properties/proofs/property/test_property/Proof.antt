@@ -1,18 +1,18 @@
 -- `jcal_properties::property::test_property` meets its contract.
 use borrow.Author.Needs.{needs}
-use Rattle.jcal_properties.specs.Passed.{passed}
+use Rattle.jcal_properties.specs.Passed.{testSaid}
 use Rattle.jcal_properties.proofs.Typing.{stands-passed, refused-failed}
 use Rattle.jcal_properties.proofs.property.test_property.Statement.{statement}
 use Rattle.jcal_properties.proofs.property.test_property.Tie as tie
 
 returns : tie.Need-returns
-unfolding passed
+unfolding testSaid
 returns c =
     let at-place-property = c .before .before .before in
     stands-passed _ _ (rw (c .enum-told .given .1) at (at-place-property .place-property .ensures))
 
 returns-2 : tie.Need-returns-2
-unfolding passed
+unfolding testSaid
 returns-2 c =
     let at-why = c .before in
     let at-place-property = at-why .before .before .before in

@@ -8,7 +8,7 @@ use borrow.Author.Tests.{not-true, not-false}
 use Rattle.octets.specs.Pen.{pen}
 use Rattle.octets.proofs.Pen.{then}
 use Rattle.json.specs.Print.{print}
-use Rattle.values.specs.Sorts.{splits}
+use Rattle.values.specs.Sorts.{sortSplits}
 use Rattle.values.specs.Coded.{sortSaid}
 use Rattle.values.specs.Single.{readOne}
 use Rattle.jcal_texts.specs.Trying.{Tried}
@@ -18,7 +18,7 @@ use Rattle.jcal_values.proofs.raw.put_tested_list.Statement.{statement}
 use Rattle.jcal_values.proofs.raw.put_tested_list.Tie as tie
 
 abbrev Inv-loop : tie.InvT-loop
-Inv-loop out₀ at sort many raw p₀ i₀ out p i = (i ≤ length raw) × (length out ≡ length out₀) × Listed (readOne (sortSaid sort)) many (splits (sortSaid sort)) raw (pen out₀ at) (pen out p) i
+Inv-loop out₀ at sort many raw p₀ i₀ out p i = (i ≤ length raw) × (length out ≡ length out₀) × Listed (readOne (sortSaid sort)) many (sortSplits (sortSaid sort)) raw (pen out₀ at) (pen out p) i
 
 abbrev μ-loop : tie.MeasureT-loop
 μ-loop out₀ at sort many raw p₀ i₀ out p i = length raw - i

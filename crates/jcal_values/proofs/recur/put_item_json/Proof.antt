@@ -1,7 +1,7 @@
 -- `jcal_values::recur::put_item_json` meets its contract.
 use mathlib.Core.Path.{_∙_}
 use Rattle.octets.proofs.Pen.{as-text}
-use Rattle.calendar.specs.Walk.{sortSaid}
+use Rattle.calendar.specs.Walk.{partSortSaid}
 use Rattle.values.specs.Shown.{itemJsonShown}
 use Rattle.jcal_values.proofs.Quoting.{short-shown}
 use borrow.Author.Needs.{needs}
@@ -9,29 +9,29 @@ use Rattle.jcal_values.proofs.recur.put_item_json.Statement.{statement}
 use Rattle.jcal_values.proofs.recur.put_item_json.Tie as tie
 
 returns : tie.Need-returns
-unfolding sortSaid itemJsonShown
+unfolding partSortSaid itemJsonShown
 returns c = as-text (c .before .before .put-quoted .ensures) (rw (c .before .before .before .before .enum-told .given .1))
 
 returns-2 : tie.Need-returns-2
-unfolding sortSaid itemJsonShown
+unfolding partSortSaid itemJsonShown
 returns-2 c =
     let enum-told2 = c .before .before .before .before .before .enum-told2 in
     as-text (c .before .before .put-short .ensures) (short-shown _ _ (c .before .before .before .extended-moment .ensures) ∙ rw (enum-told2 .given .1))
 
 returns-3 : tie.Need-returns-3
-unfolding sortSaid itemJsonShown
+unfolding partSortSaid itemJsonShown
 returns-3 c = as-text (c .before .before .put-item .ensures) (rw (c .before .before .before .before .enum-told3 .given .1))
 
 returns-4 : tie.Need-returns-4
-unfolding sortSaid itemJsonShown
+unfolding partSortSaid itemJsonShown
 returns-4 c = as-text (c .before .before .put-quoted2 .ensures) (rw (c .before .before .before .before .enum-told4 .given .1))
 
 returns-5 : tie.Need-returns-5
-unfolding sortSaid itemJsonShown
+unfolding partSortSaid itemJsonShown
 returns-5 c = as-text (c .before .before .put-quoted3 .ensures) (rw (c .before .before .before .before .enum-told5 .given .1))
 
 returns-6 : tie.Need-returns-6
-unfolding sortSaid itemJsonShown
+unfolding partSortSaid itemJsonShown
 returns-6 c = as-text (c .before .before .put-item2 .ensures) (rw (c .before .before .before .before .enum-told6 .given .1))
 
 pub put-item-json-spec : {M : Type 1} → statement M

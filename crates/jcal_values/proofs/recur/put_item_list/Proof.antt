@@ -6,7 +6,7 @@ use native.Mathlib.Omega.{arith}
 use lib.ListN.{length, drop, length-take, length-drop}
 use Rattle.octets.specs.Pen.{pen}
 use Rattle.octets.proofs.Pen.{then, Leads, leads-start, leads-on, leads-last}
-use Rattle.calendar.specs.Walk.{sortSaid}
+use Rattle.calendar.specs.Walk.{partSortSaid}
 use Rattle.calendar.proofs.Pieces.{scanned-le, scanned-in}
 use Rattle.values.specs.Shown.{itemJsonShown}
 use Rattle.jcal_values.specs.Parts.{commaList}
@@ -17,7 +17,7 @@ use Rattle.jcal_values.proofs.recur.put_item_list.Tie as tie
 
 abbrev Inv-loop : tie.InvT-loop
 Inv-loop out₀ at sort v p₀ i₀ out p i =
-    (i ≤ length v) × (length out ≡ length out₀) × Leads (pen out₀ at) (commaList (itemJsonShown (sortSaid sort)) v) (pen out p) (commaList (itemJsonShown (sortSaid sort)) (drop i v))
+    (i ≤ length v) × (length out ≡ length out₀) × Leads (pen out₀ at) (commaList (itemJsonShown (partSortSaid sort)) v) (pen out p) (commaList (itemJsonShown (partSortSaid sort)) (drop i v))
 
 abbrev μ-loop : tie.MeasureT-loop
 μ-loop out₀ at sort v p₀ i₀ out p i = length v - i
@@ -42,7 +42,7 @@ returns c =
     let args = c .before .before .before .before .before .before .before .before .before .before .before .args in
     let loop = c .before .before .before .before .before .before .before .before .loop in
     let find = c .before .before .before .before .before .before .find in
-    let f = itemJsonShown (sortSaid (args .sort)) in
+    let f = itemJsonShown (partSortSaid (args .sort)) in
     leads-last (loop .inv .2) (c .before .before .before .put-item-json .ensures) (list-last (code ",") (args .v .now) (loop .i) (find .result) (find .ensures) f (c .if1 .taken))
 
 loop-again : tie.Need-loop-again Inv-loop μ-loop
@@ -51,7 +51,7 @@ loop-again c =
     let loop = c .before .before .before .before .before .before .before .before .before .before .before .before .loop in
     let find = c .before .before .before .before .before .before .before .before .before .before .find in
     let put-item-json = c .before .before .before .before .before .before .before .put-item-json in
-    let f = itemJsonShown (sortSaid (args .sort)) in
+    let f = itemJsonShown (partSortSaid (args .sort)) in
     let e = ahead c in
     let m = list-more (code ",") (args .v .now) (loop .i) (find .result) (find .ensures) f (c .before .before .before .before .if1 .left) in
     (omega arith, omega arith, leads-on (loop .inv .2) (then (put-item-json .ensures) (c .before .before .put .ensures)) m)

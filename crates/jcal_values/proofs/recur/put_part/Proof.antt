@@ -1,5 +1,5 @@
 -- `jcal_values::recur::put_part` meets its contract.
-use Rattle.calendar.specs.Walk.{sortSaid}
+use Rattle.calendar.specs.Walk.{partSortSaid}
 use Rattle.calendar.proofs.Showing.{part-places}
 use Rattle.jcal_values.proofs.Writing.{part-wrote}
 use borrow.Author.Needs.{needs}
@@ -24,7 +24,7 @@ returns c =
     let first-part = c .before .before .before .before .before .before .before .before .before .before .before .first-part in
     let sort-of = c .before .before .before .before .sort-of in
     let put-key = c .before .before .before .before .before .before .before .before .put-key in
-    part-wrote (args .s .now) (first-part .result) (sortSaid (sort-of .result)) (first-part .ensures) (sort-of .ensures) (put-key .ensures) (c .before .before .put-items .ensures)
+    part-wrote (args .s .now) (first-part .result) (partSortSaid (sort-of .result)) (first-part .ensures) (sort-of .ensures) (put-key .ensures) (c .before .before .put-items .ensures)
 
 pub put-part-spec : {M : Type 1} → statement M
 put-part-spec =

@@ -7,7 +7,7 @@ use lib.ListN.{length, drop, length-take, length-drop}
 use Rattle.octets.specs.Pen.{pen}
 use Rattle.octets.proofs.Pen.{then, Leads, leads-start, leads-on, leads-last}
 use Rattle.calendar.proofs.Pieces.{scanned-le, scanned-in}
-use Rattle.values.specs.Shown.{partShown}
+use Rattle.values.specs.Shown.{partJsonShown}
 use Rattle.jcal_values.specs.Parts.{semicolonList}
 use Rattle.jcal_values.proofs.Lists.{list-more, list-last}
 use borrow.Author.Needs.{needs}
@@ -16,7 +16,7 @@ use Rattle.jcal_values.proofs.recur.put_parts.Tie as tie
 
 abbrev Inv-loop : tie.InvT-loop
 Inv-loop out₀ at s p₀ i₀ out p i =
-    (i ≤ length s) × (length out ≡ length out₀) × Leads (pen out₀ at) (semicolonList partShown s) (pen out p) (semicolonList partShown (drop i s))
+    (i ≤ length s) × (length out ≡ length out₀) × Leads (pen out₀ at) (semicolonList partJsonShown s) (pen out p) (semicolonList partJsonShown (drop i s))
 
 abbrev μ-loop : tie.MeasureT-loop
 μ-loop out₀ at s p₀ i₀ out p i = length s - i
@@ -41,7 +41,7 @@ returns c =
     let loop = c .before .before .before .before .before .before .before .before .loop in
     let args = c .before .before .before .before .before .before .before .before .before .before .before .args in
     let find = c .before .before .before .before .before .before .find in
-    leads-last (loop .inv .2) (c .before .before .before .put-part .ensures) (list-last (code ";") (args .s .now) (loop .i) (find .result) (find .ensures) partShown (c .if1 .taken))
+    leads-last (loop .inv .2) (c .before .before .before .put-part .ensures) (list-last (code ";") (args .s .now) (loop .i) (find .result) (find .ensures) partJsonShown (c .if1 .taken))
 
 loop-again : tie.Need-loop-again Inv-loop μ-loop
 loop-again c =
@@ -50,7 +50,7 @@ loop-again c =
     let find = c .before .before .before .before .before .before .before .before .before .before .find in
     let put-part = c .before .before .before .before .before .before .before .put-part in
     let e = ahead c in
-    let m = list-more (code ";") (args .s .now) (loop .i) (find .result) (find .ensures) partShown (c .before .before .before .before .if1 .left) in
+    let m = list-more (code ";") (args .s .now) (loop .i) (find .result) (find .ensures) partJsonShown (c .before .before .before .before .if1 .left) in
     (omega arith, omega arith, leads-on (loop .inv .2) (then (put-part .ensures) (c .before .before .put .ensures)) m)
 
 pub put-parts-spec : {M : Type 1} → statement M

@@ -3,14 +3,14 @@ use Prim.Native.Nat.{_-_}
 use mathlib.Core.Path.{sym, _∙_}
 use borrow.Author.Tests.{not-true, not-false}
 use lib.ListN.{length}
-use Rattle.json.specs.Promise.{Passed, bareOctet}
+use Rattle.json.specs.Promise.{Passed, asIsOctet}
 use Rattle.json.proofs.Runs.{passed-none, passed-more, run-over, run-end}
 use borrow.Author.Needs.{needs}
 use Rattle.json.proofs.quoting.past_bare.Statement.{statement}
 use Rattle.json.proofs.quoting.past_bare.Tie as tie
 
 abbrev Inv-loop : tie.InvT-loop
-Inv-loop s at i₀ i = Passed bareOctet s at i
+Inv-loop s at i₀ i = Passed asIsOctet s at i
 
 abbrev μ-loop : tie.MeasureT-loop
 μ-loop s at i₀ i = length s - i

@@ -3,7 +3,7 @@ use Prim.Native.Nat.{_≤_, _-_}
 use mathlib.Core.Path.{_≡_, refl, _∙_}
 use native.Mathlib.Omega.{arith}
 use lib.ListN.{length, drop}
-use Rattle.json.specs.Reads.{word as wordOf}
+use Rattle.json.specs.Reads.{literal as wordOf}
 use Rattle.json.specs.Promise.{found, missing}
 use Rattle.json.proofs.Words.{word-more, word-differs, word-short, word-whole}
 use borrow.Author.Needs.{needs}

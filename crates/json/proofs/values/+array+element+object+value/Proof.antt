@@ -9,7 +9,7 @@ use denote.Ref.{now}
 use borrow.Fn.Kinds.{In}
 use borrow.Fn.PlainCycle.{Measures, is, falls, and}
 use Rattle.octets.specs.Pen.{pen}
-use Rattle.json.specs.Reader.{kindOf, key as keyOf, pair, value as valueOf}
+use Rattle.json.specs.Reader.{openingOf, memberKey as keyOf, pair, valueWithin as valueOf}
 use Rattle.json.specs.Tape.{serString, ser}
 use Rattle.json.specs.Promise.{Agrees, too-deep}
 use Rattle.json.specs.declared.Step.{Step}
@@ -210,12 +210,12 @@ object-loop-again t c =
     (omega (arith, x .above), c .past-space3 .ensures .below, omega arith, element-more serPair 125 _ (pair-shortens _) (c .before .before .before .before .before .before .before .before .before .before .before .before .before .before .before .before .before .before .loop .inv .3) x (c .before .before .before .past-space2 .ensures) (sym (c .before .before .peek2 .ensures) ∙ c .before .if3 .left) (c .past-space3 .ensures))
 
 value-array-requires : (t : ℕ) → value-lts.Need-array-requires (claims-value t) (value-at t) value.Post
-unfolding kindOf
-value-array-requires t c κs = (omega arith, ap kindOf (sym (c .before .before .peek .ensures) ∙ c .before .match .keys1))
+unfolding openingOf
+value-array-requires t c κs = (omega arith, ap openingOf (sym (c .before .before .peek .ensures) ∙ c .before .match .keys1))
 
 value-object-requires : (t : ℕ) → value-lts.Need-object-requires (claims-value t) (value-at t) value.Post
-unfolding kindOf
-value-object-requires t c κs = (omega arith, ap kindOf (sym (c .before .before .peek .ensures) ∙ c .before .match .keys2))
+unfolding openingOf
+value-object-requires t c κs = (omega arith, ap openingOf (sym (c .before .before .peek .ensures) ∙ c .before .match .keys2))
 
 value-add-string : (t : ℕ) → value-lts.Need-add-string (claims-value t) (value-at t) value.Post
 value-add-string t c = omega (arith, inside-is (now (c .before .before .before .before .args .text)) _ 34 (sym (c .before .peek .ensures) ∙ c .match .keys3) (omega arith))

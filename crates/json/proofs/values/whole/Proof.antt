@@ -6,7 +6,7 @@ use denote.Ref.{now}
 use Rattle.octets.specs.Limits.{mostOpen}
 use Rattle.octets.specs.Pen.{pen}
 use Rattle.octets.proofs.Limits.{most-open}
-use Rattle.json.specs.Reader.{value as valueOf}
+use Rattle.json.specs.Reader.{valueWithin as valueOf}
 use Rattle.json.specs.Tape.{ser}
 use Rattle.json.specs.Promise.{Agrees, read, not-json}
 use Rattle.json.proofs.Agreements.{HasRead, was-read}

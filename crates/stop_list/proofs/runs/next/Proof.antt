@@ -9,20 +9,20 @@ use borrow.Author.Needs.{needs}
 use Rattle.stop_list.specs.declared.StopMoved.{StopMoved}
 use Rattle.stop_list.specs.declared.StopMoved.the-variants.{At, Past, NoMoment}
 use Rattle.stop_list.specs.declared.runs.Run.{Run}
-use Rattle.stop_list.specs.Runs.{nextRun, nextFrom, ended}
+use Rattle.stop_list.specs.Runs.{nextRun, nextFrom, runEnded}
 use Rattle.stop_list.proofs.StopMoved as moved
 use Rattle.stop_list.proofs.runs.next.Statement.{statement}
 use Rattle.stop_list.proofs.runs.next.Tie as tie
 
 -- the answers but the first
-no-later : (r : Run) (o : StopMoved) → OneOf (1 ∷ 2 ∷ []) (tagOf moved.the-type o) → ended r ≡ nextFrom r o
+no-later : (r : Run) (o : StopMoved) → OneOf (1 ∷ 2 ∷ []) (tagOf moved.the-type o) → runEnded r ≡ nextFrom r o
 unfolding nextFrom
 no-later r (At s) k = absurd (⊎-elim (λ e. omega arith) (λ e. omega arith) k)
 no-later r Past k = refl
 no-later r NoMoment k = refl
 
 returns : tie.Need-returns
-unfolding nextRun ended
+unfolding nextRun runEnded
 returns c = rw (← (c .before .before .moved .ensures)) (no-later _ _ (c .before .match .keys2))
 
 returns-2 : tie.Need-returns-2

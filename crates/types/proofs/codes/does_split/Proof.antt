@@ -3,7 +3,7 @@ use mathlib.Core.Path.{sym}
 use native.Mathlib.Omega.{arith}
 use Rattle.octets.specs.Classes.{between}
 use Rattle.octets.proofs.Classes.{below-between}
-use Rattle.types.specs.Codes.{splits}
+use Rattle.types.specs.Codes.{typeSplits}
 use Rattle.types.proofs.Frames.{splits-each, splits-beyond}
 use Rattle.types.proofs.codes.does_split.Statement.{statement}
 use Rattle.types.proofs.codes.does_split.Tie as tie
@@ -15,7 +15,7 @@ returns-8 : tie.Need-returns-8
 returns-8 c = sym (splits-each _ (c .before .before .if1 .left) (omega arith) (λ e. omega arith) (λ e. omega arith) (c .before .before .before .match .rest .0 .0 .1) (λ e. omega arith))
 
 returns-9 : tie.Need-returns-9
-unfolding splits
+unfolding typeSplits
 returns-9 c = rw (below-between 1 14 _ (c .if1 .taken))
 
 returns-10 : tie.Need-returns-10
@@ -25,12 +25,12 @@ pub does-split-spec : {M : Type 1} → statement M
 does-split-spec =
     tie.close
     (tie.spec
-    (λ c. unfold splits between in rw (c .match .keys1))
-    (λ c. unfold splits between in rw (c .match .keys2))
-    (λ c. unfold splits between in rw (c .match .keys3))
-    (λ c. unfold splits between in rw (c .match .keys4))
-    (λ c. unfold splits between in rw (c .match .keys5))
-    (λ c. unfold splits between in rw (c .match .keys6))
+    (λ c. unfold typeSplits between in rw (c .match .keys1))
+    (λ c. unfold typeSplits between in rw (c .match .keys2))
+    (λ c. unfold typeSplits between in rw (c .match .keys3))
+    (λ c. unfold typeSplits between in rw (c .match .keys4))
+    (λ c. unfold typeSplits between in rw (c .match .keys5))
+    (λ c. unfold typeSplits between in rw (c .match .keys6))
     returns-7
     returns-8
     returns-9
