@@ -9,10 +9,9 @@ use Rattle.octets.specs.Answers.{accepted}
 use Rattle.octets.proofs.Cases.{cases}
 use Rattle.types.specs.Table.{Table}
 use Rattle.json.specs.Tree.{Json, str, itemsOf}
-use Rattle.json.specs.Print.{escaped, quoted, printString, print, firstItem, moreItems}
+use Rattle.json.specs.Print.{escaped, quoted, printString, print, firstItem, moreItems, valuesJson}
 use Rattle.content.specs.Line.{Line}
 use Rattle.content.specs.Parameters.{withoutValue}
-use Rattle.values.specs.Shown.{valuesJson}
 use Rattle.values.proofs.Arrays.{items-json}
 use Rattle.conversion_theory.specs.Tree.{Property, property, Component, Forest}
 use Rattle.conversion_theory.specs.Property.{readProperty}

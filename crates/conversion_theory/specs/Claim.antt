@@ -13,11 +13,10 @@ use Rattle.octets.specs.Answers.{Answer, accepted, then, settled, answer}
 use Rattle.types.specs.Table.{Table, find}
 use Rattle.types.specs.Rows.{tableOf, Keeps}
 use Rattle.json.specs.Tree.{str, obj}
-use Rattle.json.specs.Print.{print, printString}
+use Rattle.json.specs.Print.{print, printString, valuesJson}
 use Rattle.content.specs.Line.{Line, lineOf}
 use Rattle.content.specs.Lines.{linesOf}
 use Rattle.content.specs.Parameters.{called, withoutValue, membersOf}
-use Rattle.values.specs.Shown.{valuesJson}
 use Rattle.conversion_theory.specs.Tree.{Property, property, Component}
 use Rattle.conversion_theory.specs.Property.{readProperty}
 use Rattle.conversion_theory.specs.Jcal.{jcalOf}

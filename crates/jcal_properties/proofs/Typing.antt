@@ -20,7 +20,7 @@ use Rattle.octets.proofs.Answers.{not-accepted}
 use Rattle.octets.proofs.Pen.{then as behind, as-text, front-behind as kept-behind}
 use Rattle.octets.proofs.Positions.{upto, from}
 use Rattle.json.specs.Tree.{Json, obj}
-use Rattle.json.specs.Print.{escaped, quoted, printString, print, firstItem, moreItems, firstMember}
+use Rattle.json.specs.Print.{escaped, quoted, printString, print, firstItem, moreItems, firstMember, valuesJson}
 use Rattle.types.specs.Codes.{typeName}
 use Rattle.types.specs.Table.{Row, Table, find}
 use Rattle.types.proofs.Types.{name-lower, nameless}
@@ -32,7 +32,6 @@ use Rattle.content.specs.declared.params.ValueType.{ValueType}
 use Rattle.content.specs.declared.params.ValueType.the-variants.{Absent, Named, Faulty}
 use Rattle.content.specs.Parameters.{called, nameTwice, valueType, withoutValue, encodes, isEncoded, membersOf}
 use Rattle.values.specs.Read.{valuesOf}
-use Rattle.values.specs.Shown.{valuesJson}
 use Rattle.jcal_values.proofs.Quoting.{items-json}
 use Rattle.conversion_theory.specs.Tree.{Property, property}
 use Rattle.conversion_theory.specs.Property.{typeOf, codeOf, manyOf, encodingFits, readAs, readProperty}

@@ -10,12 +10,11 @@ use Rattle.octets.specs.Optional.{map?}
 use Rattle.octets.specs.Answers.{refused, accepted, orElse, number}
 use Rattle.octets.specs.Pen.{Pen, pen, Wrote, FrontKept}
 use Rattle.json.specs.Tree.{Json}
-use Rattle.json.specs.Print.{print, printString}
+use Rattle.json.specs.Print.{print, printString, valuesJson}
 use Rattle.types.specs.Table.{Row, Table, find}
 use Rattle.content.specs.Line.{Param, Line}
 use Rattle.content.specs.Parameters.{withoutValue}
 use Rattle.values.specs.Read.{valuesOf}
-use Rattle.values.specs.Shown.{valuesJson}
 use Rattle.conversion_theory.specs.Tree.{Property, property}
 use Rattle.conversion_theory.specs.Property.{typeOf, manyOf, readProperty}
 use Rattle.conversion_theory.specs.Jcal.{propertyJson}

@@ -14,9 +14,8 @@ use Rattle.octets.specs.Optional.{map?, when, guard}
 use Rattle.octets.specs.Pen.{Pen, pen, Wrote}
 use Rattle.octets.proofs.Pen.{then, as-text, front-behind, front-wrote}
 use Rattle.json.specs.Tree.{Json, str, arr, itemsOf}
-use Rattle.json.specs.Print.{quoted, printString, print, firstItem}
+use Rattle.json.specs.Print.{quoted, printString, print, firstItem, valuesJson}
 use Rattle.values.specs.Read.{twoOrThree, readStatus}
-use Rattle.values.specs.Shown.{valuesJson}
 use Rattle.values.specs.Texts.{texts, fields, textsFrom}
 pub use Rattle.values.proofs.Arrays.{items-json}
 use Rattle.jcal_texts.specs.Trying.{Tried, WroteTexts}

@@ -12,8 +12,7 @@ use Rattle.octets.specs.Optional.{map?}
 use Rattle.octets.specs.Pen.{Pen, pen, Wrote, FrontKept}
 use Rattle.octets.specs.Pieces.{onto}
 use Rattle.json.specs.Tree.{str}
-use Rattle.json.specs.Print.{escaped, quoted}
-use Rattle.values.specs.Shown.{valuesJson}
+use Rattle.json.specs.Print.{escaped, quoted, valuesJson}
 use Rattle.values.specs.Texts.{add, stop, act, textsFrom}
 use Rattle.jcal_texts.specs.declared.Attempt.{Attempt}
 use Rattle.jcal_texts.specs.declared.Attempt.the-variants.{Wrote as Done, Invalid}

@@ -20,8 +20,7 @@ use Rattle.octets.proofs.Pieces.{split-filled}
 use Rattle.octets.proofs.Positions.{from, upto}
 use Rattle.calendar.proofs.Pieces.{before-le}
 use Rattle.json.specs.Tree.{Json}
-use Rattle.json.specs.Print.{print}
-use Rattle.values.specs.Shown.{valuesJson}
+use Rattle.json.specs.Print.{print, valuesJson}
 use Rattle.jcal_texts.specs.Trying.{Tried}
 use Rattle.jcal_texts.specs.declared.Attempt.the-variants.{Invalid}
 use Rattle.jcal_texts.proofs.Going.{Going, going-start, going-on}

@@ -15,8 +15,8 @@ use Rattle.octets.proofs.Positions.{from, upto}
 use Rattle.calendar.specs.Walk.{beforeFirst}
 use Rattle.calendar.proofs.Pieces.{before-take, split-more, split-last, scanned}
 use Rattle.json.specs.Tree.{Json, arr, itemsOf}
-use Rattle.json.specs.Print.{print, firstItem}
-use Rattle.values.specs.Shown.{valuesJson, listShown}
+use Rattle.json.specs.Print.{print, firstItem, valuesJson}
+use Rattle.values.specs.Shown.{listShown}
 use Rattle.jcal_values.proofs.Quoting.{items-json}
 
 -- a turn, which passes the piece at i

@@ -5,9 +5,9 @@ use mathlib.Core.List.{List}
 use Rattle.octets.specs.Basics.{_or_, single}
 use Rattle.octets.specs.Optional.{guard}
 use Rattle.octets.specs.Pen.{Pen}
+use Rattle.json.specs.Print.{valuesJson}
 use Rattle.values.specs.Sorts.{Sort}
 use Rattle.values.specs.Read.{readValues}
-use Rattle.values.specs.Shown.{valuesJson}
 use Rattle.jcal_texts.specs.Trying.{Tried}
 use Rattle.jcal_texts.specs.declared.Attempt.{Attempt}
 use Rattle.jcal_texts.specs.declared.Attempt.the-variants.{Wrote as Done, Invalid}

@@ -50,3 +50,8 @@ unfoldable mutual
   pub moreMembers : Members → List ℕ
   moreMembers noMembers = octets "}"
   moreMembers (member k j ms) = code "," ∷ printKey k ++ (print j ++ moreMembers ms)
+
+-- each value with a comma before it
+unfoldable pub valuesJson : List Json → List ℕ
+valuesJson [] = []
+valuesJson (j ∷ js) = code "," ∷ (print j ++ valuesJson js)

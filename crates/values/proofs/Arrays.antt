@@ -5,8 +5,7 @@ use mathlib.Core.Path.{_≡_, refl, sym, ap}
 use mathlib.Core.List.{List, [], _∷_, _++_, append-assoc}
 use Rattle.octets.specs.Basics.{octets}
 use Rattle.json.specs.Tree.{Json, itemsOf}
-use Rattle.json.specs.Print.{print, moreItems}
-use Rattle.values.specs.Shown.{valuesJson}
+use Rattle.json.specs.Print.{print, moreItems, valuesJson}
 
 pub items-json : (vs : List Json) → moreItems (itemsOf vs) ≡ valuesJson vs ++ octets "]"
 unfolding moreItems itemsOf valuesJson

@@ -1,4 +1,4 @@
--- Values as they stand in a property's array; and the octets that are written for a raw value, valid or not.
+-- The octets that are written for a raw value, valid or not.
 use Prim.Native.Nat.{ℕ, _+_, _-_}
 use Prim.Native.Char.{code}
 use mathlib.Core.Bool.{Bool, not}
@@ -14,13 +14,7 @@ use Rattle.octets.specs.Decimal.{minus, unsigned, trim, minusIf}
 use Rattle.calendar.specs.Dates.{dateTimeOf, momentOf}
 use Rattle.calendar.specs.Recurrence.{PartSort as Kind, frequency, moment, count, weekday, ordinal, numbers}
 use Rattle.calendar.specs.Walk.{beforeFirst, keyAt, firstPart, itemShown}
-use Rattle.json.specs.Tree.{Json}
-use Rattle.json.specs.Print.{printString, print}
-
--- each value with a comma before it
-unfoldable pub valuesJson : List Json → List ℕ
-valuesJson [] = []
-valuesJson (j ∷ js) = code "," ∷ (print j ++ valuesJson js)
+use Rattle.json.specs.Print.{printString}
 
 -- an octet of a text that is written as it stands, and neither escapes nor separates
 unfoldable pub runOctet : ℕ → Bool
