@@ -85,7 +85,7 @@ record Scanned (q : NumberPlace) (s u : List ℕ) : Type 0 where
   text : List ℕ
   whole : s ≡ text ++ u
   again : scan q text ≡ ok tt []
-  lowSurrogate : all ascii text ≡ true
+  low : all ascii text ≡ true
 
 number-ascii : (b : ℕ) → numberOctet b ≡ true → ascii b ≡ true
 unfolding numberOctet isExponent ascii
@@ -100,10 +100,10 @@ goes-ascii q b n = cases (numberOctet b) (λ y. number-ascii b y) (λ y. never (
 
 scanned : (q : NumberPlace) (s : List ℕ) → Gives (λ _ u. Scanned q s u) (scan q s)
 unfolding scan all
-scanned q [] = by (Gives (λ _ u. Scanned q [] u)) (numberEnds q) (λ m. record { text = []; whole = refl; again = rw m; lowSurrogate = refl }) (λ m. tt)
+scanned q [] = by (Gives (λ _ u. Scanned q [] u)) (numberEnds q) (λ m. record { text = []; whole = refl; again = rw m; low = refl }) (λ m. tt)
 scanned q (b ∷ s) = by (Gives (λ _ u. Scanned q (b ∷ s) u)) (isBeyond (advance q b))
-    (λ _. by (Gives (λ _ u. Scanned q (b ∷ s) u)) (numberEnds q) (λ m. record { text = []; whole = refl; again = rw m; lowSurrogate = refl }) (λ m. tt))
-    (λ n. gives-weaker _ _ (scan (advance q b) s) (scanned (advance q b) s) (λ _ u w. record { text = b ∷ w .text; whole = ap (λ (l : List ℕ). b ∷ l) (w .whole); again = rw n (w .again); lowSurrogate = and-true (goes-ascii q b n) (w .low) }))
+    (λ _. by (Gives (λ _ u. Scanned q (b ∷ s) u)) (numberEnds q) (λ m. record { text = []; whole = refl; again = rw m; low = refl }) (λ m. tt))
+    (λ n. gives-weaker _ _ (scan (advance q b) s) (scanned (advance q b) s) (λ _ u w. record { text = b ∷ w .text; whole = ap (λ (l : List ℕ). b ∷ l) (w .whole); again = rw n (w .again); low = and-true (goes-ascii q b n) (w .low) }))
 
 -- JSON numbers, as they stand
 abbrev Numeral : List ℕ → Type 0

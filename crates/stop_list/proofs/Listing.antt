@@ -80,8 +80,8 @@ module _ (start rule : List ℕ) where
 
   planned-tells : (room : ℕ) (o : Option Moment) (q : Option Rule) → guard onTime (readMoment start) ≡ o → readRule rule ≡ q → Tells (planned o q room) room
   unfolding planned refusedFor listTold listOf startOf then orElse unless
-  planned-tells room none q e f = record { listAnswer = rw e; none = λ why g. idle-stops room }
-  planned-tells room (some m) none e f = record { listAnswer = rw (e, f); none = λ why g. idle-stops room }
+  planned-tells room none q e f = record { answer = rw e; none = λ why g. idle-stops room }
+  planned-tells room (some m) none e f = record { answer = rw (e, f); none = λ why g. idle-stops room }
   planned-tells room (some m) (some r) e f =
       cases (served r (m .kind))
       (λ s.
@@ -89,7 +89,7 @@ module _ (start rule : List ℕ) where
         listAnswer = rw (e, f, s) (ap accepted (served-stops m r room (read-real start m (guard-is onTime (readMoment start) m e .0)) (rule-real rule r f)));
         none = λ why g. absurd (never g);
       }))
-      (λ s. rw s (record { listAnswer = rw (e, f, s); none = λ why g. idle-stops room }))
+      (λ s. rw s (record { answer = rw (e, f, s); none = λ why g. idle-stops room }))
     where
       never : {why : Refusal} → Stops 0 ≡ Refused why → ⊥
       never g = let z : _≡_ {A = ℕ} 0 1 = cc in omega arith
