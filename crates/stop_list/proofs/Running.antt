@@ -23,14 +23,14 @@ use Rattle.stop_list.specs.declared.StopMoved.{StopMoved}
 use Rattle.stop_list.specs.declared.StopMoved.the-variants.{At, Past, NoMoment}
 use Rattle.stop_list.specs.declared.runs.Run.{Run}
 use Rattle.stop_list.specs.Stops.{allows, oneLess, momentsFrom, stop, stopAt, stopOn}
-use Rattle.stop_list.specs.Runs.{seconds, allows, runAt, runEnded, nextFrom, nextRun, advanced, stopsOf, realEnd, Sound}
+use Rattle.stop_list.specs.Runs.{seconds, within, runAt, runEnded, nextFrom, nextRun, advanced, stopsOf, realEnd, Sound}
 
 real-seconds : (m : Moment) → isMoment m ≡ true → seconds m ≡ secondNumber m
 unfolding seconds
 real-seconds m h = rw h
 
-within-allows : (e : End) (m : Moment) → isMoment m ≡ true → realEnd e → allows e m ≡ allows e m
-unfolding allows allows notBehind
+within-allows : (e : End) (m : Moment) → isMoment m ≡ true → realEnd e → within e m ≡ allows e m
+unfolding within allows notBehind
 within-allows (Count n) m h r = refl
 within-allows (Until u) m h r = rw (real-seconds m h, real-seconds u r)
 within-allows Open m h r = refl
@@ -48,8 +48,8 @@ at-sound at room s h e r q =
     record {
       real = r;
       end = q;
-      fits = λ b. ltb-true at room (both (ltb at room) (allows e (s .moment)) b .0);
-      allowed = λ b. sym (within-allows e (s .moment) r q) ∙ both (ltb at room) (allows e (s .moment)) b .1;
+      fits = λ b. ltb-true at room (both (ltb at room) (within e (s .moment)) b .0);
+      allowed = λ b. sym (within-allows e (s .moment) r q) ∙ both (ltb at room) (within e (s .moment)) b .1;
     }
 
 -- the moments of a run at a place where there is room
@@ -76,8 +76,8 @@ pub stops-at : (at room : ℕ) (s : Stop) (h : ℕ) (e : End) → isMoment (s .m
 unfolding stopsOf runAt
 stops-at at room s h e r q =
     let m = s .moment in
-    cases (ltb at room and allows e m) (λ b. rw b) λ b. rw b
-    (not-both (ltb at room) (allows e m) b
+    cases (ltb at room and within e m) (λ b. rw b) λ b. rw b
+    (not-both (ltb at room) (within e m) b
     (λ n. let z : room - at ≡ 0 = (let l = ltb-false at room n in omega arith) in rw (no-room (room - at) h e (some m) z))
     (λ n. rw (no-moment (room - at) h e m (sym (within-allows e m r q) ∙ n))))
 

@@ -22,13 +22,13 @@ unfoldable pub seconds : Moment → ℕ
 seconds m = pick (isMoment m) (secondNumber m) 0
 
 -- the end allows one moment more, which is m
-unfoldable pub allows : End → Moment → Bool
-allows (Count n) m = leb 1 n
-allows (Until u) m = leb (seconds m) (seconds u)
-allows Open m = true
+unfoldable pub within : End → Moment → Bool
+within (Count n) m = leb 1 n
+within (Until u) m = leb (seconds m) (seconds u)
+within Open m = true
 
 unfoldable pub runAt : ℕ → ℕ → Stop → ℕ → End → Run
-runAt at room s h e = record { more = ltb at room and allows e (s .moment); at = at; room = room; stop = s; hours = h; end = e }
+runAt at room s h e = record { more = ltb at room and within e (s .moment); at = at; room = room; stop = s; hours = h; end = e }
 
 -- behind the last stop
 unfoldable pub runEnded : Run → Run

@@ -2,7 +2,7 @@
 ghost use mathlib.Core.Path.{_≡_};
 ghost use Prim.Native.Nat.{_<_};
 ghost use Rattle.stop_list.specs.Stops.{oneLess};
-ghost use Rattle.stop_list.specs.Runs.{seconds, allows, runAt, nextRun, advanced};
+ghost use Rattle.stop_list.specs.Runs.{seconds, within, runAt, nextRun, advanced};
 use crate::Stop;
 use crate::StopMoved;
 use calendar::dates::DayNumber;
@@ -36,7 +36,7 @@ fn seconds_of(m: Moment) -> u64
 
 // The end allows one moment more, which is m.
 fn is_within(end: End, m: Moment) -> bool
-    ensures { λ r. ⌜ r ≡ allows end m ⌝ }
+    ensures { λ r. ⌜ r ≡ within end m ⌝ }
 {
     match end {
         End::Count(n) => 1 <= n,
