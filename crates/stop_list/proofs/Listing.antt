@@ -71,7 +71,7 @@ module _ (start rule : List ℕ) where
 
   -- what a plan tells is the definition's answer, and a refusal has no stop
   pub record Tells (p : Plan) (room : ℕ) : Type 0 where
-    pub listAnswer : listTold (p .listed) (stopsOf (p .run)) ≡ listOf start rule room
+    pub answer : listTold (p .listed) (stopsOf (p .run)) ≡ listOf start rule room
     pub none : (why : Refusal) → p .listed ≡ Refused why → stopsOf (p .run) ≡ []
 
   served-stops : (m : Moment) (r : Rule) (room : ℕ) → isMoment m ≡ true → realEnd (r .end)
@@ -86,7 +86,7 @@ module _ (start rule : List ℕ) where
       cases (served r (m .kind))
       (λ s.
       rw s (record {
-        listAnswer = rw (e, f, s) (ap accepted (served-stops m r room (read-real start m (guard-is onTime (readMoment start) m e .0)) (rule-real rule r f)));
+        answer = rw (e, f, s) (ap accepted (served-stops m r room (read-real start m (guard-is onTime (readMoment start) m e .0)) (rule-real rule r f)));
         none = λ why g. absurd (never g);
       }))
       (λ s. rw s (record { answer = rw (e, f, s); none = λ why g. idle-stops room }))

@@ -305,5 +305,5 @@ fill-spec 𝓤 H 𝓜 𝓖 𝓡 =
     entered 𝓤 H (tripleOf 𝓤 H (𝓖 .A) fill.signature (fill.spec 𝓤 H (𝓖 .A) (𝓜 .mem) (𝓡 .run)))
     (tables 𝓤 H 𝓜 𝓡 code.env .C) (tables 𝓤 H 𝓜 𝓡 code.env .Λ) #stop_list·fill code.function (code.unfolded 𝓤 H 𝓜 𝓡)
     (fill-meets 𝓤 H (𝓖 .A) (givenOf 𝓤 H 𝓜 𝓖) (𝓜 .mem) (𝓡 .run) (tablesOf 𝓤 H 𝓜 (tables 𝓤 H 𝓜 𝓡 code.env))
-    (cited 𝓤 H (StoreC 𝓤 H (𝓖 .A) (𝓜 .mem) (𝓡 .run)) 𝓜 𝓡 code.env #stop_list·store store-def.routine code.calls-stoplist·store (store-thm.met 𝓤 H 𝓜 𝓖 𝓡))
-    (cited 𝓤 H (AdvanceC 𝓤 H (𝓖 .A) (𝓜 .mem) (𝓡 .run)) 𝓜 𝓡 code.env #stop_list·advance advance-def.routine code.calls-stoplist·runs·advance (advance-thm.met 𝓤 H 𝓜 𝓖 𝓡)))
+    (cited 𝓤 H (StoreC 𝓤 H (𝓖 .A) (𝓜 .mem) (𝓡 .run)) 𝓜 𝓡 code.env #stop_list·store store-def.routine code.calls-stop-list·store (store-thm.met 𝓤 H 𝓜 𝓖 𝓡))
+    (cited 𝓤 H (AdvanceC 𝓤 H (𝓖 .A) (𝓜 .mem) (𝓡 .run)) 𝓜 𝓡 code.env #stop_list·advance advance-def.routine code.calls-stop-list·runs·advance (advance-thm.met 𝓤 H 𝓜 𝓖 𝓡)))
