@@ -10,3 +10,4 @@ pub mod Pieces
 pub mod Utf8
 pub mod Transducer
 pub mod Characters
+pub mod Search

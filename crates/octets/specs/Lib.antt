@@ -9,3 +9,4 @@ pub mod Pen
 pub mod Answers
 pub mod Groups
 pub mod Characters
+pub mod Search

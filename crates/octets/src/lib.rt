@@ -2,6 +2,7 @@
 mod encoding;
 mod names;
 mod numbers;
+mod searching;
 mod settling;
 mod writing;
 
@@ -34,6 +35,8 @@ pub use numbers::put_decimal;
 pub use numbers::put_integer_text;
 pub use numbers::sign_length;
 pub use numbers::value_of;
+pub use searching::find;
+pub use searching::is_free;
 pub use settling::finish;
 pub use settling::refuse;
 pub use writing::put;

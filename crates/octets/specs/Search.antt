@@ -1,0 +1,18 @@
+-- What stands before the first octet of a kind, and what the search for it promises.
+use Prim.Native.Nat.{ℕ, _+_, _≤_, _<_}
+use mathlib.Core.Path.{_≡_}
+use mathlib.Core.Bool.{Bool}
+use mathlib.Core.List.{List, [], _∷_}
+use lib.ListN.{length, drop}
+use Rattle.octets.specs.Basics.{pick}
+
+unfoldable pub until : (ℕ → Bool) → List ℕ → List ℕ
+until stop [] = []
+until stop (c ∷ s) = pick (stop c) [] (c ∷ until stop s)
+
+-- among the n octets of s from i on the first of the kind stands at r; r is behind them where there is none
+pub record Sought (stop : ℕ → Bool) (s : List ℕ) (i n r : ℕ) : Type 0 where
+  pub low : i ≤ r
+  pub high : r ≤ i + n
+  pub is : r + length (until stop (drop r s)) ≡ i + length (until stop (drop i s))
+  pub ends : r < i + n → length (until stop (drop r s)) ≡ 0
