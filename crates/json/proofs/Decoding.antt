@@ -253,11 +253,11 @@ mark-ascii : (end b : ℕ) → ascii end ≡ true → (m : Separator) → separa
 unfolding separatorOf ascii
 mark-ascii end b a m e n = cases (eqb b 44) (λ x. is-ascii b 44 x refl) (λ x. cases (eqb b end) (λ y. is-ascii b end y a) (λ y. absurd (n (sym e ∙ rw (x, y)))))
 
-module _ {A : Type 0} (P : A → Type 0) (end : ℕ) (lowSurrogate : ascii end ≡ true) (r : List ℕ → Out A) (f : Takes P r) where
+module _ {A : Type 0} (P : A → Type 0) (end : ℕ) (low : ascii end ≡ true) (r : List ℕ → Out A) (f : Takes P r) where
   after-left : (m : Separator) (b : ℕ) → separatorOf end b ≡ m → (more : List ℕ → Out (List A)) → Takes (All P) more → (a : A) → P a → (s : List ℕ) → utf8 (b ∷ s) ≡ true → Left (All P) (afterElement m more a s)
   unfolding afterElement
-  after-left comma b e more g a p s h = gives-map _ _ (λ l. a ∷ l) (more (skipSpace s)) (g (skipSpace s) (skip-left s (passed b s (mark-ascii end b lowSurrogate comma e (λ z. let x : _≡_ {A = ℕ} 0 1 = cc in omega arith)) h))) (λ l t w. ((p, w .0), w .1))
-  after-left close b e more g a p s h = ((p, tt), passed b s (mark-ascii end b lowSurrogate close e (λ z. let x : _≡_ {A = ℕ} 0 1 = cc in omega arith)) h)
+  after-left comma b e more g a p s h = gives-map _ _ (λ l. a ∷ l) (more (skipSpace s)) (g (skipSpace s) (skip-left s (passed b s (mark-ascii end b low comma e (λ z. let x : _≡_ {A = ℕ} 0 1 = cc in omega arith)) h))) (λ l t w. ((p, w .0), w .1))
+  after-left close b e more g a p s h = ((p, tt), passed b s (mark-ascii end b low close e (λ z. let x : _≡_ {A = ℕ} 0 1 = cc in omega arith)) h)
   after-left odd b e more g a p s h = tt
 
   mark-left : (more : List ℕ → Out (List A)) → Takes (All P) more → (a : A) → P a → Takes (All P) (onMark end (λ m u. afterElement m more a u))
@@ -276,7 +276,7 @@ module _ {A : Type 0} (P : A → Type 0) (end : ℕ) (lowSurrogate : ascii end �
     where
       from : Takes (All P) (elementsFrom end r)
       from [] k = unfold elementsFrom in tt
-      from (b ∷ t) k = unfold elementsFrom in by (Left (All P)) (eqb b end) (λ e. (tt, passed b t (is-ascii b end e lowSurrogate) k)) (λ _. elements-left (suc (length (b ∷ t))) (b ∷ t) k)
+      from (b ∷ t) k = unfold elementsFrom in by (Left (All P)) (eqb b end) (λ e. (tt, passed b t (is-ascii b end e low) k)) (λ _. elements-left (suc (length (b ∷ t))) (b ∷ t) k)
 
 items-decoded : (l : List Json) → All Decoded l → DecodedItems (itemsOf l)
 unfolding itemsOf
