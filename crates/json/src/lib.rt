@@ -5,6 +5,7 @@ mod scanning;
 mod strings;
 mod values;
 
+pub use quoting::put_escaped;
 pub use quoting::put_string;
 pub use values::parse;
 

@@ -34,7 +34,7 @@ fn past_bare(s: &[u8], at: usize) -> usize
 }
 
 // Writes one octet of a string.
-fn put_octet(out: &mut [u8], at: usize, b: u8) -> usize
+pub fn put_escaped(out: &mut [u8], at: usize, b: u8) -> usize
     ensures { λ r. ⌜ Wrote (pen (now (out .entry)) at) (escaped b) (pen (now (out .exit)) r) ⌝ }
 {
     match b {
@@ -58,7 +58,7 @@ pub fn put_string(out: &mut [u8], at: usize, s: &[u8]) -> usize
         if e == s.len() {
             return octets::put(out, q, b'"');
         }
-        p = put_octet(out, q, s[e]);
+        p = put_escaped(out, q, s[e]);
         i = e + 1;
     }
     octets::put(out, p, b'"')

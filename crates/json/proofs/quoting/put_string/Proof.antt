@@ -26,7 +26,7 @@ unfolding printString
 returns c = pens.then (c .before .before .before .before .before .before .before .before .before .before .before .before .before .before .before .put .ensures) (pens.leads-last (run (c .before .before .before .before .before .before .before)) (c .before .before .put2 .ensures) (quoted-end (now (c .before .before .before .before .before .before .before .before .before .before .before .before .before .before .before .before .before .before .before .args .s)) (c .before .before .before .before .before .before .before .before .before .before .past-bare .result) (omega (arith, c .before .before .before .before .if1 .taken))))
 
 loop-again : tie.Need-loop-again Inv-loop μ-loop
-loop-again c = (omega arith, omega arith, pens.leads-on (run (c .before .before .before .before .before .before .before .before)) (c .before .before .put-octet .ensures) (quoted-octet (now (c .before .before .before .before .before .before .before .before .before .before .before .before .before .before .before .before .before .before .before .before .args .s)) (c .before .before .before .before .before .before .before .before .before .before .before .past-bare .result) (omega arith)))
+loop-again c = (omega arith, omega arith, pens.leads-on (run (c .before .before .before .before .before .before .before .before)) (c .before .before .put-escaped .ensures) (quoted-octet (now (c .before .before .before .before .before .before .before .before .before .before .before .before .before .before .before .before .before .before .before .before .args .s)) (c .before .before .before .before .before .before .before .before .before .before .before .past-bare .result) (omega arith)))
 
 returns-2 : tie.Need-returns-2 Inv-loop μ-loop
 unfolding printString

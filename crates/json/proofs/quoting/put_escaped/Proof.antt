@@ -1,12 +1,12 @@
--- `json::quoting::put_octet` meets its contract.
+-- `json::quoting::put_escaped` meets its contract.
 use mathlib.Core.Path.{_≡_}
 use mathlib.Core.List.{[], _∷_}
 use borrow.Author.Tests.{ne-eqb}
 use Rattle.octets.proofs.Pen.{as-text}
 use Rattle.json.specs.Print.{escaped}
 use borrow.Author.Needs.{needs}
-use Rattle.json.proofs.quoting.put_octet.Statement.{statement}
-use Rattle.json.proofs.quoting.put_octet.Tie as tie
+use Rattle.json.proofs.quoting.put_escaped.Statement.{statement}
+use Rattle.json.proofs.quoting.put_escaped.Tie as tie
 
 returns : tie.Need-returns
 unfolding escaped
@@ -30,8 +30,8 @@ returns-5 c =
     let e : c .before .before .before .before .before .before .args .b ∷ [] ≡ escaped (c .before .before .before .before .before .before .args .b) = rw (ne-eqb _ 34 (c .before .before .before .before .match .rest .0 .0 .0 .1), ne-eqb _ 92 (c .before .before .before .before .match .rest .0 .0 .1), ne-eqb _ 10 (c .before .before .before .before .match .rest .0 .1), ne-eqb _ 9 (c .before .before .before .before .match .rest .1)) in
     as-text (c .before .before .put .ensures) e
 
-pub put-octet-spec : {M : Type 1} → statement M
-put-octet-spec =
+pub put-escaped-spec : {M : Type 1} → statement M
+put-escaped-spec =
     tie.close
     (tie.spec
     (λ c. search needs)
