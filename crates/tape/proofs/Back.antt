@@ -7,6 +7,7 @@ use borrow.Author.Tests.{ne-eqb}
 use lib.ListN.{length, take, drop}
 use lib.Seq.{take-append-seam}
 use Rattle.octets.specs.Basics.{_and_}
+use Rattle.octets.specs.Search.{until}
 use Rattle.octets.proofs.Cases.{and-assoc, and-true-right}
 use Rattle.octets.proofs.Positions.{upto}
 use Rattle.json.specs.Tree.{Json, str, Items, noItems, item, Members, noMembers, member}
@@ -19,7 +20,7 @@ use Rattle.tape.proofs.Values.{shown, string-octets}
 
 -- a text and what stands behind it
 text-back : {t : List ℕ} → Clean t → (r : List ℕ) → textAtFront (serText t ++ r) ≡ t
-unfolding textAtFront
+unfolding textAtFront until
 text-back clean-end r = refl
 text-back (clean {b} n c) r = rw (ne-eqb b tagEnd n, text-back c r)
 

@@ -1,5 +1,4 @@
 pub mod Tags
-pub mod Ends
 pub mod Values
 pub mod Walks
 pub mod Scans

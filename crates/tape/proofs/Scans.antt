@@ -8,7 +8,8 @@ use borrow.Author.Tests.{ne-eqb, le-leb, lt-leb, not-true}
 use lib.Dec.{eqb, leb}
 use lib.ListN.{length, take, drop, getD, drop-of-length-le}
 use lib.Seq.{drop-drop}
-use Rattle.octets.specs.Basics.{_and_, _or_, all, same}
+use Rattle.octets.specs.Basics.{pick, _and_, _or_, all, same}
+use Rattle.octets.specs.Search.{until}
 use Rattle.octets.proofs.Cases.{cases, both, and-true-right, and-false-right, or-true-right}
 use Rattle.json.specs.Tree.{member}
 use Rattle.json.specs.Tape.{tagNumber, tagString, tagObject, tagEnd}
@@ -65,7 +66,7 @@ module _ {t : List ℕ} {i e p : ℕ} (s : Seeking t i e p) where
 
 -- where no octet is the one that a surrogate begins with, no string has a lone one
 no-lone : (p : ℕ) (s : List ℕ) → eqb p 237 ≡ false → all (λ c. not (eqb c 237)) s ≡ true → hasLone p (textAtFront s) ≡ false
-unfolding hasLone textAtFront all
+unfolding hasLone textAtFront until all
 no-lone p [] q h = refl
 no-lone p (x ∷ s) q h =
     let b = both (not (eqb x 237)) (all (λ c. not (eqb c 237)) s) h in
@@ -122,7 +123,7 @@ scan-start t = refl
 
 -- behind a text
 text-scan : (s : List ℕ) → soundAlong true s ≡ soundAlong false (drop (suc (length (textAtFront s))) s)
-unfolding textAtFront soundAlong inText
+unfolding textAtFront until soundAlong inText
 text-scan [] = refl
 text-scan (b ∷ s) = let h : soundAlong true s ≡ soundAlong false (drop (suc (length (textAtFront s))) s) = text-scan s in cases (eqb b tagEnd) (λ e. rw e) (λ e. rw e h)
 
@@ -189,27 +190,20 @@ module _ (t : List ℕ) (i : ℕ) (h : i < length t) where
   unfolding keysFrom keysAlong membersAt itemsAt view
   keys-here = rw (here t i h)
 
-  pub keys-other : ((getD t i 0 ≡ tagObject) → ⊥) → keysFrom t (i + 1) ≡ keysFrom t i
-  keys-other n = sym (keys-here ∙ rw (← (read-tag t i h), ne-eqb _ tagObject n))
-
   pub keys-object : distinctKeys (membersAt t (i + 1)) ≡ true → keysFrom t (i + 1) ≡ keysFrom t i
   keys-object q = sym (keys-here ∙ rw (q, or-true-right (not (eqb (tagAt t i) tagObject))))
 
-keys-free : (k : ℕ) (s : List ℕ) → all (λ c. not (eqb c tagObject)) (take k s) ≡ true → keysAlong (drop k s) ≡ keysAlong s
-unfolding keysAlong all
-keys-free zero s h = refl
-keys-free (suc k) [] h = refl
-keys-free (suc k) (c ∷ s) h =
-    let b = both (not (eqb c tagObject)) (all (λ x. not (eqb x tagObject)) (take k s)) h in
-    rw (b .0) (keys-free k s (b .1))
-
 -- octets among which there is no object's tag are passed together
-pub keys-block : (t : List ℕ) (i e : ℕ) → i ≤ e → all (λ c. not (eqb c tagObject)) (take (e - i) (drop i t)) ≡ true → keysFrom t e ≡ keysFrom t i
+keys-until : (s : List ℕ) → keysAlong (drop (length (until (λ c. eqb c tagObject) s)) s) ≡ keysAlong s
+unfolding keysAlong until
+keys-until [] = refl
+keys-until (c ∷ s) = let h = keys-until s in cases (eqb c tagObject)
+    (λ e. ap (λ (b : Bool). keysAlong (drop (length (pick b [] (c ∷ until (λ x. eqb x tagObject) s))) (c ∷ s))) e)
+    (λ e. rw e h)
+
+pub keys-found : (t : List ℕ) (i e : ℕ) → e ≡ i + length (until (λ c. eqb c tagObject) (drop i t)) → (i ≤ e) × (keysFrom t e ≡ keysFrom t i)
 unfolding keysFrom
-keys-block t i e l h =
-    let q : i + (e - i) ≡ e = omega arith in
-    let k : drop (e - i) (drop i t) ≡ drop e t = drop-drop (e - i) i t ∙ ap (λ (n : ℕ). drop n t) q in
-    sym (ap keysAlong k) ∙ keys-free (e - i) (drop i t) h
+keys-found t i e q = (omega arith, rw (q, ← drop-drop) (keys-until (drop i t)))
 
 -- where no octet begins a surrogate, the keys tell whether the tape is sound
 keys-along : (m : Bool) (s : List ℕ) → all (λ c. not (eqb c 237)) s ≡ true → keysAlong s ≡ true → soundAlong m s ≡ true

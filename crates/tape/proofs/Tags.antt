@@ -9,7 +9,9 @@ use borrow.Author.Tests.{ne-eqb, ltb-true, ltb-false}
 use lib.Dec.{eqb, ltb}
 use lib.ListN.{length, take, drop, getD, length-drop, drop-of-length-le, List·getD-eq-default}
 use lib.Seq.{drop-cons, drop-drop}
+use Rattle.octets.specs.Search.{until}
 use Rattle.octets.proofs.Cases.{cases}
+use Rattle.octets.proofs.Search.{scan-is, scan-high}
 use Rattle.json.specs.Tree.{Json, num, str, arr, obj, noItems}
 use Rattle.json.specs.Tape.{tagNumber, tagString, tagArray, tagObject, tagEnd}
 use Rattle.tape.specs.Decode.{Groups, last, group, top, pop, push, textAtFront, leaf, inText, intoGroups, groups, view, tagAt, textAt, itemsAt, membersAt}
@@ -43,42 +45,32 @@ module _ (t : List ℕ) (i : ℕ) where
   past-view h = rw (drop-of-length-le t {i = i} h)
 
 -- a text's end
-text-length : (s : List ℕ) → length (textAtFront s) ≤ length s
-unfolding textAtFront
-text-length [] = omega arith
-text-length (b ∷ s) = let h : length (textAtFront s) ≤ length s = text-length s in cases (eqb b tagEnd) (λ e. rw e (omega arith)) (λ e. rw e (omega arith))
-
-text-take : (s : List ℕ) → take (length (textAtFront s)) s ≡ textAtFront s
-unfolding textAtFront
-text-take [] = refl
-text-take (b ∷ s) = let h : take (length (textAtFront s)) s ≡ textAtFront s = text-take s in cases (eqb b tagEnd) (λ e. rw e) (λ e. rw (e, h))
-
 text-drop : (s : List ℕ) → groups true s ≡ groups false (drop (suc (length (textAtFront s))) s)
-unfolding textAtFront groups inText
+unfolding textAtFront until groups inText
 text-drop [] = refl
 text-drop (b ∷ s) = let h : groups true s ≡ groups false (drop (suc (length (textAtFront s))) s) = text-drop s in cases (eqb b tagEnd) (λ e. rw e) (λ e. rw e h)
 
 module _ (t : List ℕ) (i : ℕ) where
   pub text-here : i < length t → tagAt t i ≡ tagEnd → textAt t i ≡ []
-  unfolding textAt textAtFront
+  unfolding textAt textAtFront until
   text-here h e = rw (here t i h, e)
 
   pub text-on : i < length t → ((tagAt t i ≡ tagEnd) → ⊥) → textAt t i ≡ tagAt t i ∷ textAt t (i + 1)
-  unfolding textAt textAtFront
+  unfolding textAt textAtFront until
   text-on h n = rw (here t i h, ne-eqb _ tagEnd n)
 
   pub text-past : length t ≤ i → textAt t i ≡ []
-  unfolding textAt textAtFront
+  unfolding textAt textAtFront until
   text-past h = rw (drop-of-length-le t {i = i} h)
 
   -- the octets from i to e are the text at i
   pub text-part : (e : ℕ) → e ≡ i + length (textAt t i) → take (e - i) (drop i t) ≡ textAt t i
-  unfolding textAt
-  text-part e q = let n : e - i ≡ length (textAtFront (drop i t)) = omega arith in rw n (text-take (drop i t))
+  unfolding textAt textAtFront
+  text-part e q = scan-is (λ b. eqb b tagEnd) t i e q
 
   pub text-within : i ≤ length t → i + length (textAt t i) ≤ length t
-  unfolding textAt
-  text-within h = omega (arith, text-length (drop i t), length-drop i t)
+  unfolding textAt textAtFront
+  text-within h = scan-high (λ b. eqb b tagEnd) t i _ refl h
 
   text-behind : groups true (drop i t) ≡ view t (i + length (textAt t i) + 1)
   unfolding textAt view

@@ -6,6 +6,7 @@ use mathlib.Core.List.{List, [], _∷_}
 use lib.Dec.{eqb}
 use lib.ListN.{drop, getD}
 use Rattle.octets.specs.Basics.{pick, _or_}
+use Rattle.octets.specs.Search.{until}
 use Rattle.json.specs.Tree.{Json, null, falsity, truth, num, str, arr, obj, Items, noItems, item, Members, noMembers, member, listOfItems, octetsOf}
 use Rattle.json.specs.Tape.{tagFalse, tagTrue, tagNumber, tagString, tagArray, tagObject, tagEnd}
 
@@ -54,8 +55,7 @@ skipValue (group js s) = group (otherItems js) s
 
 -- the octets of a text, up to its end
 unfoldable pub textAtFront : List ℕ → List ℕ
-textAtFront [] = []
-textAtFront (b ∷ s) = pick (eqb b tagEnd) [] (b ∷ textAtFront s)
+textAtFront s = until (λ b. eqb b tagEnd) s
 
 -- the value with the tag b that is no array and no object, from what stands behind the tag
 abbrev pub leaf : ℕ → List ℕ → Json

@@ -15,13 +15,6 @@ pub record After (t : List ℕ) (i e : ℕ) : Type 0 where
   pub more : i < length t → e ≡ i + 1
   pub high : e ≤ length t
 
--- among the n octets from i on the text at i ends at r; r is behind them where it does not
-pub record Sought (t : List ℕ) (i n r : ℕ) : Type 0 where
-  pub low : i ≤ r
-  pub high : r ≤ i + n
-  pub is : r + length (textAt t r) ≡ i + length (textAt t i)
-  pub ends : r < i + n → length (textAt t r) ≡ 0
-
 -- a value that is no array and no object stands at i
 pub record Leaf (t : List ℕ) (i : ℕ) : Type 0 where
   pub inside : i < length t

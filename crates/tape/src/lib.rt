@@ -1,7 +1,6 @@
 // Navigation over the tape of a JSON value.
 mod keys;
 mod sounding;
-mod texts;
 mod walking;
 
 pub use sounding::is_sound;

@@ -4,9 +4,9 @@ use super::NUMBER;
 use super::OBJECT;
 use super::STRING;
 use super::keys::keys_distinct;
-use super::texts::BLOCK;
-use super::texts::is_free;
 use super::walking::past_text;
+use octets::find;
+use octets::is_free;
 ghost use mathlib.Core.Path.{_≡_};
 ghost use Prim.Native.Nat.{_+_, _≤_, _<_};
 ghost use mathlib.Core.Bool.{true};
@@ -87,37 +87,11 @@ fn each_sound(t: &[u8]) -> bool
     true
 }
 
-// Passes whole blocks that have no octet of an object's tag.
-fn past_blocks(t: &[u8], at: usize) -> usize
-    ensures { λ r. ⌜ (at ≤ r) × (keysFrom (now (t .entry)) r ≡ keysFrom (now (t .entry)) at) ⌝ }
-{
-    let n = t.len();
-    let mut i = at;
-    while i < n {
-        if n - i < BLOCK {
-            return i;
-        }
-        if is_free(&t[i..i + BLOCK], OBJECT) {
-            i += BLOCK;
-        } else {
-            return i;
-        }
-    }
-    i
-}
-
 // The next octet from `at` on that may be an object's tag, or the end.
 fn next_object(t: &[u8], at: usize) -> usize
     ensures { λ r. ⌜ (at ≤ r) × (keysFrom (now (t .entry)) r ≡ keysFrom (now (t .entry)) at) ⌝ }
 {
-    let mut i = past_blocks(t, at);
-    while i < t.len() {
-        if t[i] == OBJECT {
-            return i;
-        }
-        i += 1;
-    }
-    i
+    find(t, at, OBJECT)
 }
 
 // Whether the keys behind each octet that may be an object's tag are all different. Behind an end it is surely a tag; elsewhere it may stand in a

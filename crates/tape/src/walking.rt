@@ -5,7 +5,7 @@ use super::NUMBER;
 use super::OBJECT;
 use super::STRING;
 use super::Text;
-use super::texts::text_end;
+use octets::find;
 ghost use mathlib.Core.Path.{_≡_};
 ghost use Prim.Native.Nat.{_+_, min};
 ghost use lib.ListN.{length};
@@ -24,6 +24,13 @@ pub fn after(t: &[u8], at: usize) -> usize
     ensures { λ r. ⌜ After (now (t .entry)) at r ⌝ }
 {
     if at < t.len() { at + 1 } else { t.len() }
+}
+
+// Where the text at `at` ends.
+fn text_end(t: &[u8], at: usize) -> usize
+    ensures { λ r. ⌜ r ≡ at + length (textAt (now (t .entry)) at) ⌝ }
+{
+    find(t, at, END)
 }
 
 // Behind the text at `at` and its end.
