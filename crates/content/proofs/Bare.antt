@@ -10,6 +10,7 @@ use Rattle.octets.specs.Pieces.{onto, cut, joined}
 use Rattle.octets.proofs.Cases.{itself}
 use Rattle.octets.proofs.Pieces.{Free}
 use Rattle.content.specs.Line.{quoteAfter, bare, before, behind, pieces}
+use Rattle.content.specs.Form.{hasBare}
 
 -- from the quote state q on no bare `sep` stands in the text, and its quotes are closed
 abbrev pub Closed : ℕ → Bool → List ℕ → Type 0
@@ -20,6 +21,11 @@ module _ (sep : ℕ) where
   bare-sep : bare sep false sep ≡ true
   unfolding bare
   bare-sep = itself sep
+
+  pub has-closed : (q : Bool) (xs ys : List ℕ) → Closed sep q xs → hasBare sep q (xs ++ sep ∷ ys) ≡ true
+  unfolding hasBare
+  has-closed q [] ys h = rw (h, bare-sep)
+  has-closed q (x ∷ xs) ys h = rw (h .0) (has-closed (quoteAfter q x) xs ys (h .1))
 
   pub before-closed : (q : Bool) (xs ys : List ℕ) → Closed sep q xs → before sep q (xs ++ sep ∷ ys) ≡ xs
   unfolding before

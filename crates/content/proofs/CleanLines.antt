@@ -10,7 +10,7 @@ use Rattle.octets.specs.Classes.{isControl, plainOctet, textOctet}
 use Rattle.octets.specs.Utf8.{Due, start, due, dueAfter, isStart, utf8, clean}
 use Rattle.octets.proofs.Cases.{cases, same?, or-false-right, and-true-right, and-assoc, and-swap}
 use Rattle.octets.proofs.Utf8.{ascii, due-ascii, broken-stays}
-use Rattle.content.specs.Buffer.{bufferLines}
+use Rattle.content.specs.Lines.{cutLines}
 
 -- the lines are UTF-8, where d is due at the first octet
 utf8From : Due → List (List ℕ) → Bool
@@ -27,36 +27,36 @@ unfolding utf8From onto dueAfter all
 from-onto d c [] = and-true-right (isStart (due d c))
 from-onto d c (l ∷ ls) = refl
 
-from-lf : (d : Due) (c : ℕ) (s : List ℕ) → ascii c ≡ true → ((e : Due) → utf8From e (bufferLines s) ≡ isStart (dueAfter e s)) → utf8From d ([] ∷ bufferLines s) ≡ isStart (dueAfter (due d c) s)
+from-lf : (d : Due) (c : ℕ) (s : List ℕ) → ascii c ≡ true → ((e : Due) → utf8From e (cutLines s) ≡ isStart (dueAfter e s)) → utf8From d ([] ∷ cutLines s) ≡ isStart (dueAfter (due d c) s)
 unfolding utf8From dueAfter
 from-lf d c s e ih = cases (isStart d)
-    (λ h. rw (due-ascii d c e, h) (sym (from-start (bufferLines s)) ∙ ih start))
+    (λ h. rw (due-ascii d c e, h) (sym (from-start (cutLines s)) ∙ ih start))
     (λ h. rw (due-ascii d c e, h, broken-stays s) (unfold isStart in refl))
 
-utf8-from : (d : Due) (s : List ℕ) → utf8From d (bufferLines s) ≡ isStart (dueAfter d s)
-unfolding bufferLines cut dueAfter
+utf8-from : (d : Due) (s : List ℕ) → utf8From d (cutLines s) ≡ isStart (dueAfter d s)
+unfolding cutLines cut dueAfter
 utf8-from d [] = unfold utf8From in refl
 utf8-from d (c ∷ s) = same? c (code "\n")
     (λ e. rw e (from-lf d (code "\n") s (unfold ascii in refl) (λ f. utf8-from f s)))
-    (λ n. rw n (from-onto d c (bufferLines s) ∙ utf8-from (due d c) s))
+    (λ n. rw n (from-onto d c (cutLines s) ∙ utf8-from (due d c) s))
 
 plain-onto : (c : ℕ) (ls : List (List ℕ)) → all (all plainOctet) (onto c ls) ≡ (plainOctet c and all (all plainOctet) ls)
 unfolding all onto
 plain-onto c [] = and-true-right (plainOctet c and true)
 plain-onto c (l ∷ ls) = and-assoc (plainOctet c) (all plainOctet l) (all (all plainOctet) ls)
 
-plain-lines : (s : List ℕ) → all (all plainOctet) (bufferLines s) ≡ all textOctet s
-unfolding bufferLines cut all textOctet plainOctet isControl
+plain-lines : (s : List ℕ) → all (all plainOctet) (cutLines s) ≡ all textOctet s
+unfolding cutLines cut all textOctet plainOctet isControl
 plain-lines [] = refl
 plain-lines (c ∷ s) = same? c (code "\n")
     (λ e. rw e (plain-lines s))
-    (λ n. rw (n, or-false-right (plainOctet c)) (plain-onto c (bufferLines s) ∙ ap (λ (b : Bool). plainOctet c and b) (plain-lines s)))
+    (λ n. rw (n, or-false-right (plainOctet c)) (plain-onto c (cutLines s) ∙ ap (λ (b : Bool). plainOctet c and b) (plain-lines s)))
 
 clean-parts : (ls : List (List ℕ)) → all clean ls ≡ (all utf8 ls and all (all plainOctet) ls)
 unfolding all clean
 clean-parts [] = refl
 clean-parts (l ∷ ls) = rw (clean-parts ls) (sym (and-swap (utf8 l) (all utf8 ls) (all plainOctet l) (all (all plainOctet) ls)))
 
-pub clean-lines : (s : List ℕ) → all clean (bufferLines s) ≡ (utf8 s and all textOctet s)
+pub clean-lines : (s : List ℕ) → all clean (cutLines s) ≡ (utf8 s and all textOctet s)
 unfolding utf8
-clean-lines s = clean-parts (bufferLines s) ∙ rw (plain-lines s, ← from-start (bufferLines s), utf8-from start s)
+clean-lines s = clean-parts (cutLines s) ∙ rw (plain-lines s, ← from-start (cutLines s), utf8-from start s)

@@ -11,9 +11,12 @@ pub mod Physical
 pub mod ParamText
 pub mod Scanning
 pub mod Buffer
+pub mod LineMarks
 pub mod Unfolding
 pub mod CleanLines
-pub mod Forming
+pub mod HeadPieces
+pub mod LinePlaces
+pub mod PlaceSpans
 pub mod Separators
 pub mod Walking
 pub mod Tables
@@ -22,6 +25,4 @@ pub mod Telling
 pub mod Decoding
 pub mod Objects
 pub mod Tested
-pub mod HeadPieces
-pub mod FormParts
 pub mod LineParts

@@ -10,19 +10,16 @@ use Rattle.octets.specs.Basics.{octets, pick, all, filled, All}
 use Rattle.octets.specs.Pieces.{onto, cut, joined}
 use Rattle.octets.specs.Classes.{isControl, isName, plainOctet, textOctet}
 use Rattle.octets.specs.Utf8.{utf8, clean}
-use Rattle.octets.proofs.Cases.{cases, never, both, and-true, or-first, apart-not, all-All}
+use Rattle.octets.proofs.Cases.{cases, same?, never, both, and-true, or-first, apart-not, all-All}
 use Rattle.octets.proofs.Classes.{name-lower}
 use Rattle.octets.proofs.Utf8.{ascii, clean-cut}
 use Rattle.octets.proofs.Transducer.{Runs, Keeps, run-all, run-utf8}
 use Rattle.content.specs.Carets.{decodedOctet, caretAfter, decodedFrom, decoded}
-use Rattle.content.specs.Form.{formed}
 use Rattle.content.specs.Line.{Line, quoteAfter, bare, before, behind, pieces, front, unquote, paramValue, paramOf, headed, lineOf}
-use Rattle.content.specs.Parts.{otherPieces}
+use Rattle.content.specs.Form.{hasBare, quoteFree, quoteLast, inQuotes, valueFormed, paramFormed, headFormed, formed}
 use Rattle.content.proofs.Separators.{pieces-first, pieces-filled}
 use Rattle.content.proofs.Written.{Writable}
 use Rattle.content.proofs.WrittenClean.{Texts, clean-none, clean-joined}
-use Rattle.content.proofs.HeadPieces.{first, head, Ended, Paired, Parameter}
-use Rattle.content.proofs.FormParts.{formed-parts}
 
 -- decoding as a transducer: a caret waits for the octet behind it
 decodes : Runs Bool caretAfter decodedOctet (λ e. pick e (octets "^") []) decodedFrom
@@ -76,24 +73,28 @@ decoded-text v h =
     (λ e c k. decoded-all textOctet refl refl refl e c (plain-text c k)) (waits-all textOctet refl) v false h
 
 -- a value without the quotes around it
-ended-is : (s : List ℕ) → Ended s → s ≡ front s ++ code "\"" ∷ []
-unfolding front
-ended-is [] h = absurd h
-ended-is (c ∷ []) h = rw (eqb-true c (code "\"") h)
-ended-is (c ∷ d ∷ s) h = ap (λ l. c ∷ l) (ended-is (d ∷ s) h)
+last-is : (s : List ℕ) → quoteLast s ≡ true → s ≡ front s ++ code "\"" ∷ []
+unfolding front quoteLast filled
+last-is [] h = never h refl
+last-is (c ∷ []) h = same? c (code "\"") (λ e. rw e) (λ e. never h (rw e))
+last-is (c ∷ d ∷ s) h = cases (eqb c (code "\"")) (λ e. never h (rw e)) (λ e. ap (λ l. c ∷ l) (last-is (d ∷ s) (rw e at h)))
 
-front-clean : (s : List ℕ) → Ended s → clean s ≡ true → clean (front s) ≡ true
+front-clean : (s : List ℕ) → quoteLast s ≡ true → clean s ≡ true → clean (front s) ≡ true
 unfolding ascii plainOctet isControl
-front-clean s e h = both (clean (front s)) (clean []) (sym (clean-cut (front s) (code "\"") [] refl refl) ∙ ap clean (sym (ended-is s e)) ∙ h) .0
+front-clean s e h = both (clean (front s)) (clean []) (sym (clean-cut (front s) (code "\"") [] refl refl) ∙ ap clean (sym (last-is s e)) ∙ h) .0
 
-unquote-clean : (v : List ℕ) → Paired v → clean v ≡ true → clean (unquote v) ≡ true
+closed : (c : ℕ) (s : List ℕ) → valueFormed (c ∷ s) ≡ true → eqb c (code "\"") ≡ true → quoteLast s ≡ true
+unfolding valueFormed quoteFree inQuotes all
+closed c s h e = rw e at h
+
+unquote-clean : (v : List ℕ) → valueFormed v ≡ true → clean v ≡ true → clean (unquote v) ≡ true
 unfolding unquote ascii plainOctet isControl
 unquote-clean [] p h = h
 unquote-clean (c ∷ s) p h = cases (eqb c (code "\""))
-    (λ e. rw e (front-clean s (p e) (both (clean []) (clean s) (sym (clean-cut [] (code "\"") s refl refl) ∙ (rw (eqb-true c (code "\"") e) at h)) .1)))
+    (λ e. rw e (front-clean s (closed c s p e) (both (clean []) (clean s) (sym (clean-cut [] (code "\"") s refl refl) ∙ (rw (eqb-true c (code "\"") e) at h)) .1)))
     (λ e. rw e h)
 
-value-told : (v : List ℕ) → Paired v → clean v ≡ true → (utf8 (paramValue v) ≡ true) × (all textOctet (paramValue v) ≡ true)
+value-told : (v : List ℕ) → valueFormed v ≡ true → clean v ≡ true → (utf8 (paramValue v) ≡ true) × (all textOctet (paramValue v) ≡ true)
 unfolding paramValue
 value-told v p h = let b = parts (unquote-clean v p h) in (decoded-utf8 (unquote v) (b .0), decoded-text (unquote v) (b .1))
   where
@@ -139,33 +140,38 @@ module _ (sep : ℕ) (low : ascii sep ≡ true) (plain : plainOctet sep ≡ true
   pieces-clean q s h = all-All clean (pieces sep q s) (sym (clean-joined sep low plain (pieces sep q s)) ∙ ap clean (joined-pieces q s) ∙ h)
 
 -- a parameter
-param-writable : (l : List ℕ) → Parameter l → Writable (paramOf l)
+param-parts : (l : List ℕ) → paramFormed l ≡ true → (isName (before (code "=") false l) ≡ true) × (all valueFormed (pieces (code ",") false (behind (code "=") false l)) ≡ true)
+unfolding paramFormed
+param-parts l h = both _ _ (both (hasBare (code "=") false l) _ h .1)
+
+param-writable : (l : List ℕ) → paramFormed l ≡ true → Writable (paramOf l)
 unfolding paramOf filled
 param-writable l h = record {
-  named = name-lower (before (code "=") false l) (h .0);
+  named = name-lower (before (code "=") false l) (param-parts l h .0);
   valued = rw (pieces-first (code ",") false (behind (code "=") false l));
 }
 
-values-told : (vs : List (List ℕ)) → All Paired vs → All (λ v. clean v ≡ true) vs → (all utf8 (map paramValue vs) ≡ true) × (all (all textOctet) (map paramValue vs) ≡ true)
+values-told : (vs : List (List ℕ)) → all valueFormed vs ≡ true → All (λ v. clean v ≡ true) vs → (all utf8 (map paramValue vs) ≡ true) × (all (all textOctet) (map paramValue vs) ≡ true)
 unfolding all
 values-told [] p h = (refl, refl)
 values-told (v ∷ vs) p h =
-    let a = value-told v (p .0) (h .0) in
-    let b = values-told vs (p .1) (h .1) in
+    let k = both (valueFormed v) (all valueFormed vs) p in
+    let a = value-told v (k .0) (h .0) in
+    let b = values-told vs (k .1) (h .1) in
     (and-true (a .0) (b .0), and-true (a .1) (b .1))
 
-param-texts : (l : List ℕ) → Parameter l → clean l ≡ true → Texts (paramOf l)
+param-texts : (l : List ℕ) → paramFormed l ≡ true → clean l ≡ true → Texts (paramOf l)
 unfolding paramOf ascii plainOctet isControl
 param-texts l h c =
     let vs = behind (code "=") false l in
-    let t = values-told (pieces (code ",") false vs) (h .1) (pieces-clean (code ",") refl refl false vs (cut-clean (code "=") refl refl false l c .1)) in
+    let t = values-told (pieces (code ",") false vs) (param-parts l h .1) (pieces-clean (code ",") refl refl false vs (cut-clean (code "=") refl refl false l c .1)) in
     record { utf = t .0; plain = t .1 }
 
-params-writable : (ls : List (List ℕ)) → All Parameter ls → All Writable (map paramOf ls)
+params-writable : (ls : List (List ℕ)) → All (λ l. paramFormed l ≡ true) ls → All Writable (map paramOf ls)
 params-writable [] h = tt
 params-writable (l ∷ ls) h = (param-writable l (h .0), params-writable ls (h .1))
 
-params-texts : (ls : List (List ℕ)) → All Parameter ls → All (λ l. clean l ≡ true) ls → All Texts (map paramOf ls)
+params-texts : (ls : List (List ℕ)) → All (λ l. paramFormed l ≡ true) ls → All (λ l. clean l ≡ true) ls → All Texts (map paramOf ls)
 params-texts [] h c = tt
 params-texts (l ∷ ls) h c = (param-texts l (h .0) (c .0), params-texts ls (h .1) (c .1))
 
@@ -176,14 +182,17 @@ pub record Parted (l : Line) : Type 0 where
   pub texts : All Texts (l .params)
   pub value : clean (l .value) ≡ true
 
-headed-parts : (ls : List (List ℕ)) (v : List ℕ) → isName (first ls) ≡ true → All Parameter (otherPieces ls) → All (λ l. clean l ≡ true) ls → clean v ≡ true → Parted (headed ls v)
-unfolding headed otherPieces
-headed-parts [] v n h c d = record { named = n; writable = tt; texts = tt; value = d }
-headed-parts (l ∷ ls) v n h c d = record { named = n; writable = params-writable ls h; texts = params-texts ls h (c .1); value = d }
+headed-parts : (ls : List (List ℕ)) (v : List ℕ) → headFormed ls ≡ true → All (λ l. clean l ≡ true) ls → clean v ≡ true → Parted (headed ls v)
+unfolding headed headFormed
+headed-parts [] v h c d = never h refl
+headed-parts (n ∷ ps) v h c d =
+    let b = both (isName n) (all paramFormed ps) h in
+    let k = all-All paramFormed ps (b .1) in
+    record { named = b .0; writable = params-writable ps k; texts = params-texts ps k (c .1); value = d }
 
 pub line-parts : (s : List ℕ) → clean s ≡ true → formed s ≡ true → Parted (lineOf s)
-unfolding lineOf ascii plainOctet isControl
+unfolding lineOf formed ascii plainOctet isControl
 line-parts s c f =
-    let p = formed-parts s f in
     let k = cut-clean (code ":") refl refl false s c in
-    headed-parts (head false s) (behind (code ":") false s) (p .0) (p .1) (pieces-clean (code ";") refl refl false (before (code ":") false s) (k .0)) (k .1)
+    headed-parts (pieces (code ";") false (before (code ":") false s)) (behind (code ":") false s) (both (hasBare (code ":") false s) _ f .1)
+    (pieces-clean (code ";") refl refl false (before (code ":") false s) (k .0)) (k .1)

@@ -14,10 +14,10 @@ use Rattle.octets.specs.Answers.{unless}
 use Rattle.octets.proofs.Cases.{cases}
 use Rattle.octets.proofs.Pen.{kept, Landed, landed, full}
 use Rattle.octets.proofs.Positions.{upto}
-use Rattle.content.specs.Lines.{linesOf, laidOut}
-use Rattle.content.specs.Form.{formed}
-use Rattle.content.specs.Buffer.{bufferLines}
-use Rattle.content.specs.Reading.{tested, linesTold, ReadLines}
+use Rattle.content.specs.Lines.{cutLines, linesOf}
+use Rattle.content.specs.Form.{formed, contentLines}
+use Rattle.content.specs.Buffer.{laidOut}
+use Rattle.content.specs.Reading.{linesTold, ReadLines}
 use Rattle.content.specs.declared.reading.Lines.the-variants.{Laid, NotClean, NotFormed, NoRoom}
 use Rattle.content.proofs.Buffer.{lines-again}
 use Rattle.content.proofs.Unfolding.{lines-free}
@@ -44,18 +44,18 @@ module _ (s o b : List ℕ) (r : ℕ) (w : Wrote (pen o 0) (laidOut (linesOf s))
     laid-there : Landed o (laidOut (linesOf s)) b r
     laid-there = landed o (laidOut (linesOf s)) b r (leb-true (length (laidOut (linesOf s))) (length o) short) w
 
-    lines-are : bufferLines (take (r - 0) (drop 0 b)) ≡ linesOf s
-    lines-are = ap bufferLines (upto b r ∙ laid-there .front) ∙ lines-again (linesOf s) (lines-free s)
+    lines-are : cutLines (take (r - 0) (drop 0 b)) ≡ linesOf s
+    lines-are = ap cutLines (upto b r ∙ laid-there .front) ∙ lines-again (linesOf s) (lines-free s)
 
-    pub read-unclean : all clean (bufferLines (take (r - 0) (drop 0 b))) ≡ false → ReadLines s o b NotClean
-    unfolding linesTold tested unless
+    pub read-unclean : all clean (cutLines (take (r - 0) (drop 0 b))) ≡ false → ReadLines s o b NotClean
+    unfolding linesTold contentLines unless
     read-unclean c = record { buffer = buffer-is; within = tt; count = tt; told = rw (short, ← lines-are, c) }
 
-    module _ (c : all clean (bufferLines (take (r - 0) (drop 0 b))) ≡ true) where
-      pub read-unformed : all formed (bufferLines (take (r - 0) (drop 0 b))) ≡ false → ReadLines s o b NotFormed
-      unfolding linesTold tested unless
+    module _ (c : all clean (cutLines (take (r - 0) (drop 0 b))) ≡ true) where
+      pub read-unformed : all formed (cutLines (take (r - 0) (drop 0 b))) ≡ false → ReadLines s o b NotFormed
+      unfolding linesTold contentLines unless
       read-unformed f = record { buffer = buffer-is; within = tt; count = tt; told = rw (short, ← lines-are, c, f) }
 
-      pub read-laid : all formed (bufferLines (take (r - 0) (drop 0 b))) ≡ true → ReadLines s o b (Laid r)
-      unfolding linesTold tested unless
+      pub read-laid : all formed (cutLines (take (r - 0) (drop 0 b))) ≡ true → ReadLines s o b (Laid r)
+      unfolding linesTold contentLines unless
       read-laid f = record { buffer = buffer-is; within = h; count = laid-there .count; told = rw (short, ← lines-are, c, f, upto b r) }

@@ -17,7 +17,7 @@ use Rattle.octets.proofs.Positions.{here, part-length}
 use Rattle.content.specs.Line.{front, unquote}
 use Rattle.content.specs.Carets.{decodedOctet, caretAfter, decodedFrom, decoded}
 use Rattle.content.specs.Parts.{Inner}
-use Rattle.content.proofs.Forming.{beyond}
+use Rattle.content.proofs.PlaceSpans.{beyond}
 
 -- decoding leaves a name as it is, and makes no name of what is none
 out-by : (a b d : Bool) (c : ℕ) (s : List ℕ)

@@ -12,23 +12,25 @@ use Rattle.octets.specs.Classes.{between, isDigit, isUpper, isLower, isLetter, 
 use Rattle.octets.specs.Utf8.{utf8, clean}
 use Rattle.octets.proofs.Cases.{cases, never, both, apart, and-false-right, or-false, All-weaker, all-All}
 use Rattle.octets.proofs.Pieces.{Free}
-use Rattle.content.specs.Lines.{endingOf, isBlank, markOf, marked, linesFrom, linesOf}
+use Rattle.content.specs.Lines.{newlines, isBlank, unfoldedFrom, cutLines, linesOf}
+use Rattle.content.specs.LineMarks.{endingOf, lineMarkOf, marked, linesFrom}
 use Rattle.content.specs.Fold.{breaks, foldedOctet, nextColumn, foldFrom, textOf}
 use Rattle.content.specs.Line.{Param}
 use Rattle.content.specs.Write.{paramsText, lineText}
 use Rattle.content.proofs.Names.{upper-name}
+use Rattle.content.proofs.LineMarks.{lines-walked}
 
 -- an octet, a fold and an ending where a text begins
 lines-octet : (c : ℕ) (s : List ℕ) → eqb c (code "\n") ≡ false → eqb (getD s 0 0) (code "\n") ≡ false → linesFrom 0 (c ∷ s) ≡ onto c (linesFrom 0 s)
-unfolding linesFrom markOf endingOf marked
+unfolding linesFrom lineMarkOf endingOf marked
 lines-octet c s h k = rw (h, k, and-false-right (eqb c (code "\r")))
 
 lines-fold : (s : List ℕ) → linesFrom 0 (octets "\r\n " ++ s) ≡ linesFrom 0 s
-unfolding linesFrom markOf endingOf marked isBlank
+unfolding linesFrom lineMarkOf endingOf marked isBlank
 lines-fold s = refl
 
 lines-end : (s : List ℕ) → isBlank (getD s 0 0) ≡ false → linesFrom 0 (octets "\r\n" ++ s) ≡ [] ∷ linesFrom 0 s
-unfolding linesFrom markOf endingOf marked
+unfolding linesFrom lineMarkOf endingOf marked
 lines-end s h = rw h
 
 -- a folded line begins with its first octet, or with CR
@@ -78,9 +80,9 @@ upright-text (l ∷ ls) h = line-begins isBlank (unfold isBlank in refl) 0 l (te
     begins [] h = unfold isBlank in refl
     begins (c ∷ l) h = h
 
--- THE LAW, with no more than it needs: no line has an LF, and none but the first begins with a space or tab
-pub lines-back : (l : List ℕ) (ls : List (List ℕ)) → All (Free (code "\n")) (l ∷ ls) → All Upright ls → linesOf (textOf (l ∷ ls)) ≡ l ∷ ls
-unfolding linesOf textOf
+-- no line has an LF, and none but the first begins with a space or tab
+lines-back : (l : List ℕ) (ls : List (List ℕ)) → All (Free (code "\n")) (l ∷ ls) → All Upright ls → linesFrom 0 (textOf (l ∷ ls)) ≡ l ∷ ls
+unfolding textOf
 lines-back l [] f u = fold-line 0 l (textOf []) (f .0) (upright-text [] tt) ∙ (unfold linesFrom in refl)
 lines-back l (m ∷ ls) f u = fold-line 0 l (textOf (m ∷ ls)) (f .0) (upright-text (m ∷ ls) u) ∙ ap (λ r. l ∷ r) (lines-back m ls (f .1) (u .1))
 
@@ -89,9 +91,10 @@ pub clean-free : (l : List ℕ) → clean l ≡ true → Free (code "\n") l
 unfolding clean
 clean-free l h = All-weaker (λ c e. apart plainOctet c (code "\n") e (unfold plainOctet isControl in refl)) l (all-All plainOctet l (both (utf8 l) (all plainOctet l) h .1))
 
+-- THE LAW
 pub clean-lines-back : (ls : List (List ℕ)) → All (λ l. clean l ≡ true) ls → All Upright ls → linesOf (textOf ls) ≡ ls
-clean-lines-back [] c u = unfold linesOf textOf linesFrom in refl
-clean-lines-back (l ∷ ls) c u = lines-back l ls (All-weaker clean-free (l ∷ ls) c) (u .1)
+clean-lines-back [] c u = unfold linesOf textOf newlines unfoldedFrom cutLines in refl
+clean-lines-back (l ∷ ls) c u = lines-walked (textOf (l ∷ ls)) ∙ lines-back l ls (All-weaker clean-free (l ∷ ls) c) (u .1)
 
 -- a content line begins with an octet of its name
 name-upright : (n s : List ℕ) → isName n ≡ true → Upright (n ++ s)

@@ -1,7 +1,7 @@
 -- Unfolding by runs: what stands before an LF goes into its line, but for a CR right before it; the LF ends the line or folds it.
 use Prim.Native.Nat.{ℕ, zero, suc, _+_, _-_, _≤_, _<_}
 use Prim.Native.Char.{code}
-use mathlib.Core.Path.{_≡_, refl, sym, ap, _∙_}
+use mathlib.Core.Path.{_≡_, refl, ap, _∙_}
 use mathlib.Core.Bool.{Bool, true, false}
 use mathlib.Core.List.{List, [], _∷_, _++_, append-nil, append-assoc}
 use native.Mathlib.Omega.{arith}
@@ -16,11 +16,13 @@ use Rattle.octets.proofs.Cases.{cases, and-false-right, or-false-right, or-true
 use Rattle.octets.proofs.Pen.{kept, landed}
 use Rattle.octets.proofs.Pieces.{Free}
 use Rattle.octets.proofs.Positions.{here, ended, part-more, part-length, first-of}
-use Rattle.content.specs.Lines.{endingOf, isBlank, Mark, octet, ending, fold, markOf, marked, linesFrom, linesOf, laidOut}
+use Rattle.content.specs.Lines.{newlines, isBlank, unfoldedFrom, isLf, cutLines, linesOf}
+use Rattle.content.specs.LineMarks.{LineMark, octet, ending, fold, lineMarkOf, marked, linesFrom}
 use Rattle.content.specs.Scan.{until}
-use Rattle.content.specs.Buffer.{isLf, bufferLines}
+use Rattle.content.specs.Buffer.{laidOut}
 use Rattle.content.proofs.Scanning.{until-free, scan-low, scan-is, scan-stop, scan-split, scan-whole}
-use Rattle.content.proofs.Buffer.{lines-again}
+use Rattle.content.proofs.LineMarks.{behindLf, plain-mark, run-octet, run-none, run-cr, lines-walked}
+use Rattle.content.proofs.Buffer.{cut-free, lines-again}
 
 -- octets in front of the first line
 ontoAll : List ℕ → List (List ℕ) → List (List ℕ)
@@ -33,42 +35,10 @@ withoutCr [] = []
 withoutCr (c ∷ []) = pick (eqb c (code "\r")) [] (c ∷ [])
 withoutCr (c ∷ d ∷ s) = c ∷ withoutCr (d ∷ s)
 
--- what an LF makes of the lines behind it: it folds where a blank follows, and ends a line elsewhere
-behindLf : List ℕ → List (List ℕ)
-behindLf t = pick (isBlank (getD t 0 0)) (linesFrom 1 t) ([] ∷ linesFrom 0 t)
-
--- an octet that begins no ending
-plain-mark : (c : ℕ) (s : List ℕ) → eqb c (code "\n") ≡ false → (eqb c (code "\r") and eqb (getD s 0 0) (code "\n")) ≡ false → markOf (c ∷ s) ≡ octet
-unfolding markOf endingOf
-plain-mark c s e f = rw (e, f)
-
 lines-past : (t : List ℕ) → linesFrom 1 t ≡ linesFrom 0 (drop 1 t)
 unfolding linesFrom
 lines-past [] = refl
 lines-past (c ∷ t) = refl
-
--- an LF, and a CR before it
-lf-by : (b : Bool) (t : List ℕ) → marked (pick b (fold 1) (ending 0)) (code "\n") (λ k. linesFrom k t) ≡ pick b (linesFrom 1 t) ([] ∷ linesFrom 0 t)
-unfolding marked
-lf-by true t = refl
-lf-by false t = refl
-
-run-none : (t : List ℕ) → linesFrom 0 (code "\n" ∷ t) ≡ behindLf t
-unfolding linesFrom markOf endingOf behindLf
-run-none t = lf-by (isBlank (getD t 0 0)) t
-
-crlf-by : (c : ℕ) (b : Bool) (t : List ℕ) → marked (pick b (fold 2) (ending 1)) c (λ k. linesFrom k (code "\n" ∷ t)) ≡ pick b (linesFrom 1 t) ([] ∷ linesFrom 0 t)
-unfolding marked linesFrom
-crlf-by c true t = refl
-crlf-by c false t = refl
-
-run-cr : (c : ℕ) (t : List ℕ) → eqb c (code "\n") ≡ false → eqb c (code "\r") ≡ true → linesFrom 0 (c ∷ code "\n" ∷ t) ≡ behindLf t
-unfolding linesFrom markOf endingOf behindLf
-run-cr c t e f = rw (e, f) (crlf-by c (isBlank (getD t 0 0)) t)
-
-run-octet : (c : ℕ) (s : List ℕ) → markOf (c ∷ s) ≡ octet → linesFrom 0 (c ∷ s) ≡ onto c (linesFrom 0 s)
-unfolding linesFrom marked
-run-octet c s e = rw e
 
 run-one : (c : ℕ) (t : List ℕ) → eqb c (code "\n") ≡ false → linesFrom 0 (c ∷ code "\n" ∷ t) ≡ ontoAll (withoutCr (c ∷ [])) (behindLf t)
 unfolding withoutCr ontoAll
@@ -207,7 +177,6 @@ module _ (s : List ℕ) (b : Bool) (i e : ℕ) (q : e ≡ i + length (until isLf
 
   pub turn-fold : (k : ℕ) → k ≡ trimTo s i e → e < length s → isBlank (getD s (e + 1) 0) ≡ true
       → laidFrom b (linesFrom 0 (drop i s)) ≡ take (k - i) (drop i s) ++ laidFrom (b or ltb i k) (linesFrom 0 (drop (e + 2) s))
-  unfolding behindLf
   turn-fold k t l f =
       let n : e + 1 + 1 ≡ e + 2 = omega arith in
       let d : drop 1 (drop (e + 1) s) ≡ drop (e + 2) s = drop-drop 1 (e + 1) s ∙ rw n in
@@ -215,7 +184,6 @@ module _ (s : List ℕ) (b : Bool) (i e : ℕ) (q : e ≡ i + length (until isLf
 
   pub turn-end : (k : ℕ) → k ≡ trimTo s i e → e < length s → isBlank (getD s (e + 1) 0) ≡ false
       → laidFrom b (linesFrom 0 (drop i s)) ≡ (take (k - i) (drop i s) ++ code "\n" ∷ []) ++ laidFrom false (linesFrom 0 (drop (e + 1) s))
-  unfolding behindLf
   turn-end k t l f = run-on l ∙ rw (t, append-assoc, first-of s (e + 1), f, laid-lf)
 
 pub turn-none : (s : List ℕ) (b : Bool) (i : ℕ) → length s ≤ i → laidFrom b (linesFrom 0 (drop i s)) ≡ pick b (code "\n" ∷ []) []
@@ -224,45 +192,15 @@ turn-none s true i h = rw (ended s i h)
 turn-none s false i h = rw (ended s i h)
 
 pub laid-start : (s : List ℕ) → laidFrom false (linesFrom 0 (drop 0 s)) ≡ laidOut (linesOf s)
-unfolding linesOf
-laid-start s = laid-fresh (linesFrom 0 s)
+laid-start s = rw (lines-walked s) (laid-fresh (linesFrom 0 s))
 
 -- no LF in a line of a text
-free-onto : (c : ℕ) (ls : List (List ℕ)) → eqb c (code "\n") ≡ false → All (Free (code "\n")) ls → All (Free (code "\n")) (onto c ls)
-unfolding onto
-free-onto c [] e h = ((e, tt), tt)
-free-onto c (l ∷ ls) e h = ((e, h .0), h .1)
-
-lf-mark : (c : ℕ) (s : List ℕ) → eqb c (code "\n") ≡ true → markOf (c ∷ s) ≡ pick (isBlank (getD s 0 0)) (fold 1) (ending 0)
-unfolding markOf endingOf
-lf-mark c s e = rw e
-
-free-marked : (m : Mark) (c : ℕ) (s : List ℕ) → (m ≡ octet → eqb c (code "\n") ≡ false) → ((k : ℕ) → All (Free (code "\n")) (linesFrom k s))
-    → All (Free (code "\n")) (marked m c (λ k. linesFrom k s))
-unfolding marked
-free-marked octet c s f h = free-onto c (linesFrom 0 s) (f refl) (h 0)
-free-marked (ending k) c s f h = (tt, h k)
-free-marked (fold k) c s f h = h k
-
-no-octet : (b : Bool) → pick b (fold 1) (ending 0) ≡ octet → ⊥
-no-octet true e = let z : _≡_ {A = ℕ} 0 1 = cc in omega arith
-no-octet false e = let z : _≡_ {A = ℕ} 0 1 = cc in omega arith
-
-octet-free : (c : ℕ) (s : List ℕ) → markOf (c ∷ s) ≡ octet → eqb c (code "\n") ≡ false
-octet-free c s q = cases (eqb c (code "\n")) (λ e. absurd (no-octet (isBlank (getD s 0 0)) (sym (lf-mark c s e) ∙ q))) (λ e. e)
-
-free-from : (k : ℕ) (s : List ℕ) → All (Free (code "\n")) (linesFrom k s)
-unfolding linesFrom
-free-from k [] = tt
-free-from (suc k) (c ∷ s) = free-from k s
-free-from zero (c ∷ s) = free-marked (markOf (c ∷ s)) c s (octet-free c s) (λ k. free-from k s)
-
 pub lines-free : (s : List ℕ) → All (Free (code "\n")) (linesOf s)
 unfolding linesOf
-lines-free s = free-from 0 s
+lines-free s = cut-free (unfoldedFrom 0 (newlines s))
 
 -- the lines laid out are at most an octet longer than the text
-short-by : (m : Mark) (b : Bool) (c : ℕ) (s : List ℕ) → ((a : Bool) (k : ℕ) → length (laidFrom a (linesFrom k s)) ≤ length s + 1)
+short-by : (m : LineMark) (b : Bool) (c : ℕ) (s : List ℕ) → ((a : Bool) (k : ℕ) → length (laidFrom a (linesFrom k s)) ≤ length s + 1)
     → length (laidFrom b (marked m c (λ k. linesFrom k s))) ≤ suc (length s) + 1
 unfolding marked
 short-by octet b c s h = rw (laid-one b c (linesFrom 0 s)) (omega (arith, h true 0))
@@ -274,17 +212,16 @@ unfolding linesFrom laidFrom
 short true k [] = omega arith
 short false k [] = omega arith
 short b (suc k) (c ∷ s) = omega (arith, short b k s)
-short b zero (c ∷ s) = short-by (markOf (c ∷ s)) b c s (λ a k. short a k s)
+short b zero (c ∷ s) = short-by (lineMarkOf (c ∷ s)) b c s (λ a k. short a k s)
 
 pub laid-short : (s : List ℕ) → length (laidOut (linesOf s)) ≤ length s + 1
-unfolding linesOf
-laid-short s = rw (← laid-fresh (linesFrom 0 s)) (short false 0 s)
+laid-short s = rw (lines-walked s, ← laid-fresh (linesFrom 0 s)) (short false 0 s)
 
 -- what `unfold` leaves in a buffer that is longer than the text
 pub record Unfolded (s b : List ℕ) (r : ℕ) : Type 0 where
   pub within : r ≤ length b
   pub laid : take r b ≡ laidOut (linesOf s)
-  pub lines : bufferLines (take r b) ≡ linesOf s
+  pub lines : cutLines (take r b) ≡ linesOf s
 
 pub unfolded : (s o b : List ℕ) (r : ℕ) → length s < length o → Wrote (pen o 0) (laidOut (linesOf s)) (pen b r) → Unfolded s b r
 unfolded s o b r h w =
@@ -292,5 +229,5 @@ unfolded s o b r h w =
     record {
       within = omega (arith, l .count, kept w, laid-short s);
       laid = l .front;
-      lines = ap bufferLines (l .front) ∙ lines-again (linesOf s) (lines-free s);
+      lines = ap cutLines (l .front) ∙ lines-again (linesOf s) (lines-free s);
     }

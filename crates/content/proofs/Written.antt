@@ -55,7 +55,7 @@ value-closed sep s v = cases (any asksQuotes v)
     (λ e. rw e (closed-quoted sep (apart-not asksQuotes (code "\"") sep (unfold asksQuotes in refl) s) (encoded v) (no-quotes v)))
     (λ e. rw e (closed-all sep (encoded v) (unasked sep s (encoded v) (no-quotes v) (asks-alike v ∙ e))))
 
-values-closed : (sep : ℕ) → asksQuotes sep ≡ true → (vs : List (List ℕ)) → All (Closed sep false) (map paramValueText vs)
+pub values-closed : (sep : ℕ) → asksQuotes sep ≡ true → (vs : List (List ℕ)) → All (Closed sep false) (map paramValueText vs)
 values-closed sep s [] = tt
 values-closed sep s (v ∷ vs) = (value-closed sep s v, values-closed sep s vs)
 
@@ -65,7 +65,7 @@ name-inner sep s [] h = tt
 name-inner sep s (x ∷ n) h =
     ((apart nameOctet x sep (h .0) s, apart nameOctet x (code "\"") (h .0) (unfold nameOctet isLetter isUpper isLower isDigit between in refl)), name-inner sep s n (h .1))
 
-name-closed : (sep : ℕ) → nameOctet sep ≡ false → (n : List ℕ) → isName n ≡ true → Closed sep false n
+pub name-closed : (sep : ℕ) → nameOctet sep ≡ false → (n : List ℕ) → isName n ≡ true → Closed sep false n
 unfolding isName
 name-closed sep s n h = closed-all sep n (name-inner sep s n (all-All nameOctet n (both (filled n) (all nameOctet n) h .1)))
 
@@ -75,10 +75,10 @@ pub record Writable (p : Param) : Type 0 where
   pub valued : filled (p .values) ≡ true
 
 -- its text behind the semicolon
-abbrev body : Param → List ℕ
+abbrev pub body : Param → List ℕ
 body p = upper (p .name) ++ code "=" ∷ joined (code ",") (map paramValueText (p .values))
 
-caps : (p : Param) → Writable p → isName (upper (p .name)) ≡ true
+pub caps : (p : Param) → Writable p → isName (upper (p .name)) ≡ true
 caps p w = upper-name (p .name) (lower-name (p .name) (w .named))
 
 pieces-values : (vs : List (List ℕ)) → filled vs ≡ true → map paramValue (pieces (code ",") false (joined (code ",") (map paramValueText vs))) ≡ vs
@@ -87,11 +87,14 @@ pieces-values [] h = absurd (false≢true h)
 pieces-values (v ∷ vs) h =
     rw (pieces-joined (code ",") refl (paramValueText v) (map paramValueText vs) (values-closed (code ",") (unfold asksQuotes in refl) (v ∷ vs))) (values-back (v ∷ vs))
 
+pub equals-closed : (p : Param) → Writable p → Closed (code "=") false (upper (p .name))
+equals-closed p w = name-closed (code "=") (unfold nameOctet isLetter isUpper isLower isDigit between in refl) (upper (p .name)) (caps p w)
+
 param-back : (p : Param) → Writable p → paramOf (body p) ≡ p
 unfolding paramOf
 param-back p w =
     let vs = joined (code ",") (map paramValueText (p .values)) in
-    let c : Closed (code "=") false (upper (p .name)) = name-closed (code "=") (unfold nameOctet isLetter isUpper isLower isDigit between in refl) (upper (p .name)) (caps p w) in
+    let c = equals-closed p w in
     rw (before-closed (code "=") false (upper (p .name)) vs c, behind-closed (code "=") false (upper (p .name)) vs c, pieces-values (p .values) (w .valued), lower-upper (p .name) (w .named))
 
 params-back : (ps : List Param) → All Writable ps → map paramOf (map body ps) ≡ ps
@@ -99,9 +102,9 @@ params-back [] h = refl
 params-back (p ∷ ps) h = rw (param-back p (h .0), params-back ps (h .1))
 
 -- the separators of a line's head: no octet of a name, and none within a parameter but in quotes
-record Separator (sep : ℕ) : Type 0 where
-  asks : asksQuotes sep ≡ true
-  outside : nameOctet sep ≡ false
+pub record Separator (sep : ℕ) : Type 0 where
+  pub asks : asksQuotes sep ≡ true
+  pub outside : nameOctet sep ≡ false
   equals : eqb (code "=") sep ≡ false
   comma : eqb (code ",") sep ≡ false
 
@@ -109,7 +112,7 @@ colon : Separator (code ":")
 unfolding asksQuotes nameOctet isLetter isUpper isLower isDigit between
 colon = record { asks = refl; outside = refl; equals = refl; comma = refl }
 
-semicolon : Separator (code ";")
+pub semicolon : Separator (code ";")
 unfolding asksQuotes nameOctet isLetter isUpper isLower isDigit between
 semicolon = record { asks = refl; outside = refl; equals = refl; comma = refl }
 
@@ -120,7 +123,7 @@ body-closed sep s p w =
     (closed-cons sep (code "=") (joined (code ",") vs) (s .equals, refl) (closed-joined sep (code ",") (s .comma, refl) vs (values-closed sep (s .asks) (p .values))))
 
 -- the parameters behind the text l
-pieces-params : (l : List ℕ) (ps : List Param) → Closed (code ";") false l → All Writable ps → pieces (code ";") false (l ++ paramsText ps) ≡ l ∷ map body ps
+pub pieces-params : (l : List ℕ) (ps : List Param) → Closed (code ";") false l → All Writable ps → pieces (code ";") false (l ++ paramsText ps) ≡ l ∷ map body ps
 unfolding paramsText paramText
 pieces-params l [] c h = rw (append-nil l) (pieces-last (code ";") false l c)
 pieces-params l (p ∷ ps) c h =
@@ -134,17 +137,19 @@ params-closed (p ∷ ps) h =
     closed-cons (code ":") (code ";") (body p ++ paramsText ps) (refl, refl)
     (closed-append (code ":") false (body p) (paramsText ps) (body-closed (code ":") colon p (h .0)) (params-closed ps (h .1)))
 
+pub head-closed : (n : List ℕ) (ps : List Param) → isName n ≡ true → All Writable ps → Closed (code ":") false (upper n ++ paramsText ps)
+head-closed n ps h w = closed-append (code ":") false (upper n) (paramsText ps) (name-closed (code ":") (colon .outside) (upper n) (upper-name n h)) (params-closed ps w)
+
 -- THE LAW: a written line is read again, whatever the octets of its values
 pub line-back : (n : List ℕ) (ps : List Param) (v : List ℕ) → isName n ≡ true → All Writable ps → lineOf (lineText n ps v) ≡ record { name = upper n; params = ps; value = v }
 unfolding lineOf lineText headed
 line-back n ps v h w =
-    let k : isName (upper n) ≡ true = upper-name n h in
     let head = upper n ++ paramsText ps in
-    let c : Closed (code ":") false head = closed-append (code ":") false (upper n) (paramsText ps) (name-closed (code ":") (colon .outside) (upper n) k) (params-closed ps w) in
+    let c = head-closed n ps h w in
     rw (
       ← (append-assoc (upper n) (paramsText ps) (code ":" ∷ v)),
       before-closed (code ":") false head v c,
       behind-closed (code ":") false head v c,
-      pieces-params (upper n) ps (name-closed (code ";") (semicolon .outside) (upper n) k) w,
+      pieces-params (upper n) ps (name-closed (code ";") (semicolon .outside) (upper n) (upper-name n h)) w,
       params-back ps w,
     )

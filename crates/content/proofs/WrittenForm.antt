@@ -1,161 +1,74 @@
 -- A content line that is written has the form of number 4.
 use Prim.Native.Nat.{ℕ}
 use Prim.Native.Char.{code}
-use mathlib.Core.Path.{_≡_, refl, ap, _∙_}
-use mathlib.Core.Bool.{true, false, false≢true}
-use mathlib.Core.List.{List, [], _∷_, _++_, map}
-use lib.Dec.{eqb}
+use mathlib.Core.Path.{_≡_, refl}
+use mathlib.Core.Bool.{true, false}
+use mathlib.Core.List.{List, [], _∷_, _++_, map, append-assoc}
 use Rattle.octets.specs.Basics.{all, any, filled, All}
 use Rattle.octets.specs.Pieces.{joined}
-use Rattle.octets.specs.Classes.{between, isDigit, isUpper, isLower, isLetter, nameOctet, isName, upper}
-use Rattle.octets.proofs.Cases.{cases, neither, both, apart-not}
+use Rattle.octets.specs.Classes.{isName, upper}
+use Rattle.octets.proofs.Cases.{cases, never, and-true}
 use Rattle.octets.proofs.Pieces.{Free}
 use Rattle.content.specs.Carets.{encoded}
-use Rattle.content.specs.Form.{Place, start, name, paramStart, paramName, valueStart, plain, quoted, unquoted, value, behindValue, inValue, place, placeAfter, isValue, formed}
-use Rattle.content.specs.Line.{Param}
-use Rattle.content.specs.Write.{asksQuotes, quotedIf, paramValueText, paramText, paramsText, lineText}
-use Rattle.content.proofs.Names.{lower-name, upper-name}
-use Rattle.content.proofs.Encoded.{no-quotes, asks-alike}
-use Rattle.content.proofs.Written.{Writable}
+use Rattle.content.specs.Line.{Param, pieces}
+use Rattle.content.specs.Form.{quoteFree, quoteLast, inQuotes, valueFormed, paramFormed, headFormed, formed}
+use Rattle.content.specs.Write.{asksQuotes, quotedIf, paramValueText, lineText, paramsText}
+use Rattle.content.proofs.Names.{upper-name}
+use Rattle.content.proofs.Encoded.{no-quotes}
+use Rattle.content.proofs.Bare.{has-closed, before-closed, behind-closed, pieces-joined}
+use Rattle.content.proofs.Written.{Writable, body, caps, equals-closed, head-closed, semicolon, name-closed, values-closed, pieces-params}
 
-place-append : (p : Place) (xs ys : List ℕ) → placeAfter p (xs ++ ys) ≡ placeAfter (placeAfter p xs) ys
-unfolding placeAfter
-place-append p [] ys = refl
-place-append p (x ∷ xs) ys = place-append (place p x) xs ys
+-- a value, in quotes or without
+free-value : (v : List ℕ) → Free (code "\"") v → quoteFree v ≡ true
+unfolding quoteFree all
+free-value [] h = refl
+free-value (c ∷ v) h = rw (h .0) (free-value v (h .1))
 
--- the places that octets of their own kind do not leave
-in-value : (s : List ℕ) → placeAfter value s ≡ value
-unfolding placeAfter place
-in-value [] = refl
-in-value (c ∷ s) = in-value s
+last-value : (v : List ℕ) → Free (code "\"") v → quoteLast (v ++ code "\"" ∷ []) ≡ true
+unfolding quoteLast filled
+last-value [] h = refl
+last-value (c ∷ v) h = rw (h .0) (last-value v (h .1))
 
-in-quotes : (v : List ℕ) → Free (code "\"") v → placeAfter quoted v ≡ quoted
-unfolding placeAfter place
-in-quotes [] h = refl
-in-quotes (c ∷ v) h = rw (h .0) (in-quotes v (h .1))
+value-formed : (v : List ℕ) → valueFormed (paramValueText v) ≡ true
+unfolding valueFormed paramValueText quotedIf
+value-formed v = cases (any asksQuotes v)
+    (λ e. rw e (unfold quoteFree inQuotes all in last-value (encoded v) (no-quotes v)))
+    (λ e. rw (e, free-value (encoded v) (no-quotes v)))
 
-in-plain : (v : List ℕ) → Free (code "\"") v → any asksQuotes v ≡ false → placeAfter plain v ≡ plain
-unfolding placeAfter place inValue behindValue any
-in-plain [] h n = refl
-in-plain (c ∷ v) h n =
-    let o = neither (asksQuotes c) (any asksQuotes v) n in
-    rw (
-      apart-not asksQuotes c (code ",") (o .0) (unfold asksQuotes in refl),
-      apart-not asksQuotes c (code ";") (o .0) (unfold asksQuotes in refl),
-      apart-not asksQuotes c (code ":") (o .0) (unfold asksQuotes in refl),
-      h .0,
-    )
-    (in-plain v (h .1) (o .1))
+values-formed : (vs : List (List ℕ)) → all valueFormed (map paramValueText vs) ≡ true
+unfolding all
+values-formed [] = refl
+values-formed (v ∷ vs) = and-true (value-formed v) (values-formed vs)
 
--- a line's name and a parameter's, from their first octet on
-in-name : (n : List ℕ) → all nameOctet n ≡ true → placeAfter name n ≡ name
-unfolding placeAfter place all
-in-name [] h = refl
-in-name (c ∷ n) h = let b = both (nameOctet c) (all nameOctet n) h in rw (b .0) (in-name n (b .1))
+pieces-formed : (vs : List (List ℕ)) → filled vs ≡ true → all valueFormed (pieces (code ",") false (joined (code ",") (map paramValueText vs))) ≡ true
+unfolding filled
+pieces-formed [] h = never h refl
+pieces-formed (v ∷ vs) h =
+    rw (pieces-joined (code ",") refl (paramValueText v) (map paramValueText vs) (values-closed (code ",") (unfold asksQuotes in refl) (v ∷ vs))) (values-formed (v ∷ vs))
 
-in-param : (n : List ℕ) → all nameOctet n ≡ true → placeAfter paramName n ≡ paramName
-unfolding placeAfter place all
-in-param [] h = refl
-in-param (c ∷ n) h = let b = both (nameOctet c) (all nameOctet n) h in rw (b .0) (in-param n (b .1))
+param-formed : (p : Param) → Writable p → paramFormed (body p) ≡ true
+unfolding paramFormed
+param-formed p w =
+    let vs = joined (code ",") (map paramValueText (p .values)) in
+    let c = equals-closed p w in
+    rw (has-closed (code "=") false (upper (p .name)) vs c, before-closed (code "=") false (upper (p .name)) vs c, behind-closed (code "=") false (upper (p .name)) vs c)
+    (and-true (caps p w) (pieces-formed (p .values) (w .valued)))
 
-line-name : (n : List ℕ) → isName n ≡ true → placeAfter start n ≡ name
-unfolding isName filled all placeAfter place
-line-name [] h = absurd (false≢true h)
-line-name (c ∷ n) h = let b = both (nameOctet c) (all nameOctet n) h in rw (b .0) (in-name n (b .1))
-
-param-name : (n : List ℕ) → isName n ≡ true → placeAfter paramStart n ≡ paramName
-unfolding isName filled all placeAfter place
-param-name [] h = absurd (false≢true h)
-param-name (c ∷ n) h = let b = both (nameOctet c) (all nameOctet n) h in rw (b .0) (in-param n (b .1))
-
--- where comma, semicolon and colon end a value
-record Ends (p : Place) : Type 0 where
-  comma : place p (code ",") ≡ valueStart
-  semicolon : place p (code ";") ≡ paramStart
-  colon : place p (code ":") ≡ value
-
-ends-start : Ends valueStart
-unfolding place inValue behindValue
-ends-start = record { comma = refl; semicolon = refl; colon = refl }
-
-ends-plain : Ends plain
-unfolding place inValue behindValue
-ends-plain = record { comma = refl; semicolon = refl; colon = refl }
-
-ends-unquoted : Ends unquoted
-unfolding place behindValue
-ends-unquoted = record { comma = refl; semicolon = refl; colon = refl }
-
--- a value that is written ends so
-plain-ends : (e : List ℕ) → Free (code "\"") e → any asksQuotes e ≡ false → Ends (placeAfter valueStart e)
-plain-ends [] h n = unfold placeAfter in ends-start
-plain-ends (c ∷ e) h n = rw (first c e (h .0) ∙ in-plain (c ∷ e) h n) ends-plain
-  where
-    first : (c : ℕ) (e : List ℕ) → eqb c (code "\"") ≡ false → placeAfter valueStart (c ∷ e) ≡ placeAfter plain (c ∷ e)
-    first c e h = unfold placeAfter place in rw h
-
-quoted-ends : (e : List ℕ) → Free (code "\"") e → Ends (placeAfter valueStart (code "\"" ∷ e ++ code "\"" ∷ []))
-quoted-ends e h = rw through ends-unquoted
-  where
-    through : placeAfter valueStart (code "\"" ∷ e ++ code "\"" ∷ []) ≡ unquoted
-    through = unfold placeAfter place in (place-append quoted e (code "\"" ∷ []) ∙ rw (in-quotes e h))
-
-value-ends : (v : List ℕ) → Ends (placeAfter valueStart (paramValueText v))
-unfolding paramValueText quotedIf
-value-ends v = cases (any asksQuotes v)
-    (λ e. rw e (quoted-ends (encoded v) (no-quotes v)))
-    (λ e. rw e (plain-ends (encoded v) (no-quotes v) (asks-alike v ∙ e)))
-
-values-end : (vs : List (List ℕ)) → Ends (placeAfter valueStart (joined (code ",") (map paramValueText vs)))
-unfolding joined
-values-end [] = unfold placeAfter in ends-start
-values-end (v ∷ []) = value-ends v
-values-end (v ∷ w ∷ vs) =
-    rw (place-append valueStart (paramValueText v) (code "," ∷ joined (code ",") (map paramValueText (w ∷ vs))), after (joined (code ",") (map paramValueText (w ∷ vs))) (value-ends v)) (values-end (w ∷ vs))
-  where
-    after : {p : Place} (s : List ℕ) → Ends p → placeAfter p (code "," ∷ s) ≡ placeAfter valueStart s
-    after s e = unfold placeAfter in rw (e .comma)
-
--- behind the line's name or a parameter
-record Opens (p : Place) : Type 0 where
-  semicolon : place p (code ";") ≡ paramStart
-  colon : place p (code ":") ≡ value
-
-opens-name : Opens name
-unfolding place nameOctet isLetter isUpper isLower isDigit between
-opens-name = record { semicolon = refl; colon = refl }
-
-param-opens : (p : Place) (q : Param) → Opens p → Writable q → Opens (placeAfter p (paramText q))
-unfolding paramText
-param-opens p q o w = rw through (record { semicolon = e .semicolon; colon = e .colon })
-  where
-    vs : List ℕ
-    vs = joined (code ",") (map paramValueText (q .values))
-
-    e : Ends (placeAfter valueStart vs)
-    e = values-end (q .values)
-
-    semi : (s : List ℕ) → placeAfter p (code ";" ∷ s) ≡ placeAfter paramStart s
-    semi s = unfold placeAfter in rw (o .semicolon)
-
-    equals : (s : List ℕ) → placeAfter paramName (code "=" ∷ s) ≡ placeAfter valueStart s
-    equals s = unfold placeAfter place nameOctet isLetter isUpper isLower isDigit between in refl
-
-    through : placeAfter p (code ";" ∷ upper (q .name) ++ code "=" ∷ vs) ≡ placeAfter valueStart vs
-    through = semi (upper (q .name) ++ code "=" ∷ vs) ∙ place-append paramStart (upper (q .name)) (code "=" ∷ vs)
-        ∙ ap (λ r. placeAfter r (code "=" ∷ vs)) (param-name (upper (q .name)) (upper-name (q .name) (lower-name (q .name) (w .named)))) ∙ equals vs
-
-params-open : (p : Place) (ps : List Param) → Opens p → All Writable ps → Opens (placeAfter p (paramsText ps))
-unfolding paramsText
-params-open p [] o h = unfold placeAfter in o
-params-open p (q ∷ ps) o h = rw (place-append p (paramText q) (paramsText ps)) (params-open (placeAfter p (paramText q)) ps (param-opens p q o (h .0)) (h .1))
+params-formed : (ps : List Param) → All Writable ps → all paramFormed (map body ps) ≡ true
+unfolding all
+params-formed [] h = refl
+params-formed (p ∷ ps) h = and-true (param-formed p (h .0)) (params-formed ps (h .1))
 
 -- THE LAW: a written line has the form, whatever the octets of its values
 pub line-formed : (n : List ℕ) (ps : List Param) (v : List ℕ) → isName n ≡ true → All Writable ps → formed (lineText n ps v) ≡ true
-unfolding formed lineText
+unfolding formed lineText headFormed
 line-formed n ps v h w =
-    rw (place-append start (upper n) (paramsText ps ++ code ":" ∷ v), line-name (upper n) (upper-name n h), place-append name (paramsText ps) (code ":" ∷ v))
-    (last (params-open name ps opens-name w))
-  where
-    last : {p : Place} → Opens p → isValue (placeAfter p (code ":" ∷ v)) ≡ true
-    last o = unfold placeAfter isValue in rw (o .colon, in-value v)
+    let head = upper n ++ paramsText ps in
+    let c = head-closed n ps h w in
+    rw (
+      ← (append-assoc (upper n) (paramsText ps) (code ":" ∷ v)),
+      has-closed (code ":") false head v c,
+      before-closed (code ":") false head v c,
+      pieces-params (upper n) ps (name-closed (code ";") (semicolon .outside) (upper n) (upper-name n h)) w,
+    )
+    (and-true (upper-name n h) (params-formed ps w))

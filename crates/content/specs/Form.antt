@@ -1,52 +1,50 @@
--- The form of a content line: name, parameters, colon, value (01, number 4; RFC 5545 3.1).
+-- The form of a content line (01, number 4; RFC 5545 3.1), by the pieces that `lineOf` cuts it into; and the tests of all lines, in their order.
 use Prim.Native.Nat.{ℕ}
 use Prim.Native.Char.{code}
-use mathlib.Core.Bool.{Bool, true, false}
+use mathlib.Core.Bool.{Bool, false, not}
 use mathlib.Core.List.{List, [], _∷_}
 use lib.Dec.{eqb}
-use Rattle.octets.specs.Basics.{pick}
-use Rattle.octets.specs.Classes.{nameOctet}
+use Rattle.octets.specs.Basics.{pick, _and_, _or_, all, filled}
+use Rattle.octets.specs.Classes.{isName}
+use Rattle.octets.specs.Utf8.{clean}
+use Rattle.octets.specs.Answers.{Answer, accepted, unless}
+use Rattle.content.specs.Line.{quoteAfter, bare, before, behind, pieces}
 
--- Where in a line the next octet stands: at the start or in the name; at the start or in a parameter's name; in a parameter's value:
--- at its start, plain, in quotes, behind them; in the value; or in no content line.
-pub data Place : Type 0 where
-  start name paramStart paramName valueStart plain quoted unquoted value nowhere : Place
+-- a bare `sep` stands in the text
+unfoldable pub hasBare : ℕ → Bool → List ℕ → Bool
+hasBare sep q [] = false
+hasBare sep q (c ∷ s) = bare sep q c or hasBare sep (quoteAfter q c) s
 
--- behind a parameter's value: another value, another parameter, or the line's value
-unfoldable pub behindValue : ℕ → Place → Place
-behindValue c p = pick (eqb c (code ",")) valueStart (pick (eqb c (code ";")) paramStart (pick (eqb c (code ":")) value p))
+unfoldable pub quoteFree : List ℕ → Bool
+quoteFree v = all (λ c. not (eqb c (code "\""))) v
 
--- a double quote stands only around a value
-unfoldable pub inValue : ℕ → Place
-inValue c = behindValue c (pick (eqb c (code "\"")) nowhere plain)
+-- the first double quote is the last octet
+unfoldable pub quoteLast : List ℕ → Bool
+quoteLast [] = false
+quoteLast (c ∷ v) = pick (eqb c (code "\"")) (not (filled v)) (quoteLast v)
 
-unfoldable pub place : Place → ℕ → Place
-place start c = pick (nameOctet c) name nowhere
-place name c = pick (nameOctet c) name (pick (eqb c (code ";")) paramStart (pick (eqb c (code ":")) value nowhere))
-place paramStart c = pick (nameOctet c) paramName nowhere
-place paramName c = pick (nameOctet c) paramName (pick (eqb c (code "=")) valueStart nowhere)
-place valueStart c = pick (eqb c (code "\"")) quoted (inValue c)
-place plain c = inValue c
-place quoted c = pick (eqb c (code "\"")) unquoted quoted
-place unquoted c = behindValue c nowhere
-place value c = value
-place nowhere c = nowhere
+-- in quotes, with none inside
+unfoldable pub inQuotes : List ℕ → Bool
+inQuotes [] = false
+inQuotes (c ∷ v) = eqb c (code "\"") and quoteLast v
 
-unfoldable pub placeAfter : Place → List ℕ → Place
-placeAfter p [] = p
-placeAfter p (c ∷ s) = placeAfter (place p c) s
+-- a parameter's value
+unfoldable pub valueFormed : List ℕ → Bool
+valueFormed v = quoteFree v or inQuotes v
 
-unfoldable pub isValue : Place → Bool
-isValue start = false
-isValue name = false
-isValue paramStart = false
-isValue paramName = false
-isValue valueStart = false
-isValue plain = false
-isValue quoted = false
-isValue unquoted = false
-isValue value = true
-isValue nowhere = false
+-- NAME=VALUE,VALUE
+unfoldable pub paramFormed : List ℕ → Bool
+paramFormed p = hasBare (code "=") false p and isName (before (code "=") false p) and all valueFormed (pieces (code ",") false (behind (code "=") false p))
 
+-- NAME;PARAM;PARAM
+unfoldable pub headFormed : List (List ℕ) → Bool
+headFormed [] = false
+headFormed (n ∷ ps) = isName n and all paramFormed ps
+
+-- NAME;PARAM;PARAM:VALUE
 unfoldable pub formed : List ℕ → Bool
-formed l = isValue (placeAfter start l)
+formed l = hasBare (code ":") false l and headFormed (pieces (code ";") false (before (code ":") false l))
+
+-- the lines of a text: number 3, tested of all of them before number 4
+unfoldable pub contentLines : List (List ℕ) → Answer (List (List ℕ))
+contentLines ls = unless 3 (all clean ls) (λ _. unless 4 (all formed ls) (λ _. accepted ls))

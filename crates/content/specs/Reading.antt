@@ -1,25 +1,21 @@
--- The lines of a text and the tests of all of them, number 3 before number 4 (01, Refusal numbers and their order).
+-- The lines of a text in a buffer, and what their tests answer.
 use Prim.Native.Nat.{ℕ, _≤_}
 use mathlib.Core.Path.{_≡_}
 use mathlib.Core.List.{List}
 use lib.Dec.{leb}
 use lib.ListN.{length, take}
-use Rattle.octets.specs.Basics.{pick, all}
-use Rattle.octets.specs.Utf8.{clean}
+use Rattle.octets.specs.Basics.{pick}
 use Rattle.octets.specs.Pen.{pen, wrote}
-use Rattle.octets.specs.Answers.{Answer, refused, accepted, unless}
-use Rattle.content.specs.Lines.{linesOf, laidOut}
-use Rattle.content.specs.Form.{formed}
-use Rattle.content.specs.Buffer.{bufferLines}
+use Rattle.octets.specs.Answers.{Answer, refused, accepted}
+use Rattle.content.specs.Lines.{cutLines, linesOf}
+use Rattle.content.specs.Form.{contentLines}
+use Rattle.content.specs.Buffer.{laidOut}
 use Rattle.content.specs.declared.reading.Lines.{Lines}
 use Rattle.content.specs.declared.reading.Lines.the-variants.{Laid, NotClean, NotFormed, NoRoom}
 
-unfoldable pub tested : List (List ℕ) → Answer (List (List ℕ))
-tested ls = unless 3 (all clean ls) (λ _. unless 4 (all formed ls) (λ _. accepted ls))
-
 -- what an answer says, with the buffer as it is then; a buffer that is too short is none of the text's faults
 unfoldable pub linesTold : List ℕ → Lines → Answer (List (List ℕ))
-linesTold b (Laid n) = accepted (bufferLines (take n b))
+linesTold b (Laid n) = accepted (cutLines (take n b))
 linesTold b NotClean = refused 3
 linesTold b NotFormed = refused 4
 linesTold b NoRoom = refused 10
@@ -42,4 +38,4 @@ pub record ReadLines (text b after : List ℕ) (r : Lines) : Type 0 where
   pub buffer : after ≡ (wrote (pen b 0) (laidOut (linesOf text))) .buf
   pub within : LaidWithin (length after) r
   pub count : LaidUpTo (length (laidOut (linesOf text))) r
-  pub told : linesTold after r ≡ pick (leb (length (laidOut (linesOf text))) (length b)) (tested (linesOf text)) (refused 10)
+  pub told : linesTold after r ≡ pick (leb (length (laidOut (linesOf text))) (length b)) (contentLines (linesOf text)) (refused 10)

@@ -5,10 +5,10 @@ ghost use Prim.Native.Nat.{_+_, _≤_};
 ghost use lib.ListN.{length, drop};
 ghost use Rattle.octets.specs.Basics.{all};
 ghost use Rattle.octets.specs.Classes.{nameOctet};
-ghost use Rattle.content.specs.Form.{placeAfter, isValue, paramStart, valueStart, unquoted, formed};
+ghost use Rattle.content.specs.Lines.{cutLines};
+ghost use Rattle.content.specs.Form.{formed};
+ghost use Rattle.content.specs.LinePlaces.{paramStart, valueStart, unquoted, placeAfter, isValue, endsPlain, Passes};
 ghost use Rattle.content.specs.Scan.{until};
-ghost use Rattle.content.specs.Walk.{endsPlain, Passes};
-ghost use Rattle.content.specs.Buffer.{bufferLines};
 use crate::lines::line_end;
 use crate::scan::find;
 use octets::is_name_octet;
@@ -121,7 +121,7 @@ pub fn is_formed(line: &[u8]) -> bool
 
 // Test 4 of every line in a buffer.
 pub fn all_formed(buf: &[u8]) -> bool
-    ensures { λ r. ⌜ r ≡ all formed (bufferLines (now (buf .entry))) ⌝ }
+    ensures { λ r. ⌜ r ≡ all formed (cutLines (now (buf .entry))) ⌝ }
 {
     let mut i = 0;
     while i < buf.len() {

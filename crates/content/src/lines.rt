@@ -6,9 +6,9 @@ ghost use lib.ListN.{length, getD, drop};
 ghost use Rattle.octets.specs.Basics.{pick, _and_, _or_, all};
 ghost use Rattle.octets.specs.Utf8.{clean};
 ghost use Rattle.octets.specs.Pen.{pen, Wrote};
-ghost use Rattle.content.specs.Lines.{linesOf, laidOut, isBlank};
+ghost use Rattle.content.specs.Lines.{isBlank, isLf, cutLines, linesOf};
 ghost use Rattle.content.specs.Scan.{until};
-ghost use Rattle.content.specs.Buffer.{isLf, bufferLines};
+ghost use Rattle.content.specs.Buffer.{laidOut};
 use crate::scan::find;
 use octets::all_text;
 use octets::is_utf8;
@@ -93,7 +93,7 @@ pub fn unfold(text: &[u8], out: &mut [u8]) -> usize
 
 // Test 3 of every line in a buffer: UTF-8 without control characters but tab.
 pub fn all_clean(buf: &[u8]) -> bool
-    ensures { λ r. ⌜ r ≡ all clean (bufferLines (now (buf .entry))) ⌝ }
+    ensures { λ r. ⌜ r ≡ all clean (cutLines (now (buf .entry))) ⌝ }
 {
     if !is_utf8(buf) {
         return false;

@@ -5,7 +5,7 @@ use native.Mathlib.Omega.{arith}
 use mathlib.Core.Path.{_≡_, refl, sym, _∙_}
 use Prim.Native.Nat.{_-_}
 use borrow.Author.Needs.{needs}
-use Rattle.content.specs.Buffer.{isLf, bufferLines}
+use Rattle.content.specs.Lines.{isLf, cutLines}
 use Rattle.content.specs.Form.{formed}
 use Rattle.octets.specs.Basics.{all}
 use Rattle.content.proofs.Buffer.{all-none, all-on, all-off}
@@ -14,7 +14,7 @@ use Rattle.content.proofs.form.all_formed.Statement.{statement}
 use Rattle.content.proofs.form.all_formed.Tie as tie
 
 abbrev Inv-loop : tie.InvT-loop
-Inv-loop buf i₀ i = all formed (bufferLines buf) ≡ all formed (bufferLines (drop i buf))
+Inv-loop buf i₀ i = all formed (cutLines buf) ≡ all formed (cutLines (drop i buf))
 
 abbrev μ-loop : tie.MeasureT-loop
 μ-loop buf i₀ i = length buf - i

@@ -1,6 +1,6 @@
 -- `content::form::ends_plain` meets its contract.
 use borrow.Author.Tests.{eq-eqb, ne-eqb}
-use Rattle.content.specs.Walk.{endsPlain}
+use Rattle.content.specs.LinePlaces.{endsPlain}
 use Rattle.content.proofs.form.ends_plain.Statement.{statement}
 use Rattle.content.proofs.form.ends_plain.Tie as tie
 

@@ -1,5 +1,5 @@
 -- `content::form::name_end` meets its contract.
-use Rattle.content.proofs.Forming.{offName}
+use Rattle.content.proofs.PlaceSpans.{offName}
 use Rattle.content.proofs.Scanning.{until-none, until-here, until-on}
 use Rattle.content.specs.Scan.{until}
 use lib.ListN.{length, drop}

@@ -2,7 +2,7 @@
 use native.Mathlib.Omega.{arith}
 use mathlib.Core.Path.{sym, _∙_}
 use borrow.Author.Needs.{needs}
-use Rattle.content.proofs.Forming.{param-none, param-not, param-inside, param-on}
+use Rattle.content.proofs.PlaceSpans.{param-none, param-not, param-inside, param-on}
 use Rattle.content.proofs.form.param_end.Statement.{statement}
 use Rattle.content.proofs.form.param_end.Tie as tie
 

@@ -1,6 +1,6 @@
 -- `content::form::plain_end` meets its contract.
 use Rattle.content.proofs.Scanning.{until-none, until-here, until-on}
-use Rattle.content.specs.Walk.{endsPlain}
+use Rattle.content.specs.LinePlaces.{endsPlain}
 use Rattle.content.specs.Scan.{until}
 use lib.ListN.{length, drop}
 use native.Mathlib.Omega.{arith}

@@ -4,8 +4,8 @@ use native.Mathlib.Omega.{arith}
 use mathlib.Core.Path.{_≡_, refl, sym, _∙_}
 use Prim.Native.Nat.{_-_, _≤_}
 use borrow.Author.Needs.{needs}
-use Rattle.content.specs.Form.{placeAfter, isValue, unquoted}
-use Rattle.content.proofs.Forming.{tail-end, tail-colon, tail-comma, tail-semicolon, tail-lost}
+use Rattle.content.specs.LinePlaces.{unquoted, placeAfter, isValue}
+use Rattle.content.proofs.PlaceSpans.{tail-end, tail-colon, tail-comma, tail-semicolon, tail-lost}
 use Rattle.content.proofs.form.tail_formed.Statement.{statement}
 use Rattle.content.proofs.form.tail_formed.Tie as tie
 

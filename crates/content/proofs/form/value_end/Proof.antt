@@ -1,7 +1,7 @@
 -- `content::form::value_end` meets its contract.
 use mathlib.Core.Path.{sym, _∙_}
 use borrow.Author.Needs.{needs}
-use Rattle.content.proofs.Forming.{value-plain, value-quoted, value-open}
+use Rattle.content.proofs.PlaceSpans.{value-plain, value-quoted, value-open}
 use Rattle.content.proofs.form.value_end.Statement.{statement}
 use Rattle.content.proofs.form.value_end.Tie as tie
 

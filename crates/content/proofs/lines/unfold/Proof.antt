@@ -1,8 +1,9 @@
 -- `content::lines::unfold` meets its contract.
 use Rattle.content.proofs.Unfolding.{laidFrom, laid-start, trim-within, turn-last, turn-fold, turn-end, turn-none}
 use Rattle.content.proofs.Scanning.{scan-low, scan-high}
-use Rattle.content.specs.Buffer.{isLf}
-use Rattle.content.specs.Lines.{linesFrom, linesOf, laidOut}
+use Rattle.content.specs.Lines.{isLf, linesOf}
+use Rattle.content.specs.LineMarks.{linesFrom}
+use Rattle.content.specs.Buffer.{laidOut}
 use Rattle.octets.proofs.Pen.{Leads, leads-start, leads-on, leads-last, leads-end, then}
 use Rattle.octets.specs.Pen.{pen}
 use lib.ListN.{length, drop}

@@ -12,37 +12,38 @@ use Rattle.octets.specs.Basics.{pick, _or_, All}
 use Rattle.octets.specs.Classes.{nameOctet}
 use Rattle.octets.proofs.Cases.{cases, never, neither}
 use Rattle.octets.proofs.Positions.{here, ended, past-end}
-use Rattle.content.specs.Form.{Place, start, name, paramStart, paramName, valueStart, plain, quoted, unquoted, value, nowhere, behindValue, inValue, place, placeAfter, isValue, formed}
+use Rattle.content.specs.Form.{formed}
+use Rattle.content.specs.LinePlaces.{LinePlace, start, name, paramStart, paramName, valueStart, plain, quoted, unquoted, value, nowhere, behindValue, inValue, placeBehind, placeAfter, isValue, endsPlain, Passes}
 use Rattle.content.specs.Scan.{until}
-use Rattle.content.specs.Walk.{endsPlain, Passes}
+use Rattle.content.proofs.LinePlaces.{formed-walked}
 use Rattle.content.proofs.Scanning.{until-none, until-here, until-free, scan-low, scan-high, scan-stop, scan-split, scan-whole}
 
 -- the form from place p at i
-abbrev Formed : List ℕ → Place → ℕ → Bool
+abbrev Formed : List ℕ → LinePlace → ℕ → Bool
 Formed s p i = isValue (placeAfter p (drop i s))
 
 value-stays : (s : List ℕ) → placeAfter value s ≡ value
-unfolding placeAfter place
+unfolding placeAfter placeBehind
 value-stays [] = refl
 value-stays (c ∷ s) = value-stays s
 
 nowhere-stays : (s : List ℕ) → placeAfter nowhere s ≡ nowhere
-unfolding placeAfter place
+unfolding placeAfter placeBehind
 nowhere-stays [] = refl
 nowhere-stays (c ∷ s) = nowhere-stays s
 
-place-append : (p : Place) (xs ys : List ℕ) → placeAfter p (xs ++ ys) ≡ placeAfter (placeAfter p xs) ys
+place-append : (p : LinePlace) (xs ys : List ℕ) → placeAfter p (xs ++ ys) ≡ placeAfter (placeAfter p xs) ys
 unfolding placeAfter
 place-append p [] ys = refl
-place-append p (x ∷ xs) ys = place-append (place p x) xs ys
+place-append p (x ∷ xs) ys = place-append (placeBehind p x) xs ys
 
 -- a place is within the line, or behind it
 within : {P : Type 0} (i : ℕ) (s : List ℕ) → (i < length s → P) → (length s ≤ i → P) → P
 within i s f g = cases (ltb i (length s)) (λ e. f (ltb-true i (length s) e)) (λ e. g (ltb-false i (length s) e))
 
 -- one octet
-module _ (s : List ℕ) (p : Place) (i : ℕ) where
-  pub step : i < length s → Formed s p i ≡ Formed s (place p (getD s i 0)) (i + 1)
+module _ (s : List ℕ) (p : LinePlace) (i : ℕ) where
+  pub step : i < length s → Formed s p i ≡ Formed s (placeBehind p (getD s i 0)) (i + 1)
   unfolding placeAfter
   step h = rw (here s i h)
 
@@ -51,12 +52,12 @@ module _ (s : List ℕ) (p : Place) (i : ℕ) where
   at-end h = rw (ended s i h)
 
 -- octets that keep the place
-stays : (p : Place) (stop : ℕ → Bool) → ((c : ℕ) → stop c ≡ false → place p c ≡ p) → (xs : List ℕ) → All (λ c. stop c ≡ false) xs → placeAfter p xs ≡ p
+stays : (p : LinePlace) (stop : ℕ → Bool) → ((c : ℕ) → stop c ≡ false → placeBehind p c ≡ p) → (xs : List ℕ) → All (λ c. stop c ≡ false) xs → placeAfter p xs ≡ p
 unfolding placeAfter
 stays p stop f [] h = refl
 stays p stop f (x ∷ xs) h = rw (f x (h .0)) (stays p stop f xs (h .1))
 
-module _ (p : Place) (stop : ℕ → Bool) (f : (c : ℕ) → stop c ≡ false → place p c ≡ p) (s : List ℕ) (i e : ℕ) (q : e ≡ i + length (until stop (drop i s))) where
+module _ (p : LinePlace) (stop : ℕ → Bool) (f : (c : ℕ) → stop c ≡ false → placeBehind p c ≡ p) (s : List ℕ) (i e : ℕ) (q : e ≡ i + length (until stop (drop i s))) where
   span-on : e < length s → placeAfter p (drop i s) ≡ placeAfter p (drop e s)
   span-on h = rw (scan-split stop s i e q h, place-append p (until stop (drop i s)) (getD s e 0 ∷ drop (e + 1) s), stays p stop f (until stop (drop i s)) (until-free stop (drop i s)), here s e h)
 
@@ -68,18 +69,18 @@ module _ (p : Place) (stop : ℕ → Bool) (f : (c : ℕ) → stop c ≡ false �
   span = within e s (λ h. ap isValue (span-on h)) (λ h. ap isValue (span-end h))
 
 -- to the place nowhere, and to the value
-module _ (s : List ℕ) (p : Place) (i : ℕ) where
-  lost : i < length s → place p (getD s i 0) ≡ nowhere → Formed s p i ≡ false
+module _ (s : List ℕ) (p : LinePlace) (i : ℕ) where
+  lost : i < length s → placeBehind p (getD s i 0) ≡ nowhere → Formed s p i ≡ false
   lost h e = step s p i h ∙ rw (e, nowhere-stays (drop (i + 1) s)) (unfold isValue in refl)
 
-  won : i < length s → place p (getD s i 0) ≡ value → Formed s p i ≡ true
+  won : i < length s → placeBehind p (getD s i 0) ≡ value → Formed s p i ≡ true
   won h e = step s p i h ∙ rw (e, value-stays (drop (i + 1) s)) (unfold isValue in refl)
 
-  moved : (q : Place) → i < length s → place p (getD s i 0) ≡ q → Formed s p i ≡ Formed s q (i + 1)
+  moved : (q : LinePlace) → i < length s → placeBehind p (getD s i 0) ≡ q → Formed s p i ≡ Formed s q (i + 1)
   moved q h e = step s p i h ∙ rw e
 
 -- two places that the next octet makes alike
-alike : (s : List ℕ) (p q : Place) (i : ℕ) → isValue p ≡ isValue q → (i < length s → place p (getD s i 0) ≡ place q (getD s i 0)) → Formed s p i ≡ Formed s q i
+alike : (s : List ℕ) (p q : LinePlace) (i : ℕ) → isValue p ≡ isValue q → (i < length s → placeBehind p (getD s i 0) ≡ placeBehind q (getD s i 0)) → Formed s p i ≡ Formed s q i
 alike s p q i v f = within i s
     (λ h. step s p i h ∙ rw (f h) (sym (step s q i h)))
     (λ h. at-end s p i h ∙ v ∙ sym (at-end s q i h))
@@ -94,7 +95,7 @@ on-name c e = cases (nameOctet c) (λ h. h) (λ h. never (rw h) e)
 off-name : (c : ℕ) → offName c ≡ true → nameOctet c ≡ false
 off-name c e = cases (nameOctet c) (λ h. never e (rw h)) (λ h. h)
 
-module _ (p q : Place) (first : (c : ℕ) → place p c ≡ pick (nameOctet c) q nowhere) (more : (c : ℕ) → nameOctet c ≡ true → place q c ≡ q)
+module _ (p q : LinePlace) (first : (c : ℕ) → placeBehind p c ≡ pick (nameOctet c) q nowhere) (more : (c : ℕ) → nameOctet c ≡ true → placeBehind q c ≡ q)
     (not-p : isValue p ≡ false) (s : List ℕ) (i n : ℕ) (e : n ≡ i + length (until offName (drop i s))) where
   named-none : n ≡ i → Formed s p i ≡ false
   named-none z = within i s
@@ -110,42 +111,40 @@ module _ (p q : Place) (first : (c : ℕ) → place p c ≡ pick (nameOctet c) q
       ∙ span q offName (λ c k. more c (on-name c k)) s i n e
 
 -- the name of a line
-name-more : (c : ℕ) → nameOctet c ≡ true → place name c ≡ name
-unfolding place
+name-more : (c : ℕ) → nameOctet c ≡ true → placeBehind name c ≡ name
+unfolding placeBehind
 name-more c e = rw e
 
 pub line-none : (s : List ℕ) (n : ℕ) → n ≡ 0 + length (until offName (drop 0 s)) → n ≡ 0 → formed s ≡ false
-unfolding formed
-line-none s n e z = named-none start name (λ c. unfold place in refl) name-more (unfold isValue in refl) s 0 n e z
+line-none s n e z = formed-walked s ∙ named-none start name (λ c. unfold placeBehind in refl) name-more (unfold isValue in refl) s 0 n e z
 
 -- behind the name the line goes on as it does behind a parameter value, but for a comma
 module _ (s : List ℕ) (n : ℕ) (e : n ≡ 0 + length (until offName (drop 0 s))) (g : 0 < n) where
   line-on : formed s ≡ Formed s name n
-  unfolding formed
-  line-on = named-on start name (λ c. unfold place in refl) name-more (unfold isValue in refl) s 0 n e g
+  line-on = formed-walked s ∙ named-on start name (λ c. unfold placeBehind in refl) name-more (unfold isValue in refl) s 0 n e g
 
   off : n < length s → nameOctet (getD s n 0) ≡ false
   off h = off-name (getD s n 0) (scan-stop offName s 0 n e h)
 
   pub line-comma : getD s n 0 ≡ code "," → formed s ≡ false
   line-comma c = line-on ∙ within n s
-      (λ h. lost s name n h (unfold place in rw (off h, c)))
+      (λ h. lost s name n h (unfold placeBehind in rw (off h, c)))
       (λ h. at-end s name n h ∙ unfold isValue in refl)
 
   pub line-tail : (getD s n 0 ≡ code "," → ⊥) → formed s ≡ Formed s unquoted n
-  line-tail c = line-on ∙ alike s name unquoted n (unfold isValue in refl) (λ h. unfold place behindValue in rw (off h, ne-eqb (getD s n 0) (code ",") c))
+  line-tail c = line-on ∙ alike s name unquoted n (unfold isValue in refl) (λ h. unfold placeBehind behindValue in rw (off h, ne-eqb (getD s n 0) (code ",") c))
 
 -- a parameter value without quotes
-plain-more : (c : ℕ) → endsPlain c ≡ false → place plain c ≡ plain
-unfolding place inValue behindValue endsPlain
+plain-more : (c : ℕ) → endsPlain c ≡ false → placeBehind plain c ≡ plain
+unfolding placeBehind inValue behindValue endsPlain
 plain-more c e =
     let a = neither (eqb c (code ",")) _ e in
     let b = neither (eqb c (code ";")) _ (a .1) in
     let d = neither (eqb c (code ":")) _ (b .1) in
     rw (a .0, b .0, d .0, d .1)
 
-plain-over : (c : ℕ) → endsPlain c ≡ true → place plain c ≡ place unquoted c
-unfolding place inValue behindValue endsPlain
+plain-over : (c : ℕ) → endsPlain c ≡ true → placeBehind plain c ≡ placeBehind unquoted c
+unfolding placeBehind inValue behindValue endsPlain
 plain-over c e = by (eqb c (code ",")) (eqb c (code ";")) (eqb c (code ":")) (eqb c (code "\"")) e
   where
     by : (a b d q : Bool) → (a or b or d or q) ≡ true
@@ -161,7 +160,7 @@ module _ (s : List ℕ) (i : ℕ) (l : i ≤ length s) where
   value-plain r c e = record {
     low = scan-low endsPlain s i r e;
     high = scan-high endsPlain s i r e l;
-    told = alike s valueStart plain i (unfold isValue in refl) (λ h. unfold place in rw (ne-eqb (getD s i 0) (code "\"") c))
+    told = alike s valueStart plain i (unfold isValue in refl) (λ h. unfold placeBehind in rw (ne-eqb (getD s i 0) (code "\"") c))
         ∙ span plain endsPlain plain-more s i r e
         ∙ alike s plain unquoted r (unfold isValue in refl) (λ h. plain-over (getD s r 0) (scan-stop endsPlain s i r e h));
   }
@@ -173,14 +172,14 @@ module _ (s : List ℕ) (i : ℕ) (l : i ≤ length s) where
 
     in-quotes : Formed s valueStart i ≡ Formed s quoted e
     in-quotes =
-        moved s valueStart i quoted opened (unfold place in rw c)
-        ∙ span quoted (λ x. eqb x (code "\"")) (λ x k. unfold place in rw k) s (i + 1) e q
+        moved s valueStart i quoted opened (unfold placeBehind in rw c)
+        ∙ span quoted (λ x. eqb x (code "\"")) (λ x k. unfold placeBehind in rw k) s (i + 1) e q
 
     pub value-quoted : e < length s → Passes s valueStart i unquoted (e + 1)
     value-quoted h = record {
       low = omega arith;
       high = omega arith;
-      told = in-quotes ∙ moved s quoted e unquoted h (unfold place in rw (scan-stop (λ x. eqb x (code "\"")) s (i + 1) e q h));
+      told = in-quotes ∙ moved s quoted e unquoted h (unfold placeBehind in rw (scan-stop (λ x. eqb x (code "\"")) s (i + 1) e q h));
     }
 
     pub value-open : length s ≤ e → Passes s valueStart i unquoted e
@@ -199,8 +198,8 @@ beyond i n h g = cases (ltb i n) (λ e. ltb-true i n e) (λ e. absurd (g (omega 
 pub nonzero : (n : ℕ) → (n ≡ 0 → ⊥) → 0 < n
 nonzero n g = beyond 0 n (omega arith) g
 
-param-more : (c : ℕ) → nameOctet c ≡ true → place paramName c ≡ paramName
-unfolding place
+param-more : (c : ℕ) → nameOctet c ≡ true → placeBehind paramName c ≡ paramName
+unfolding placeBehind
 param-more c e = rw e
 
 module _ (s : List ℕ) (i : ℕ) (l : i ≤ length s) (n : ℕ) (e : n ≡ i + length (until offName (drop i s))) where
@@ -208,15 +207,15 @@ module _ (s : List ℕ) (i : ℕ) (l : i ≤ length s) (n : ℕ) (e : n ≡ i + 
   failed f = record { low = l; high = omega arith; told = f ∙ sym (at-end s unquoted (length s) (omega arith) ∙ unfold isValue in refl) }
 
   pub param-none : n ≡ i → Passes s paramStart i unquoted (length s)
-  param-none z = failed (named-none paramStart paramName (λ c. unfold place in refl) param-more (unfold isValue in refl) s i n e z)
+  param-none z = failed (named-none paramStart paramName (λ c. unfold placeBehind in refl) param-more (unfold isValue in refl) s i n e z)
 
   module _ (g : n ≡ i → ⊥) where
     on : Formed s paramStart i ≡ Formed s paramName n
-    on = named-on paramStart paramName (λ c. unfold place in refl) param-more (unfold isValue in refl) s i n e (beyond i n (omega arith) g)
+    on = named-on paramStart paramName (λ c. unfold placeBehind in refl) param-more (unfold isValue in refl) s i n e (beyond i n (omega arith) g)
 
     pub param-not : (getD s n 0 ≡ code "=" → ⊥) → Passes s paramStart i unquoted (length s)
     param-not c = failed (on ∙ within n s
-        (λ h. lost s paramName n h (unfold place in rw (off-name (getD s n 0) (scan-stop offName s i n e h), ne-eqb (getD s n 0) (code "=") c)))
+        (λ h. lost s paramName n h (unfold placeBehind in rw (off-name (getD s n 0) (scan-stop offName s i n e h), ne-eqb (getD s n 0) (code "=") c)))
         (λ h. at-end s paramName n h ∙ unfold isValue in refl))
 
     pub param-inside : getD s n 0 ≡ code "=" → n < length s
@@ -226,7 +225,7 @@ module _ (s : List ℕ) (i : ℕ) (l : i ≤ length s) (n : ℕ) (e : n ≡ i + 
     param-on r c p = record {
       low = omega (arith, p .low);
       high = p .high;
-      told = on ∙ moved s paramName n valueStart (param-inside c) (unfold place in rw (off-name (getD s n 0) (scan-stop offName s i n e (param-inside c)), c)) ∙ p .told;
+      told = on ∙ moved s paramName n valueStart (param-inside c) (unfold placeBehind in rw (off-name (getD s n 0) (scan-stop offName s i n e (param-inside c)), c)) ∙ p .told;
     }
 
 -- behind a value
@@ -236,13 +235,13 @@ module _ (s : List ℕ) (i : ℕ) where
 
   module _ (h : i < length s) where
     pub tail-colon : getD s i 0 ≡ code ":" → Formed s unquoted i ≡ true
-    tail-colon c = won s unquoted i h (unfold place behindValue in rw c)
+    tail-colon c = won s unquoted i h (unfold placeBehind behindValue in rw c)
 
     pub tail-comma : (r : ℕ) → getD s i 0 ≡ code "," → Passes s valueStart (i + 1) unquoted r → Formed s unquoted i ≡ Formed s unquoted r
-    tail-comma r c p = moved s unquoted i valueStart h (unfold place behindValue in rw c) ∙ p .told
+    tail-comma r c p = moved s unquoted i valueStart h (unfold placeBehind behindValue in rw c) ∙ p .told
 
     pub tail-semicolon : (r : ℕ) → getD s i 0 ≡ code ";" → Passes s paramStart (i + 1) unquoted r → Formed s unquoted i ≡ Formed s unquoted r
-    tail-semicolon r c p = moved s unquoted i paramStart h (unfold place behindValue in rw c) ∙ p .told
+    tail-semicolon r c p = moved s unquoted i paramStart h (unfold placeBehind behindValue in rw c) ∙ p .told
 
     pub tail-lost : (getD s i 0 ≡ code "," → ⊥) → (getD s i 0 ≡ code ";" → ⊥) → (getD s i 0 ≡ code ":" → ⊥) → Formed s unquoted i ≡ false
-    tail-lost a b c = lost s unquoted i h (unfold place behindValue in rw (ne-eqb _ (code ",") a, ne-eqb _ (code ";") b, ne-eqb _ (code ":") c))
+    tail-lost a b c = lost s unquoted i h (unfold placeBehind behindValue in rw (ne-eqb _ (code ",") a, ne-eqb _ (code ";") b, ne-eqb _ (code ":") c))
