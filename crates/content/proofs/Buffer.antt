@@ -13,9 +13,9 @@ use Rattle.octets.proofs.Cases.{cases}
 use Rattle.octets.proofs.Pieces.{Free}
 use Rattle.octets.proofs.Positions.{ended}
 use Rattle.content.specs.Lines.{isLf, cutLines}
-use Rattle.content.specs.Scan.{until}
+use Rattle.octets.specs.Search.{until}
 use Rattle.content.specs.Buffer.{laidOut}
-use Rattle.content.proofs.Scanning.{scan-is, scan-rest}
+use Rattle.octets.proofs.Search.{scan-is, scan-rest}
 
 -- the first line, and those behind it
 onto-first : (c : ℕ) (s : List ℕ) → (0 < length s → cutLines s ≡ until isLf s ∷ cutLines (drop (suc (length (until isLf s))) s))

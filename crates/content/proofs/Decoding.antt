@@ -14,9 +14,9 @@ use Rattle.octets.proofs.Cases.{same?, neither}
 use Rattle.octets.proofs.Positions.{here, ended, first-of, part-rest}
 use Rattle.json.specs.Print.{escaped, quoted}
 use Rattle.content.specs.Carets.{decodedOctet, caretAfter, decodedFrom, decoded}
-use Rattle.content.specs.Scan.{until}
+use Rattle.octets.specs.Search.{until}
 use Rattle.content.specs.Object.{standsFor, octetsRead, special}
-use Rattle.content.proofs.Scanning.{until-free, scan-low, scan-is}
+use Rattle.octets.proofs.Search.{until-free, scan-low, scan-is}
 
 -- one octet, or a caret and the octet behind it
 caret-by : (d : ℕ) (s : List ℕ) (n k q : Bool) → eqb d (code "^") ≡ k → eqb d (code "'") ≡ q

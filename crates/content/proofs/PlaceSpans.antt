@@ -14,9 +14,9 @@ use Rattle.octets.proofs.Cases.{cases, never, neither}
 use Rattle.octets.proofs.Positions.{here, ended, past-end}
 use Rattle.content.specs.Form.{formed}
 use Rattle.content.specs.LinePlaces.{LinePlace, start, name, paramStart, paramName, valueStart, plain, quoted, unquoted, value, nowhere, behindValue, inValue, placeBehind, placeAfter, isValue, endsPlain, Passes}
-use Rattle.content.specs.Scan.{until}
+use Rattle.octets.specs.Search.{until}
 use Rattle.content.proofs.LinePlaces.{formed-walked}
-use Rattle.content.proofs.Scanning.{until-none, until-here, until-free, scan-low, scan-high, scan-stop, scan-split, scan-whole}
+use Rattle.octets.proofs.Search.{until-none, until-here, until-free, scan-low, scan-high, scan-stop, scan-split, scan-whole}
 
 -- the form from place p at i
 abbrev Formed : List ℕ → LinePlace → ℕ → Bool

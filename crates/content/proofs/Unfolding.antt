@@ -18,9 +18,9 @@ use Rattle.octets.proofs.Pieces.{Free}
 use Rattle.octets.proofs.Positions.{here, ended, part-more, part-length, first-of}
 use Rattle.content.specs.Lines.{newlines, isBlank, unfoldedFrom, isLf, cutLines, linesOf}
 use Rattle.content.specs.LineMarks.{LineMark, octet, ending, fold, lineMarkOf, marked, linesFrom}
-use Rattle.content.specs.Scan.{until}
+use Rattle.octets.specs.Search.{until}
 use Rattle.content.specs.Buffer.{laidOut}
-use Rattle.content.proofs.Scanning.{until-free, scan-low, scan-is, scan-stop, scan-split, scan-whole}
+use Rattle.octets.proofs.Search.{until-free, scan-low, scan-is, scan-stop, scan-split, scan-whole}
 use Rattle.content.proofs.LineMarks.{behindLf, plain-mark, run-octet, run-none, run-cr, lines-walked}
 use Rattle.content.proofs.Buffer.{cut-free, lines-again}
 

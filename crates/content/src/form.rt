@@ -8,9 +8,9 @@ ghost use Rattle.octets.specs.Classes.{nameOctet};
 ghost use Rattle.content.specs.Lines.{cutLines};
 ghost use Rattle.content.specs.Form.{formed};
 ghost use Rattle.content.specs.LinePlaces.{paramStart, valueStart, unquoted, placeAfter, isValue, endsPlain, Passes};
-ghost use Rattle.content.specs.Scan.{until};
+ghost use Rattle.octets.specs.Search.{until};
 use crate::lines::line_end;
-use crate::scan::find;
+use octets::find;
 use octets::is_name_octet;
 use octets::peek;
 

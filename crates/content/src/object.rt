@@ -8,16 +8,17 @@ ghost use Rattle.octets.specs.Basics.{octets, pick};
 ghost use Rattle.octets.specs.Classes.{lower};
 ghost use Rattle.octets.specs.Pen.{pen, Wrote};
 ghost use Rattle.json.specs.Tree.{str, obj, itemsOf};
-ghost use Rattle.json.specs.Print.{escaped, quoted, printString, printKey, moreItems, print};
+ghost use Rattle.json.specs.Print.{quoted, printString, printKey, moreItems, print};
 ghost use Rattle.content.specs.Line.{pieces, paramValue};
 ghost use Rattle.content.specs.Carets.{decoded};
-ghost use Rattle.content.specs.Scan.{until};
+ghost use Rattle.octets.specs.Search.{until};
 ghost use Rattle.content.specs.Parts.{paramsIn};
 ghost use Rattle.content.specs.Parameters.{withoutValue, plainOr, membersOf};
 ghost use Rattle.content.specs.Object.{standsFor, octetsRead, special};
 use crate::parts::inner;
 use crate::parts::param_at;
 use crate::scan::next_bare;
+use json::put_escaped;
 use octets::lower_octet;
 use octets::peek;
 use octets::put;
@@ -78,19 +79,6 @@ fn run_end(s: &[u8], at: usize) -> usize
         i += 1;
     }
     i
-}
-
-// Writes an octet of a JSON string.
-fn put_escaped(out: &mut [u8], at: usize, c: u8) -> usize
-    ensures { λ r. ⌜ Wrote (pen (now (out .entry)) at) (escaped c) (pen (now (out .exit)) r) ⌝ }
-{
-    match c {
-        b'"' => put_all(out, at, b"\\\""),
-        b'\\' => put_all(out, at, b"\\\\"),
-        b'\n' => put_all(out, at, b"\\n"),
-        b'\t' => put_all(out, at, b"\\t"),
-        _ => put(out, at, c),
-    }
 }
 
 // Writes a value without its quotes, decoded, and the closing quote of its JSON string.

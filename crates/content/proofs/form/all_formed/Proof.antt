@@ -9,7 +9,7 @@ use Rattle.content.specs.Lines.{isLf, cutLines}
 use Rattle.content.specs.Form.{formed}
 use Rattle.octets.specs.Basics.{all}
 use Rattle.content.proofs.Buffer.{all-none, all-on, all-off}
-use Rattle.content.proofs.Scanning.{scan-high}
+use Rattle.octets.proofs.Search.{scan-high}
 use Rattle.content.proofs.form.all_formed.Statement.{statement}
 use Rattle.content.proofs.form.all_formed.Tie as tie
 

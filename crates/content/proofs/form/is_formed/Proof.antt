@@ -3,7 +3,7 @@ use native.Mathlib.Omega.{arith}
 use mathlib.Core.Path.{sym, _∙_}
 use borrow.Author.Needs.{needs}
 use Rattle.content.proofs.PlaceSpans.{offName, nonzero, line-none, line-comma, line-tail}
-use Rattle.content.proofs.Scanning.{scan-high}
+use Rattle.octets.proofs.Search.{scan-high}
 use Rattle.content.proofs.form.is_formed.Statement.{statement}
 use Rattle.content.proofs.form.is_formed.Tie as tie
 

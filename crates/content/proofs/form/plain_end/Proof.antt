@@ -1,7 +1,7 @@
 -- `content::form::plain_end` meets its contract.
-use Rattle.content.proofs.Scanning.{until-none, until-here, until-on}
+use Rattle.octets.proofs.Search.{until-none, until-here, until-on}
 use Rattle.content.specs.LinePlaces.{endsPlain}
-use Rattle.content.specs.Scan.{until}
+use Rattle.octets.specs.Search.{until}
 use lib.ListN.{length, drop}
 use native.Mathlib.Omega.{arith}
 use mathlib.Core.Path.{_≡_, refl, sym, _∙_}

@@ -1,6 +1,6 @@
 -- `content::lines::unfold` meets its contract.
 use Rattle.content.proofs.Unfolding.{laidFrom, laid-start, trim-within, turn-last, turn-fold, turn-end, turn-none}
-use Rattle.content.proofs.Scanning.{scan-low, scan-high}
+use Rattle.octets.proofs.Search.{scan-low, scan-high}
 use Rattle.content.specs.Lines.{isLf, linesOf}
 use Rattle.content.specs.LineMarks.{linesFrom}
 use Rattle.content.specs.Buffer.{laidOut}

@@ -11,7 +11,7 @@ use Rattle.json.specs.Print.{quoted}
 use Rattle.octets.proofs.Pen.{Leads, leads-start, leads-on, leads-last, then}
 use Rattle.octets.specs.Pen.{pen}
 use Rattle.content.proofs.Decoding.{value-start, value-none, value-last, value-on, takes-some, takes-few}
-use Rattle.content.proofs.Scanning.{scan-low, scan-high}
+use Rattle.octets.proofs.Search.{scan-low, scan-high}
 use Rattle.content.proofs.object.put_decoded.Statement.{statement}
 use Rattle.content.proofs.object.put_decoded.Tie as tie
 

@@ -5,8 +5,8 @@ use mathlib.Core.Path.{_≡_, refl, sym, _∙_}
 use Prim.Native.Nat.{_+_, _-_}
 use borrow.Author.Needs.{needs}
 use Rattle.content.specs.Object.{special}
-use Rattle.content.specs.Scan.{until}
-use Rattle.content.proofs.Scanning.{until-none, until-here, until-on}
+use Rattle.octets.specs.Search.{until}
+use Rattle.octets.proofs.Search.{until-none, until-here, until-on}
 use Rattle.content.proofs.object.run_end.Statement.{statement}
 use Rattle.content.proofs.object.run_end.Tie as tie
 

@@ -1,7 +1,0 @@
--- `content::scan::still_free` meets its contract.
-use mathlib.Core.Path.{refl}
-use Rattle.content.proofs.scan.still_free.Statement.{statement}
-use Rattle.content.proofs.scan.still_free.Tie as tie
-
-pub still-free-spec : {M : Type 1} → statement M
-still-free-spec = tie.close (tie.spec (λ c. rw (c .if1 .taken) refl) (λ c. rw (c .if1 .left) refl))
