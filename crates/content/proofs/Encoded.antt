@@ -109,7 +109,7 @@ encoded-utf8 v h = run-utf8 (Unit {0}) (λ q c. q) (λ q c. encodedOctet c) (λ 
     }
 
 -- a text has no control character but tab once its newlines are encoded
-text-plain : (c : ℕ) → textOctet c ≡ true → eqb c (code "\n") ≡ false → plainOctet c ≡ true
+pub text-plain : (c : ℕ) → textOctet c ≡ true → eqb c (code "\n") ≡ false → plainOctet c ≡ true
 unfolding textOctet
 text-plain c h n = either (plainOctet c) (eqb c (code "\n")) h (λ e. e) (λ e. never e n)
 

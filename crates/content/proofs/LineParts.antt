@@ -62,7 +62,7 @@ decoded-utf8 v h = run-utf8 Bool caretAfter decodedOctet (λ e. pick e (octets "
       lasts = waits-all ascii refl;
     }
 
-plain-text : (c : ℕ) → plainOctet c ≡ true → textOctet c ≡ true
+pub plain-text : (c : ℕ) → plainOctet c ≡ true → textOctet c ≡ true
 unfolding textOctet
 plain-text c h = or-first _ h
 

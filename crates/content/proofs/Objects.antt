@@ -21,8 +21,8 @@ use Rattle.content.specs.Parameters.{called, withoutValue, plainOr, memb
 use Rattle.content.specs.declared.parts.ParamParts.{ParamParts}
 use Rattle.content.specs.declared.parts.Span.{Span}
 use Rattle.content.proofs.Separators.{oneOf, pieces-filled, piece-last, piece-on}
-use Rattle.content.proofs.Walking.{Stands, no-params, param-here}
-use Rattle.content.proofs.Telling.{called-is}
+use Rattle.content.proofs.ParamPlaces.{Stands, no-params, param-here}
+use Rattle.content.proofs.ParamAnswers.{called-is}
 
 -- a value as a string
 pub value-wrote : (v : List ℕ) (p : Span) {o q r : Pen} → Inner v 0 (length v) p → Wrote o (code "\"" ∷ []) q → Wrote q (quoted (decoded (take (p .end - p .from) (drop (p .from) v)))) r → Wrote o (printString (paramValue v)) r

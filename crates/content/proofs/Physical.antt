@@ -3,25 +3,22 @@ use Prim.Native.Nat.{ℕ, suc, _+_, _≤_, _<_}
 use Prim.Native.Char.{code}
 use mathlib.Core.Path.{_≡_, refl, sym, ap, _∙_}
 use mathlib.Core.Bool.{true, false}
-use mathlib.Core.List.{List, [], _∷_, _++_, map, append-assoc}
+use mathlib.Core.List.{List, [], _∷_, _++_, append-assoc}
 use native.Mathlib.Nat.{add-zero}
 use native.Mathlib.Omega.{arith}
 use borrow.Author.Tests.{lt-ltb, le-ltb, ltb-false, leb-true, leb-false, eqb-true}
 use lib.Dec.{eqb, leb, ltb}
 use lib.ListN.{length}
 use Rattle.octets.specs.Basics.{octets, pick, all, All}
-use Rattle.octets.specs.Pieces.{split}
 use Rattle.octets.specs.Limits.{mostColumns}
 use Rattle.octets.specs.Classes.{isControl, plainOctet, between}
-use Rattle.octets.specs.Utf8.{Due, start, one, two, three, afterE0, afterED, afterF0, afterF4, broken, lead, due, dueAfter, isStart, utf8, clean}
+use Rattle.octets.specs.Utf8.{Due, start, one, two, three, afterE0, afterED, afterF0, afterF4, broken, lead, due, dueAfter, utf8, clean}
 use Rattle.octets.proofs.Cases.{cases, both, and-true, All-append}
 use Rattle.octets.proofs.Classes.{between-true}
-use Rattle.octets.proofs.Pieces.{Free, split-part}
 use Rattle.octets.proofs.Limits.{most-columns}
-use Rattle.octets.proofs.Utf8.{broken-stays, broken-start, utf8-start, start-utf8, utf8-both}
+use Rattle.octets.proofs.Utf8.{broken-stays, broken-start, utf8-start, start-utf8}
 use Rattle.content.specs.Fold.{width, breaks, foldedOctet, nextColumn, foldFrom, textOf}
 use Rattle.content.specs.Physical.{endedText, PhysicalLine, Physical}
-use Rattle.content.proofs.Unfolded.{clean-free}
 use Rattle.content.proofs.Folding.{width-most, breaks-never, onward}
 
 -- the rest of the physical line at `col`, and those that follow it
@@ -196,27 +193,3 @@ text-physical (l ∷ ls) h = behind l ls (h .0) (text-physical ls (h .1))
       text = unfold textOf in (physical-text 0 l (textOf ls) ∙ ap (λ t. endedText ((physicalFrom 0 l) .0 ∷ (physicalFrom 0 l) .1) ++ t) (r .text) ∙ sym (ended-append ((physicalFrom 0 l) .0 ∷ (physicalFrom 0 l) .1) (r .lines)));
       each = All-append PhysicalLine ((physicalFrom 0 l) .0 ∷ (physicalFrom 0 l) .1) (r .lines) (line-physical l h) (r .each);
     }
-
--- as cut at each LF: a physical line with its CR, and nothing behind the last
-no-newline : (r : List ℕ) → PhysicalLine r → Free (code "\n") (r ++ octets "\r")
-no-newline r w = All-append (λ x. eqb x (code "\n") ≡ false) r (octets "\r") (clean-free r (w .whole)) (refl, tt)
-
-pub physical-split : (rs : List (List ℕ)) → All PhysicalLine rs → split (code "\n") (endedText rs) ≡ map (λ r. r ++ octets "\r") rs ++ [] ∷ []
-unfolding endedText
-physical-split [] h = unfold split in refl
-physical-split (r ∷ rs) h =
-    ap (split (code "\n")) (sym (append-assoc r (octets "\r") (code "\n" ∷ endedText rs)))
-    ∙ split-part (code "\n") (r ++ octets "\r") (endedText rs) (no-newline r (h .0))
-    ∙ ap (λ l. (r ++ octets "\r") ∷ l) (physical-split rs (h .1))
-
--- the text is UTF-8
-physical-utf8 : (rs : List (List ℕ)) → All PhysicalLine rs → utf8 (endedText rs) ≡ true
-unfolding endedText
-physical-utf8 [] h = unfold utf8 dueAfter isStart in refl
-physical-utf8 (r ∷ rs) h = utf8-both r (octets "\r\n" ++ endedText rs) (utf r (h .0 .whole)) (utf8-both (octets "\r\n") (endedText rs) (unfold utf8 dueAfter due lead isStart in refl) (physical-utf8 rs (h .1)))
-  where
-    utf : (r : List ℕ) → clean r ≡ true → utf8 r ≡ true
-    utf r h = unfold clean in (both (utf8 r) (all plainOctet r) h .0)
-
-pub text-utf8 : (ls : List (List ℕ)) → All (λ l. clean l ≡ true) ls → utf8 (textOf ls) ≡ true
-text-utf8 ls h = let r = text-physical ls h in rw (r .text) (physical-utf8 (r .lines) (r .each))

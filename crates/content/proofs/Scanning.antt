@@ -63,9 +63,6 @@ module _ (stop : ℕ → Bool) where
 
   -- the scan from i ends at e
   module _ (s : List ℕ) (i e : ℕ) (q : e ≡ i + length (untilBare stop false (drop i s))) where
-    pub bare-low : i ≤ e
-    bare-low = omega arith
-
     pub bare-high : i ≤ length s → e ≤ length s
     bare-high h = omega (arith, bare-le false (drop i s), length-drop i s)
 

@@ -13,10 +13,9 @@ use Rattle.octets.specs.Basics.{pick, _and_, _or_}
 use Rattle.octets.specs.Pieces.{onto, cut}
 use Rattle.octets.proofs.Cases.{cases, never, either, neither}
 use Rattle.octets.proofs.Positions.{here, ended, upto, part-length}
-use Rattle.content.specs.Line.{Line, quoteAfter, bare, before, behind, pieces, headed, paramOf, lineOf}
+use Rattle.content.specs.Line.{quoteAfter, bare, before, behind, pieces, headed, paramOf, lineOf}
 use Rattle.content.specs.Scan.{untilBare}
 use Rattle.content.specs.Parts.{otherPieces, paramsIn, lineAt, Cut, paramAt, CutParam}
-use Rattle.content.specs.declared.parts.Parts.{Parts}
 use Rattle.content.proofs.Scanning.{bare-here, bare-high, bare-is, bare-rest, bare-stop}
 
 -- either of two separators
@@ -259,17 +258,3 @@ module _ (s : List ℕ) (i n e : ℕ) (p : n ≡ i + length (untilBare (oneOf (c
     param-equals h =
         let m : e - n ≡ suc (e - (n + 1)) = omega arith in
         cut-by (n + 1) (omega arith) (omega arith) (rw (m, here s n (omega (arith, e-high)), equals h))
-
--- what the places of a line's parts say of its name, parameters and value
-module _ (l : List ℕ) (p : Parts) (k : Cut l p) where
-  pub cut-name : take (p .name) l ≡ (lineOf l) .name
-  unfolding lineAt
-  cut-name = ap (λ (x : Line). x .name) (k .line)
-
-  pub cut-params : paramsIn (take (p .colon - p .name) (drop (p .name) l)) ≡ (lineOf l) .params
-  unfolding lineAt
-  cut-params = ap (λ (x : Line). x .params) (k .line)
-
-  pub cut-value : drop (p .value) l ≡ (lineOf l) .value
-  unfolding lineAt
-  cut-value = ap (λ (x : Line). x .value) (k .line)

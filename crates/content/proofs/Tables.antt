@@ -22,7 +22,7 @@ use Rattle.content.specs.Slots.{slotFrom, slotOf, nameAt, passed, slotIn
 use Rattle.content.specs.declared.parts.ParamParts.{ParamParts}
 use Rattle.content.proofs.Scanning.{bare-is}
 use Rattle.content.proofs.Separators.{oneOf, skips, pieces-first}
-use Rattle.content.proofs.Walking.{Stands, no-params, param-here}
+use Rattle.content.proofs.ParamPlaces.{Stands, no-params, param-here}
 
 -- the slot of a name, octet by octet
 pub slot-start : (n : List ℕ) → slotFrom 0 (lower (drop 0 n)) ≡ slotOf (lower n)

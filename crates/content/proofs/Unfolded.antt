@@ -17,7 +17,7 @@ use Rattle.content.specs.LineMarks.{endingOf, lineMarkOf, marked, linesF
 use Rattle.content.specs.Fold.{breaks, foldedOctet, nextColumn, foldFrom, textOf}
 use Rattle.content.specs.Line.{Param}
 use Rattle.content.specs.Write.{paramsText, lineText}
-use Rattle.content.proofs.Names.{upper-name}
+use Rattle.octets.proofs.Classes.{name-upper}
 use Rattle.content.proofs.LineMarks.{lines-walked}
 
 -- an octet, a fold and an ending where a text begins
@@ -106,4 +106,4 @@ name-upright (c ∷ n) s h =
 
 pub line-upright : (n : List ℕ) (ps : List Param) (v : List ℕ) → isName n ≡ true → Upright (lineText n ps v)
 unfolding lineText
-line-upright n ps v h = name-upright (upper n) (paramsText ps ++ code ":" ∷ v) (upper-name n h)
+line-upright n ps v h = name-upright (upper n) (paramsText ps ++ code ":" ∷ v) (name-upper n h)

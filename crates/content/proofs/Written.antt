@@ -13,7 +13,8 @@ use Rattle.octets.proofs.Pieces.{Free}
 use Rattle.content.specs.Carets.{decoded, encoded}
 use Rattle.content.specs.Line.{Param, front, unquote, paramValue, pieces, paramOf, headed, lineOf}
 use Rattle.content.specs.Write.{asksQuotes, quotedIf, paramValueText, paramText, paramsText, lineText}
-use Rattle.content.proofs.Names.{lower-name, upper-name, lower-upper}
+use Rattle.octets.proofs.Classes.{lower-name, name-upper}
+use Rattle.content.proofs.Names.{lower-upper}
 use Rattle.content.proofs.Encoded.{decoded-encoded, no-quotes, asks-alike}
 use Rattle.content.proofs.Bare.{Closed, Inner, before-closed, behind-closed, pieces-last, pieces-part, pieces-joined, closed-append, closed-cons, closed-all, closed-quoted, closed-joined}
 
@@ -79,7 +80,7 @@ abbrev pub body : Param → List ℕ
 body p = upper (p .name) ++ code "=" ∷ joined (code ",") (map paramValueText (p .values))
 
 pub caps : (p : Param) → Writable p → isName (upper (p .name)) ≡ true
-caps p w = upper-name (p .name) (lower-name (p .name) (w .named))
+caps p w = name-upper (p .name) (lower-name (p .name) (w .named))
 
 pieces-values : (vs : List (List ℕ)) → filled vs ≡ true → map paramValue (pieces (code ",") false (joined (code ",") (map paramValueText vs))) ≡ vs
 unfolding filled
@@ -138,7 +139,7 @@ params-closed (p ∷ ps) h =
     (closed-append (code ":") false (body p) (paramsText ps) (body-closed (code ":") colon p (h .0)) (params-closed ps (h .1)))
 
 pub head-closed : (n : List ℕ) (ps : List Param) → isName n ≡ true → All Writable ps → Closed (code ":") false (upper n ++ paramsText ps)
-head-closed n ps h w = closed-append (code ":") false (upper n) (paramsText ps) (name-closed (code ":") (colon .outside) (upper n) (upper-name n h)) (params-closed ps w)
+head-closed n ps h w = closed-append (code ":") false (upper n) (paramsText ps) (name-closed (code ":") (colon .outside) (upper n) (name-upper n h)) (params-closed ps w)
 
 -- THE LAW: a written line is read again, whatever the octets of its values
 pub line-back : (n : List ℕ) (ps : List Param) (v : List ℕ) → isName n ≡ true → All Writable ps → lineOf (lineText n ps v) ≡ record { name = upper n; params = ps; value = v }
@@ -150,6 +151,6 @@ line-back n ps v h w =
       ← (append-assoc (upper n) (paramsText ps) (code ":" ∷ v)),
       before-closed (code ":") false head v c,
       behind-closed (code ":") false head v c,
-      pieces-params (upper n) ps (name-closed (code ";") (semicolon .outside) (upper n) (upper-name n h)) w,
+      pieces-params (upper n) ps (name-closed (code ";") (semicolon .outside) (upper n) (name-upper n h)) w,
       params-back ps w,
     )

@@ -13,7 +13,7 @@ use Rattle.content.specs.Carets.{encoded}
 use Rattle.content.specs.Line.{Param, pieces}
 use Rattle.content.specs.Form.{quoteFree, quoteLast, inQuotes, valueFormed, paramFormed, headFormed, formed}
 use Rattle.content.specs.Write.{asksQuotes, quotedIf, paramValueText, lineText, paramsText}
-use Rattle.content.proofs.Names.{upper-name}
+use Rattle.octets.proofs.Classes.{name-upper}
 use Rattle.content.proofs.Encoded.{no-quotes}
 use Rattle.content.proofs.Bare.{has-closed, before-closed, behind-closed, pieces-joined}
 use Rattle.content.proofs.Written.{Writable, body, caps, equals-closed, head-closed, semicolon, name-closed, values-closed, pieces-params}
@@ -69,6 +69,6 @@ line-formed n ps v h w =
       ← (append-assoc (upper n) (paramsText ps) (code ":" ∷ v)),
       has-closed (code ":") false head v c,
       before-closed (code ":") false head v c,
-      pieces-params (upper n) ps (name-closed (code ";") (semicolon .outside) (upper n) (upper-name n h)) w,
+      pieces-params (upper n) ps (name-closed (code ";") (semicolon .outside) (upper n) (name-upper n h)) w,
     )
-    (and-true (upper-name n h) (params-formed ps w))
+    (and-true (name-upper n h) (params-formed ps w))

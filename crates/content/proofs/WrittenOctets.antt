@@ -16,7 +16,7 @@ use Rattle.octets.proofs.Classes.{between-true, within-between}
 use Rattle.content.specs.Carets.{encoded}
 use Rattle.content.specs.Line.{Param}
 use Rattle.content.specs.Write.{asksQuotes, quotedIf, paramValueText, paramText, paramsText, lineText}
-use Rattle.content.proofs.Names.{lower-name, upper-name}
+use Rattle.octets.proofs.Classes.{lower-name, name-upper}
 
 abbrev pub printable : ℕ → Bool
 printable c = between 32 126 c
@@ -33,7 +33,7 @@ name-octet c h = either (isLetter c) (isDigit c or eqb c (code "-")) h
 
 pub name-printable : (n : List ℕ) → isName n ≡ true → all printable (upper n) ≡ true
 unfolding isName
-name-printable n h = all-weaker nameOctet printable name-octet (upper n) (both (filled (upper n)) (all nameOctet (upper n)) (upper-name n h) .1)
+name-printable n h = all-weaker nameOctet printable name-octet (upper n) (both (filled (upper n)) (all nameOctet (upper n)) (name-upper n h) .1)
 
 module _ (C : List ℕ → Type 0) (print : (s : List ℕ) → all printable s ≡ true → C s) (join : (s t : List ℕ) → C s → C t → C (s ++ t)) where
   octet-has : (c : ℕ) (t : List ℕ) → printable c ≡ true → C t → C (c ∷ t)

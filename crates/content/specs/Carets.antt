@@ -1,4 +1,4 @@
--- Parameter values by RFC 6868 (3.1, 3.2): `^n` is newline, `^^` a caret, `^'` a double quote; a caret before anything else stays (01, Parameters).
+-- Parameter values by RFC 6868 (3): `^n` is newline, `^^` a caret, `^'` a double quote; a caret before anything else stays (01, Parameters).
 use Prim.Native.Nat.{ℕ}
 use Prim.Native.Char.{code}
 use mathlib.Core.Bool.{Bool, true, false, not}

@@ -1,4 +1,4 @@
--- A parameter value on its way to jCal, octet by octet (RFC 6868 3.1; 01, Parameters and Values).
+-- A parameter value on its way to jCal, octet by octet (RFC 6868 3; 01, Parameters and Values).
 use Prim.Native.Nat.{ℕ}
 use Prim.Native.Char.{code}
 use mathlib.Core.Bool.{Bool}

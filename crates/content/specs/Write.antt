@@ -1,4 +1,4 @@
--- A content line as written (RFC 5545 3.1; RFC 6868; 01, Lines and Parameters): names in uppercase, values with colon, semicolon or comma in quotes.
+-- A content line as written (RFC 5545 3.1; RFC 6868 3; 01, Lines and Parameters): names in uppercase, values with colon, semicolon or comma in quotes.
 use Prim.Native.Nat.{ℕ}
 use Prim.Native.Char.{code}
 use mathlib.Core.Bool.{Bool, true, false}

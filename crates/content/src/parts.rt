@@ -45,7 +45,7 @@ pub fn parts_of(line: &[u8]) -> Parts
 }
 
 // Finds the parts of the parameter that begins at `at`.
-pub fn param_at(s: &[u8], at: usize) -> ParamParts
+pub(crate) fn param_at(s: &[u8], at: usize) -> ParamParts
     requires { ⌜ at ≤ length (now s) ⌝ }
     ensures { λ r. ⌜ CutParam (now (s .entry)) at r ⌝ }
 {
@@ -66,7 +66,7 @@ pub fn param_at(s: &[u8], at: usize) -> ParamParts
 }
 
 // The parameter value from `from` to `end`, without the quotes around it.
-pub fn inner(s: &[u8], from: usize, end: usize) -> Span
+pub(crate) fn inner(s: &[u8], from: usize, end: usize) -> Span
     requires { ⌜ (from ≤ end) × (end ≤ length (now s)) ⌝ }
     ensures { λ r. ⌜ Inner (now (s .entry)) from end r ⌝ }
 {

@@ -51,7 +51,7 @@ fn greater(a: u8, b: u8) -> u8
 }
 
 // The place of the next `a` or `b` from `at` on that is not in quotes, or the end. Most octets are above `a`, `b` and the quote.
-pub fn next_bare(s: &[u8], at: usize, a: u8, b: u8) -> usize
+pub(crate) fn next_bare(s: &[u8], at: usize, a: u8, b: u8) -> usize
     ensures { λ r. ⌜ r ≡ at + length (untilBare (λ c. eqb c a or eqb c b) false (drop at (now (s .entry)))) ⌝ }
 {
     let most = greater(greater(a, b), b'"');

@@ -1,5 +1,5 @@
 -- `content::lines::unfold` meets its contract.
-use Rattle.content.proofs.Unfolding.{laidFrom, laid-start, trim-within, turn-last, turn-fold, turn-end, turn-none}
+use Rattle.content.proofs.LineRuns.{laidFrom, laid-start, trim-within, turn-last, turn-fold, turn-end, turn-none}
 use Rattle.octets.proofs.Search.{scan-low, scan-high}
 use Rattle.content.specs.Lines.{isLf, linesOf}
 use Rattle.content.specs.LineMarks.{linesFrom}

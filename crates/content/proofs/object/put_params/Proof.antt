@@ -9,7 +9,7 @@ use Rattle.content.specs.Parts.{paramsIn}
 use Rattle.octets.proofs.Pen.{Leads, leads-start, leads-on, leads-same, leads-last, then, as-text}
 use Rattle.octets.specs.Pen.{pen}
 use Rattle.content.proofs.Objects.{membersText, object-text, object-end, object-skip, object-on}
-use Rattle.content.proofs.Walking.{Stands, first-stands, first-params, param-next}
+use Rattle.content.proofs.ParamPlaces.{Stands, first-stands, first-params, param-next}
 use Rattle.content.proofs.object.put_params.Statement.{statement}
 use Rattle.content.proofs.object.put_params.Tie as tie
 

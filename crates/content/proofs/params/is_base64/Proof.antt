@@ -2,7 +2,7 @@
 use borrow.Author.Tests.{not-true, not-false}
 use mathlib.Core.Path.{sym, _∙_}
 use borrow.Author.Needs.{needs}
-use Rattle.content.proofs.Telling.{base64-several, base64-one}
+use Rattle.content.proofs.ParamAnswers.{base64-several, base64-one}
 use Rattle.content.proofs.params.is_base64.Statement.{statement}
 use Rattle.content.proofs.params.is_base64.Tie as tie
 

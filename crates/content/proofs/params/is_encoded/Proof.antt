@@ -5,8 +5,8 @@ use Prim.Native.Nat.{_-_}
 use borrow.Author.Needs.{needs}
 use Rattle.content.specs.Parameters.{isEncoded}
 use Rattle.content.specs.Parts.{paramsIn}
-use Rattle.content.proofs.Telling.{encoded-none, encoded-here, encoded-not, encoded-on}
-use Rattle.content.proofs.Walking.{Stands, first-stands, first-params, param-next}
+use Rattle.content.proofs.ParamAnswers.{encoded-none, encoded-here, encoded-not, encoded-on}
+use Rattle.content.proofs.ParamPlaces.{Stands, first-stands, first-params, param-next}
 use Rattle.content.proofs.params.is_encoded.Statement.{statement}
 use Rattle.content.proofs.params.is_encoded.Tie as tie
 

@@ -2,7 +2,7 @@
 use mathlib.Core.Path.{sym, _∙_}
 use borrow.Author.Needs.{needs}
 use Rattle.octets.proofs.Positions.{part-length}
-use Rattle.content.proofs.Telling.{single-told}
+use Rattle.content.proofs.ParamAnswers.{single-told}
 use Rattle.content.proofs.params.is_single.Statement.{statement}
 use Rattle.content.proofs.params.is_single.Tie as tie
 

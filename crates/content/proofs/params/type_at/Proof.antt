@@ -2,7 +2,7 @@
 use borrow.Author.Tests.{not-true, not-false}
 use mathlib.Core.Path.{sym, _∙_}
 use borrow.Author.Needs.{needs}
-use Rattle.content.proofs.Telling.{tells-several, tells-no-name, tells-unknown, tells-named}
+use Rattle.content.proofs.ParamAnswers.{tells-several, tells-no-name, tells-unknown, tells-named}
 use Rattle.content.proofs.params.type_at.Statement.{statement}
 use Rattle.content.proofs.params.type_at.Tie as tie
 

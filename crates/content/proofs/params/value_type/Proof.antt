@@ -5,8 +5,8 @@ use Prim.Native.Nat.{_-_}
 use borrow.Author.Needs.{needs}
 use Rattle.content.specs.Parameters.{valueType}
 use Rattle.content.specs.Parts.{paramsIn}
-use Rattle.content.proofs.Telling.{tells, type-none, type-here, type-on}
-use Rattle.content.proofs.Walking.{Stands, first-stands, first-params, param-next}
+use Rattle.content.proofs.ParamAnswers.{tells, type-none, type-here, type-on}
+use Rattle.content.proofs.ParamPlaces.{Stands, first-stands, first-params, param-next}
 use Rattle.content.proofs.params.value_type.Statement.{statement}
 use Rattle.content.proofs.params.value_type.Tie as tie
 

@@ -1,7 +1,7 @@
 -- `content::parts::inner` meets its contract.
 use mathlib.Core.Path.{sym}
 use native.Mathlib.Omega.{arith}
-use Rattle.content.proofs.Tokens.{inner-empty, inner-plain, inner-lone, inner-quoted}
+use Rattle.content.proofs.ParamValues.{inner-empty, inner-plain, inner-lone, inner-quoted}
 use Rattle.content.proofs.PlaceSpans.{beyond}
 use Rattle.content.proofs.parts.inner.Statement.{statement}
 use Rattle.content.proofs.parts.inner.Tie as tie

@@ -2,7 +2,7 @@
 use borrow.Author.Tests.{not-true, not-false}
 use mathlib.Core.Path.{sym, _∙_}
 use borrow.Author.Needs.{needs}
-use Rattle.content.proofs.Tested.{read-none, read-unclean, read-unformed, read-laid}
+use Rattle.content.proofs.LinesRead.{read-none, read-unclean, read-unformed, read-laid}
 use Rattle.content.proofs.reading.read_lines.Statement.{statement}
 use Rattle.content.proofs.reading.read_lines.Tie as tie
 

@@ -6,7 +6,7 @@ use borrow.Author.Needs.{needs}
 use borrow.Fn.Kinds.{In}
 use borrow.Fn.PlainCycle.{Measures, is, falls, and}
 use Rattle.content.specs.Parameters.{nameTwice}
-use Rattle.content.proofs.Walking.{first-stands, first-params, twice-none, twice-behind, twice-first}
+use Rattle.content.proofs.ParamPlaces.{first-stands, first-params, twice-none, twice-behind, twice-first}
 use Rattle.content.proofs.twice.twice_few.Reads as twice-few
 use Rattle.content.proofs.twice.twice_few.Kinds as twice-few-kinds
 use Rattle.content.proofs.twice.+twice_few.Lts-twice_few as twice-few-lts

@@ -7,7 +7,8 @@ use borrow.Author.Needs.{needs}
 use Rattle.content.specs.Parts.{paramsIn, nameOf}
 use Rattle.octets.specs.Classes.{lower}
 use Rattle.octets.specs.Basics.{among}
-use Rattle.content.proofs.Walking.{Stands, first-stands, first-params, param-next, same-lower, among-none, among-here, among-on}
+use Rattle.content.proofs.Names.{same-lower}
+use Rattle.content.proofs.ParamPlaces.{Stands, first-stands, first-params, param-next, among-none, among-here, among-on}
 use Rattle.content.proofs.twice.has_name.Statement.{statement}
 use Rattle.content.proofs.twice.has_name.Tie as tie
 

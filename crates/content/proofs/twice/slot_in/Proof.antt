@@ -9,7 +9,7 @@ use Rattle.octets.specs.Classes.{lower}
 use Rattle.content.specs.Slots.{passed, slotIn}
 use Rattle.content.proofs.Scanning.{bare-high}
 use Rattle.content.proofs.Separators.{oneOf}
-use Rattle.content.proofs.Walking.{same-lower}
+use Rattle.content.proofs.Names.{same-lower}
 use Rattle.content.proofs.Tables.{name-seen, seeking-start, seeking-end, seeking-free, seeking-there, seeking-on}
 use Rattle.content.proofs.twice.slot_in.Statement.{statement}
 use Rattle.content.proofs.twice.slot_in.Tie as tie

@@ -3,7 +3,7 @@ use Prim.Native.Nat.{_-_}
 use mathlib.Core.Path.{_≡_, refl, sym, _∙_}
 use borrow.Author.Needs.{needs}
 use lib.ListN.{length, length-set}
-use Rattle.content.proofs.Walking.{Stands, first-stands, first-params, param-next}
+use Rattle.content.proofs.ParamPlaces.{Stands, first-stands, first-params, param-next}
 use Rattle.content.proofs.Tables.{Noting, names, noting-start, walk-end, walk-twice, walk-there, walk-full, walk-free}
 use Rattle.content.proofs.twice.twice_by.Statement.{statement}
 use Rattle.content.proofs.twice.twice_by.Tie as tie

@@ -26,10 +26,11 @@ use Rattle.content.specs.declared.parts.ParamParts.{ParamParts}
 use Rattle.content.specs.declared.parts.Span.{Span}
 use Rattle.content.specs.declared.params.ValueType.{ValueType}
 use Rattle.content.specs.declared.params.ValueType.the-variants.{Absent, Named, Faulty}
+use Rattle.content.proofs.Names.{same-lower}
 use Rattle.content.proofs.Scanning.{bare-rest, bare-stop}
 use Rattle.content.proofs.Separators.{oneOf, twice-one, before-is, sep-before, pieces-first}
-use Rattle.content.proofs.Walking.{same-lower, Stands, no-params, param-here}
-use Rattle.content.proofs.Tokens.{decoded-name, name-decoded, word-decoded}
+use Rattle.content.proofs.ParamPlaces.{Stands, no-params, param-here}
+use Rattle.content.proofs.ParamValues.{decoded-name, name-decoded, word-decoded}
 
 -- the values of a parameter are one where no comma separates them
 module _ (t : List ℕ) (c : ℕ) (q : c ≡ 0 + length (untilBare (oneOf (code ",") (code ",")) false (drop 0 t))) where

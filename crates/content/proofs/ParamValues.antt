@@ -70,7 +70,7 @@ upper-back-octet c h = cases (isLower c)
     (λ l. unfold nameOctet isLetter in or-first _ (or-second (isUpper c) l))
     (λ l. rw l at h)
 
-upper-back : (s : List ℕ) → all nameOctet (upper s) ≡ true → all nameOctet s ≡ true
+pub upper-back : (s : List ℕ) → all nameOctet (upper s) ≡ true → all nameOctet s ≡ true
 unfolding all upper
 upper-back [] h = refl
 upper-back (c ∷ s) h =

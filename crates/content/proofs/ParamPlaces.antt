@@ -1,18 +1,16 @@
--- A walk over the parameters of a line: each stands behind a semicolon.
+-- The parameters of a line by their places: each stands behind a semicolon.
 use Prim.Native.Nat.{ℕ, _+_, _-_, _≤_, _<_}
 use Prim.Native.Char.{code}
-use mathlib.Core.Path.{_≡_, refl, sym, ap, _∙_}
+use mathlib.Core.Path.{_≡_, _∙_}
 use mathlib.Core.Bool.{Bool, true, false}
 use mathlib.Core.List.{List, [], _∷_, map}
-use native.Mathlib.Omega.{arith}
 use borrow.Author.Tests.{eqb-true}
 use lib.Dec.{eqb}
 use lib.ListN.{length, getD, take, drop}
 use Rattle.octets.specs.Basics.{_or_, any, same, among, twice}
 use Rattle.octets.specs.Pieces.{cut}
-use Rattle.octets.specs.Classes.{isUpper, isLower, upperOctet, lowerOctet, upper, lower, sameName}
-use Rattle.octets.proofs.Cases.{cases, alike, or-second, or-false-right}
-use Rattle.octets.proofs.Classes.{between-true, within-between, above-between, below-between, same-is, same-itself}
+use Rattle.octets.specs.Classes.{lower}
+use Rattle.octets.proofs.Cases.{or-second, or-false-right}
 use Rattle.octets.proofs.Positions.{here, ended}
 use Rattle.content.specs.Line.{quoteAfter, bare, pieces, paramOf}
 use Rattle.content.specs.Scan.{untilBare}
@@ -21,41 +19,6 @@ use Rattle.content.specs.Parameters.{nameTwice}
 use Rattle.content.specs.declared.parts.ParamParts.{ParamParts}
 use Rattle.content.proofs.Scanning.{bare-rest, bare-stop}
 use Rattle.content.proofs.Separators.{oneOf, twice-one, before-is, pieces-first}
-
--- Names compare alike in either case.
-upper-lower : (c : ℕ) → upperOctet (lowerOctet c) ≡ upperOctet c
-unfolding upperOctet lowerOctet
-upper-lower c = cases (isUpper c)
-    (λ u.
-    let b = between-true (code "A") (code "Z") c (unfold isUpper in u) in
-    let l : isLower (c + 32) ≡ true = unfold isLower in within-between (code "a") (code "z") (c + 32) (omega arith) (omega arith) in
-    let n : isLower c ≡ false = unfold isLower in below-between (code "a") (code "z") c (omega arith) in
-    let d : c + 32 - 32 ≡ c = omega arith in
-    rw (u, l, n, d))
-    (λ u. rw u)
-
-lower-upper : (c : ℕ) → lowerOctet (upperOctet c) ≡ lowerOctet c
-unfolding upperOctet lowerOctet
-lower-upper c = cases (isLower c)
-    (λ u.
-    let b = between-true (code "a") (code "z") c (unfold isLower in u) in
-    let l : isUpper (c - 32) ≡ true = unfold isUpper in within-between (code "A") (code "Z") (c - 32) (omega arith) (omega arith) in
-    let n : isUpper c ≡ false = unfold isUpper in above-between (code "A") (code "Z") c (omega arith) in
-    let d : c - 32 + 32 ≡ c = omega arith in
-    rw (u, l, n, d))
-    (λ u. rw u)
-
-through : (f g : ℕ → ℕ) → ((c : ℕ) → f (g c) ≡ f c) → (s : List ℕ) → map f (map g s) ≡ map f s
-through f g e [] = refl
-through f g e (c ∷ s) = rw (e c, through f g e s)
-
-pub same-lower : (a b : List ℕ) → sameName a b ≡ same (lower a) (lower b)
-unfolding sameName upper lower
-same-lower a b = alike (same (map upperOctet a) (map upperOctet b)) (same (map lowerOctet a) (map lowerOctet b))
-    (λ e. let k : map lowerOctet a ≡ map lowerOctet b = sym (through lowerOctet upperOctet lower-upper a) ∙ ap (map lowerOctet) (same-is _ _ e) ∙ through lowerOctet upperOctet lower-upper b in
-    rw k (same-itself (map lowerOctet b)))
-    (λ e. let k : map upperOctet a ≡ map upperOctet b = sym (through upperOctet lowerOctet upper-lower a) ∙ ap (map upperOctet) (same-is _ _ e) ∙ through upperOctet lowerOctet upper-lower b in
-    rw k (same-itself (map upperOctet b)))
 
 -- a parameter, or the end, stands at e: behind a bare semicolon
 pub record Stands (s : List ℕ) (e : ℕ) : Type 0 where

@@ -20,7 +20,7 @@ use Rattle.content.specs.Buffer.{laidOut}
 use Rattle.content.specs.Reading.{linesTold, ReadLines}
 use Rattle.content.specs.declared.reading.Lines.the-variants.{Laid, NotClean, NotFormed, NoRoom}
 use Rattle.content.proofs.Buffer.{lines-again}
-use Rattle.content.proofs.Unfolding.{lines-free}
+use Rattle.content.proofs.LineRuns.{lines-free}
 
 module _ (s o b : List ℕ) (r : ℕ) (w : Wrote (pen o 0) (laidOut (linesOf s)) (pen b r)) where
   buffer-is : b ≡ (wrote (pen o 0) (laidOut (linesOf s))) .buf
