@@ -11,7 +11,7 @@ pub mod Physical
 pub mod ParamText
 pub mod Scanning
 pub mod Buffer
-pub mod LineMarks
+pub mod LineStarts
 pub mod LineRuns
 pub mod CleanLines
 pub mod HeadPieces

@@ -1,5 +1,5 @@
 -- Unfolding by runs: what stands before an LF goes into its line, but for a CR right before it; the LF ends the line or folds it.
-use Prim.Native.Nat.{ℕ, zero, suc, _+_, _-_, _≤_, _<_}
+use Prim.Native.Nat.{ℕ, _+_, _-_, _≤_, _<_}
 use Prim.Native.Char.{code}
 use mathlib.Core.Path.{_≡_, refl, ap, _∙_}
 use mathlib.Core.Bool.{Bool, true, false}
@@ -10,19 +10,16 @@ use lib.Dec.{eqb, ltb}
 use lib.ListN.{length, getD, take, drop}
 use lib.Seq.{drop-drop}
 use Rattle.octets.specs.Basics.{pick, _and_, _or_, filled, All}
-use Rattle.octets.specs.Pieces.{onto}
-use Rattle.octets.specs.Pen.{pen, Wrote}
+use Rattle.octets.specs.Pieces.{onto, cut}
 use Rattle.octets.proofs.Cases.{cases, and-false-right, or-false-right, or-true-right}
-use Rattle.octets.proofs.Pen.{kept, landed}
 use Rattle.octets.proofs.Pieces.{Free}
 use Rattle.octets.proofs.Positions.{here, ended, part-more, part-length, first-of}
 use Rattle.content.specs.Lines.{newlines, isBlank, unfoldedFrom, isLf, cutLines, linesOf}
-use Rattle.content.specs.LineMarks.{LineMark, octet, ending, fold, lineMarkOf, marked, linesFrom}
 use Rattle.octets.specs.Search.{until}
 use Rattle.content.specs.Buffer.{laidOut}
 use Rattle.octets.proofs.Search.{until-free, scan-low, scan-is, scan-stop, scan-split, scan-whole}
-use Rattle.content.proofs.LineMarks.{behindLf, plain-mark, run-octet, run-none, run-cr, lines-walked}
-use Rattle.content.proofs.Buffer.{cut-free, lines-again}
+use Rattle.content.proofs.LineStarts.{lines-none, lines-octet, lines-cr, behindLf, lines-lf, lines-short}
+use Rattle.content.proofs.Buffer.{cut-free}
 
 -- octets in front of the first line
 ontoAll : List ℕ → List (List ℕ) → List (List ℕ)
@@ -35,37 +32,28 @@ withoutCr [] = []
 withoutCr (c ∷ []) = pick (eqb c (code "\r")) [] (c ∷ [])
 withoutCr (c ∷ d ∷ s) = c ∷ withoutCr (d ∷ s)
 
-lines-past : (t : List ℕ) → linesFrom 1 t ≡ linesFrom 0 (drop 1 t)
-unfolding linesFrom
-lines-past [] = refl
-lines-past (c ∷ t) = refl
-
-run-one : (c : ℕ) (t : List ℕ) → eqb c (code "\n") ≡ false → linesFrom 0 (c ∷ code "\n" ∷ t) ≡ ontoAll (withoutCr (c ∷ [])) (behindLf t)
+run-one : (c : ℕ) (t : List ℕ) → eqb c (code "\n") ≡ false → linesOf (c ∷ code "\n" ∷ t) ≡ ontoAll (withoutCr (c ∷ [])) (behindLf t)
 unfolding withoutCr ontoAll
 run-one c t e = cases (eqb c (code "\r"))
-    (λ f. rw f (run-cr c t e f))
-    (λ f. rw f (run-octet c (code "\n" ∷ t) (plain-mark c (code "\n" ∷ t) e (rw f)) ∙ ap (onto c) (run-none t)))
+    (λ f. rw f (lines-cr c (code "\n" ∷ t) f refl ∙ lines-lf t))
+    (λ f. rw f (lines-octet c (code "\n" ∷ t) e (rw f) ∙ ap (onto c) (lines-lf t)))
 
 -- a run of octets up to an LF
-run-lf : (f t : List ℕ) → Free (code "\n") f → linesFrom 0 (f ++ code "\n" ∷ t) ≡ ontoAll (withoutCr f) (behindLf t)
+run-lf : (f t : List ℕ) → Free (code "\n") f → linesOf (f ++ code "\n" ∷ t) ≡ ontoAll (withoutCr f) (behindLf t)
 unfolding withoutCr ontoAll
-run-lf [] t n = run-none t
+run-lf [] t n = lines-lf t
 run-lf (c ∷ []) t n = run-one c t (n .0)
-run-lf (c ∷ d ∷ f) t n =
-    run-octet c (d ∷ f ++ code "\n" ∷ t) (plain-mark c (d ∷ f ++ code "\n" ∷ t) (n .0) (rw (n .1 .0) (and-false-right (eqb c (code "\r")))))
-    ∙ ap (onto c) (run-lf (d ∷ f) t (n .1))
+run-lf (c ∷ d ∷ f) t n = lines-octet c (d ∷ f ++ code "\n" ∷ t) (n .0) (rw (n .1 .0) (and-false-right (eqb c (code "\r")))) ∙ ap (onto c) (run-lf (d ∷ f) t (n .1))
 
 -- a run of octets up to the end of the text
 not-lf : (s : List ℕ) → Free (code "\n") s → eqb (getD s 0 0) (code "\n") ≡ false
 not-lf [] n = refl
 not-lf (c ∷ s) n = n .0
 
-run-end : (s : List ℕ) → Free (code "\n") s → linesFrom 0 s ≡ ontoAll s []
-unfolding linesFrom ontoAll
-run-end [] n = refl
-run-end (c ∷ s) n =
-    run-octet c s (plain-mark c s (n .0) (rw (not-lf s (n .1)) (and-false-right (eqb c (code "\r")))))
-    ∙ ap (onto c) (run-end s (n .1))
+run-end : (s : List ℕ) → Free (code "\n") s → linesOf s ≡ ontoAll s []
+unfolding ontoAll
+run-end [] n = lines-none
+run-end (c ∷ s) n = lines-octet c s (n .0) (rw (not-lf s (n .1)) (and-false-right (eqb c (code "\r")))) ∙ ap (onto c) (run-end s (n .1))
 
 -- the lines laid out, where the line before them is begun or not: one that is begun is ended at the end of the text
 unfoldable pub laidFrom : Bool → List (List ℕ) → List ℕ
@@ -153,21 +141,21 @@ part-filled s i k h l = cases (ltb i k)
 
 -- One turn: the run from i to e goes into its line. What stands behind the LF, or at the end of the text?
 module _ (s : List ℕ) (b : Bool) (i e : ℕ) (q : e ≡ i + length (until isLf (drop i s))) where
-  pub turn-last : i < length s → length s ≤ e → laidFrom b (linesFrom 0 (drop i s)) ≡ take (e - i) (drop i s) ++ code "\n" ∷ []
+  pub turn-last : i < length s → length s ≤ e → laidFrom b (linesOf (drop i s)) ≡ take (e - i) (drop i s) ++ code "\n" ∷ []
   unfolding laidFrom filled
   turn-last h l =
       let w : until isLf (drop i s) ≡ drop i s = scan-whole isLf s i e q l in
       let f : filled (drop i s) ≡ true = rw (here s i h) in
       rw (scan-is isLf s i e q, w) (ap (laidFrom b) (run-end (drop i s) (rw w at (until-free isLf (drop i s)))) ∙ laid-all b (drop i s) [] ∙ rw (f, or-true-right b))
 
-  behind-run : e < length s → linesFrom 0 (drop i s) ≡ ontoAll (take (trimTo s i e - i) (drop i s)) (behindLf (drop (e + 1) s))
+  behind-run : e < length s → linesOf (drop i s) ≡ ontoAll (take (trimTo s i e - i) (drop i s)) (behindLf (drop (e + 1) s))
   behind-run l =
       let c : getD s e 0 ≡ code "\n" = eqb-true (getD s e 0) (code "\n") (scan-stop isLf s i e q l) in
-      ap (linesFrom 0) (scan-split isLf s i e q l)
+      ap linesOf (scan-split isLf s i e q l)
       ∙ rw (c, run-lf (until isLf (drop i s)) (drop (e + 1) s) (until-free isLf (drop i s)), ← scan-is isLf s i e q, trim-is s i e (scan-low isLf s i e q) (omega arith))
 
   -- the run's octets in front of what an LF makes
-  run-on : e < length s → laidFrom b (linesFrom 0 (drop i s))
+  run-on : e < length s → laidFrom b (linesOf (drop i s))
       ≡ take (trimTo s i e - i) (drop i s) ++ laidFrom (b or ltb i (trimTo s i e)) (behindLf (drop (e + 1) s))
   run-on l =
       let g = scan-low isLf s i e q in
@@ -176,23 +164,20 @@ module _ (s : List ℕ) (b : Bool) (i e : ℕ) (q : e ≡ i + length (until isLf
       ap (laidFrom b) (behind-run l) ∙ laid-all b _ _ ∙ rw (part-filled s i (trimTo s i e) (trim-low s i e g w) n)
 
   pub turn-fold : (k : ℕ) → k ≡ trimTo s i e → e < length s → isBlank (getD s (e + 1) 0) ≡ true
-      → laidFrom b (linesFrom 0 (drop i s)) ≡ take (k - i) (drop i s) ++ laidFrom (b or ltb i k) (linesFrom 0 (drop (e + 2) s))
+      → laidFrom b (linesOf (drop i s)) ≡ take (k - i) (drop i s) ++ laidFrom (b or ltb i k) (linesOf (drop (e + 2) s))
   turn-fold k t l f =
       let n : e + 1 + 1 ≡ e + 2 = omega arith in
       let d : drop 1 (drop (e + 1) s) ≡ drop (e + 2) s = drop-drop 1 (e + 1) s ∙ rw n in
-      run-on l ∙ rw (t, first-of s (e + 1), f, lines-past, d)
+      run-on l ∙ rw (t, first-of s (e + 1), f, d)
 
   pub turn-end : (k : ℕ) → k ≡ trimTo s i e → e < length s → isBlank (getD s (e + 1) 0) ≡ false
-      → laidFrom b (linesFrom 0 (drop i s)) ≡ (take (k - i) (drop i s) ++ code "\n" ∷ []) ++ laidFrom false (linesFrom 0 (drop (e + 1) s))
+      → laidFrom b (linesOf (drop i s)) ≡ (take (k - i) (drop i s) ++ code "\n" ∷ []) ++ laidFrom false (linesOf (drop (e + 1) s))
   turn-end k t l f = run-on l ∙ rw (t, append-assoc, first-of s (e + 1), f, laid-lf)
 
-pub turn-none : (s : List ℕ) (b : Bool) (i : ℕ) → length s ≤ i → laidFrom b (linesFrom 0 (drop i s)) ≡ pick b (code "\n" ∷ []) []
-unfolding laidFrom linesFrom
-turn-none s true i h = rw (ended s i h)
-turn-none s false i h = rw (ended s i h)
-
-pub laid-start : (s : List ℕ) → laidFrom false (linesFrom 0 (drop 0 s)) ≡ laidOut (linesOf s)
-laid-start s = rw (lines-walked s) (laid-fresh (linesFrom 0 s))
+pub turn-none : (s : List ℕ) (b : Bool) (i : ℕ) → length s ≤ i → laidFrom b (linesOf (drop i s)) ≡ pick b (code "\n" ∷ []) []
+unfolding laidFrom
+turn-none s true i h = rw (ended s i h, lines-none)
+turn-none s false i h = rw (ended s i h, lines-none)
 
 -- no LF in a line of a text
 pub lines-free : (s : List ℕ) → All (Free (code "\n")) (linesOf s)
@@ -200,34 +185,14 @@ unfolding linesOf
 lines-free s = cut-free (unfoldedFrom 0 (newlines s))
 
 -- the lines laid out are at most an octet longer than the text
-short-by : (m : LineMark) (b : Bool) (c : ℕ) (s : List ℕ) → ((a : Bool) (k : ℕ) → length (laidFrom a (linesFrom k s)) ≤ length s + 1)
-    → length (laidFrom b (marked m c (λ k. linesFrom k s))) ≤ suc (length s) + 1
-unfolding marked
-short-by octet b c s h = rw (laid-one b c (linesFrom 0 s)) (omega (arith, h true 0))
-short-by (ending k) b c s h = rw (laid-lf b (linesFrom k s)) (omega (arith, h false k))
-short-by (fold k) b c s h = omega (arith, h b k)
-
-short : (b : Bool) (k : ℕ) (s : List ℕ) → length (laidFrom b (linesFrom k s)) ≤ length s + 1
-unfolding linesFrom laidFrom
-short true k [] = omega arith
-short false k [] = omega arith
-short b (suc k) (c ∷ s) = omega (arith, short b k s)
-short b zero (c ∷ s) = short-by (lineMarkOf (c ∷ s)) b c s (λ a k. short a k s)
+short : (b : Bool) (s : List ℕ) → length (laidFrom b (cutLines s)) ≤ length s + 1
+unfolding cutLines cut laidFrom
+short true [] = omega arith
+short false [] = omega arith
+short b (c ∷ s) = cases (eqb c (code "\n"))
+    (λ e. rw (e, laid-lf b (cutLines s)) (omega (arith, short false s)))
+    (λ e. rw (e, laid-one b c (cutLines s)) (omega (arith, short true s)))
 
 pub laid-short : (s : List ℕ) → length (laidOut (linesOf s)) ≤ length s + 1
-laid-short s = rw (lines-walked s, ← laid-fresh (linesFrom 0 s)) (short false 0 s)
-
--- what `unfold` leaves in a buffer that is longer than the text
-pub record Unfolded (s b : List ℕ) (r : ℕ) : Type 0 where
-  pub within : r ≤ length b
-  pub laid : take r b ≡ laidOut (linesOf s)
-  pub lines : cutLines (take r b) ≡ linesOf s
-
-pub unfolded : (s o b : List ℕ) (r : ℕ) → length s < length o → Wrote (pen o 0) (laidOut (linesOf s)) (pen b r) → Unfolded s b r
-unfolded s o b r h w =
-    let l = landed o (laidOut (linesOf s)) b r (omega (arith, laid-short s)) w in
-    record {
-      within = omega (arith, l .count, kept w, laid-short s);
-      laid = l .front;
-      lines = ap cutLines (l .front) ∙ lines-again (linesOf s) (lines-free s);
-    }
+unfolding linesOf
+laid-short s = rw (← laid-fresh (cutLines (unfoldedFrom 0 (newlines s)))) (omega (arith, short false (unfoldedFrom 0 (newlines s)), lines-short s))

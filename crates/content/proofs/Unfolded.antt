@@ -12,26 +12,20 @@ use Rattle.octets.specs.Classes.{between, isDigit, isUpper, isLower, isLetter, 
 use Rattle.octets.specs.Utf8.{utf8, clean}
 use Rattle.octets.proofs.Cases.{cases, never, both, apart, and-false-right, or-false, All-weaker, all-All}
 use Rattle.octets.proofs.Pieces.{Free}
-use Rattle.content.specs.Lines.{newlines, isBlank, unfoldedFrom, cutLines, linesOf}
-use Rattle.content.specs.LineMarks.{endingOf, lineMarkOf, marked, linesFrom}
+use Rattle.content.specs.Lines.{isBlank, linesOf}
 use Rattle.content.specs.Fold.{breaks, foldedOctet, nextColumn, foldFrom, textOf}
 use Rattle.content.specs.Line.{Param}
 use Rattle.content.specs.Write.{paramsText, lineText}
 use Rattle.octets.proofs.Classes.{name-upper}
-use Rattle.content.proofs.LineMarks.{lines-walked}
+use Rattle.content.proofs.LineStarts.{lines-none, lines-octet, lines-cr, lines-lf}
 
--- an octet, a fold and an ending where a text begins
-lines-octet : (c : ℕ) (s : List ℕ) → eqb c (code "\n") ≡ false → eqb (getD s 0 0) (code "\n") ≡ false → linesFrom 0 (c ∷ s) ≡ onto c (linesFrom 0 s)
-unfolding linesFrom lineMarkOf endingOf marked
-lines-octet c s h k = rw (h, k, and-false-right (eqb c (code "\r")))
+-- a fold and an ending where a text begins
+lines-fold : (s : List ℕ) → linesOf (octets "\r\n " ++ s) ≡ linesOf s
+unfolding isBlank
+lines-fold s = lines-cr (code "\r") (code "\n" ∷ code " " ∷ s) refl refl ∙ lines-lf (code " " ∷ s)
 
-lines-fold : (s : List ℕ) → linesFrom 0 (octets "\r\n " ++ s) ≡ linesFrom 0 s
-unfolding linesFrom lineMarkOf endingOf marked isBlank
-lines-fold s = refl
-
-lines-end : (s : List ℕ) → isBlank (getD s 0 0) ≡ false → linesFrom 0 (octets "\r\n" ++ s) ≡ [] ∷ linesFrom 0 s
-unfolding linesFrom lineMarkOf endingOf marked
-lines-end s h = rw h
+lines-end : (s : List ℕ) → isBlank (getD s 0 0) ≡ false → linesOf (octets "\r\n" ++ s) ≡ [] ∷ linesOf s
+lines-end s h = lines-cr (code "\r") (code "\n" ∷ s) refl refl ∙ lines-lf s ∙ rw h
 
 -- a folded line begins with its first octet, or with CR
 module _ (p : ℕ → Bool) (return : p (code "\r") ≡ false) where
@@ -51,13 +45,16 @@ no-newline [] h = refl
 no-newline (c ∷ l) h = h .0
 
 -- an octet of a folded line
-fold-octet : (col c : ℕ) (s : List ℕ) → eqb c (code "\n") ≡ false → eqb (getD s 0 0) (code "\n") ≡ false → linesFrom 0 (foldedOctet col c ++ s) ≡ onto c (linesFrom 0 s)
+fold-octet : (col c : ℕ) (s : List ℕ) → eqb c (code "\n") ≡ false → eqb (getD s 0 0) (code "\n") ≡ false → linesOf (foldedOctet col c ++ s) ≡ onto c (linesOf s)
 unfolding foldedOctet
 fold-octet col c s h k = cases (breaks col c)
-    (λ e. rw e (lines-fold (c ∷ s) ∙ lines-octet c s h k))
-    (λ e. rw e (lines-octet c s h k))
+    (λ e. rw e (lines-fold (c ∷ s) ∙ octet))
+    (λ e. rw e octet)
+  where
+    octet : linesOf (c ∷ s) ≡ onto c (linesOf s)
+    octet = lines-octet c s h (rw k (and-false-right (eqb c (code "\r"))))
 
-fold-line : (col : ℕ) (l s : List ℕ) → Free (code "\n") l → isBlank (getD s 0 0) ≡ false → linesFrom 0 (foldFrom col l ++ (octets "\r\n" ++ s)) ≡ l ∷ linesFrom 0 s
+fold-line : (col : ℕ) (l s : List ℕ) → Free (code "\n") l → isBlank (getD s 0 0) ≡ false → linesOf (foldFrom col l ++ (octets "\r\n" ++ s)) ≡ l ∷ linesOf s
 unfolding foldFrom onto
 fold-line col [] s h b = lines-end s b
 fold-line col (c ∷ l) s h b =
@@ -81,9 +78,9 @@ upright-text (l ∷ ls) h = line-begins isBlank (unfold isBlank in refl) 0 l (te
     begins (c ∷ l) h = h
 
 -- no line has an LF, and none but the first begins with a space or tab
-lines-back : (l : List ℕ) (ls : List (List ℕ)) → All (Free (code "\n")) (l ∷ ls) → All Upright ls → linesFrom 0 (textOf (l ∷ ls)) ≡ l ∷ ls
+lines-back : (l : List ℕ) (ls : List (List ℕ)) → All (Free (code "\n")) (l ∷ ls) → All Upright ls → linesOf (textOf (l ∷ ls)) ≡ l ∷ ls
 unfolding textOf
-lines-back l [] f u = fold-line 0 l (textOf []) (f .0) (upright-text [] tt) ∙ (unfold linesFrom in refl)
+lines-back l [] f u = fold-line 0 l (textOf []) (f .0) (upright-text [] tt) ∙ ap (λ r. l ∷ r) lines-none
 lines-back l (m ∷ ls) f u = fold-line 0 l (textOf (m ∷ ls)) (f .0) (upright-text (m ∷ ls) u) ∙ ap (λ r. l ∷ r) (lines-back m ls (f .1) (u .1))
 
 -- clean lines have no LF
@@ -93,8 +90,8 @@ clean-free l h = All-weaker (λ c e. apart plainOctet c (code "\n") e (unfold pl
 
 -- THE LAW
 pub clean-lines-back : (ls : List (List ℕ)) → All (λ l. clean l ≡ true) ls → All Upright ls → linesOf (textOf ls) ≡ ls
-clean-lines-back [] c u = unfold linesOf textOf newlines unfoldedFrom cutLines in refl
-clean-lines-back (l ∷ ls) c u = lines-walked (textOf (l ∷ ls)) ∙ lines-back l ls (All-weaker clean-free (l ∷ ls) c) (u .1)
+clean-lines-back [] c u = unfold textOf in lines-none
+clean-lines-back (l ∷ ls) c u = lines-back l ls (All-weaker clean-free (l ∷ ls) c) (u .1)
 
 -- a content line begins with an octet of its name
 name-upright : (n s : List ℕ) → isName n ≡ true → Upright (n ++ s)

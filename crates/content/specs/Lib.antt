@@ -6,7 +6,6 @@ pub mod Parameters
 pub mod Write
 pub mod Fold
 pub mod Physical
-pub mod LineMarks
 pub mod LinePlaces
 pub mod Folding
 pub mod Scan

@@ -1,8 +1,7 @@
 -- `content::lines::unfold` meets its contract.
-use Rattle.content.proofs.LineRuns.{laidFrom, laid-start, trim-within, turn-last, turn-fold, turn-end, turn-none}
+use Rattle.content.proofs.LineRuns.{laidFrom, laid-fresh, trim-within, turn-last, turn-fold, turn-end, turn-none}
 use Rattle.octets.proofs.Search.{scan-low, scan-high}
 use Rattle.content.specs.Lines.{isLf, linesOf}
-use Rattle.content.specs.LineMarks.{linesFrom}
 use Rattle.content.specs.Buffer.{laidOut}
 use Rattle.octets.proofs.Pen.{Leads, leads-start, leads-on, leads-last, leads-end, then}
 use Rattle.octets.specs.Pen.{pen}
@@ -15,7 +14,7 @@ use Rattle.content.proofs.lines.unfold.Statement.{statement}
 use Rattle.content.proofs.lines.unfold.Tie as tie
 
 abbrev Inv-loop : tie.InvT-loop
-Inv-loop text out₀ i₀ at₀ begun₀ out i at begun = (length out ≡ length out₀) × Leads (pen out₀ 0) (laidOut (linesOf text)) (pen out at) (laidFrom begun (linesFrom 0 (drop i text)))
+Inv-loop text out₀ i₀ at₀ begun₀ out i at begun = (length out ≡ length out₀) × Leads (pen out₀ 0) (laidOut (linesOf text)) (pen out at) (laidFrom begun (linesOf (drop i text)))
 
 abbrev μ-loop : tie.MeasureT-loop
 μ-loop text out₀ i₀ at₀ begun₀ out i at begun = length text - i
@@ -56,7 +55,7 @@ unfold-spec =
     (tie.spec
     Inv-loop
     μ-loop
-    (λ c. (refl, rw (laid-start) leads-start))
+    (λ c. (refl, rw (laid-fresh (linesOf (c .before .before .args .text .now))) leads-start))
     (λ c κs. search needs)
     (λ c. search needs)
     part-put-all-start
