@@ -7,7 +7,7 @@ pub mod Slots
 pub mod Numbers
 pub mod Fixed
 pub mod Hours
-pub mod Phases
+pub mod Letters
 pub mod Periods
 pub mod Readback
 pub mod Worked

@@ -36,11 +36,11 @@ digits-octets : (s : List ℕ) → digits s ≡ true → all itemOctet s ≡ tru
 unfolding digits
 digits-octets s h = all-weaker isDigit itemOctet digit-octet s (both (filled s) (all isDigit s) h .1)
 
-unsigned-octets : (s : List ℕ) → all itemOctet (unsigned s) ≡ true → all itemOctet s ≡ true
+pub unsigned-all : (p : ℕ → Bool) → ((c : ℕ) → isSign c ≡ true → p c ≡ true) → (s : List ℕ) → all p (unsigned s) ≡ true → all p s ≡ true
 unfolding unsigned all
-unsigned-octets [] h = refl
-unsigned-octets (c ∷ s) h = cases (isSign c)
-    (λ e. and-true (sign-octet c e) (rw e at h))
+unsigned-all p f [] h = refl
+unsigned-all p f (c ∷ s) h = cases (isSign c)
+    (λ e. and-true (f c e) (rw e at h))
     (λ e. rw e at h)
 
 count-octets : (s v : List ℕ) → countOf s ≡ some v → all itemOctet s ≡ true
@@ -51,19 +51,19 @@ number-octets : (signed : Bool) (most lo hi : ℕ) (s v : List ℕ) → numberOf
 unfolding numberOf
 number-octets signed most lo hi s v e =
     let t = both (signed or not (hasSign s)) _ (when-is _ (integerText s) v e .0) in
-    unsigned-octets s (digits-octets (unsigned s) (both (digits (unsigned s)) _ (t .1) .0))
+    unsigned-all itemOctet sign-octet s (digits-octets (unsigned s) (both (digits (unsigned s)) _ (t .1) .0))
 
 -- words
-among-octets : (s : List ℕ) (ws : List (List ℕ)) → all (all itemOctet) ws ≡ true → among s ws ≡ true → all itemOctet s ≡ true
+pub among-all : (p : ℕ → Bool) (s : List ℕ) (ws : List (List ℕ)) → all (all p) ws ≡ true → among s ws ≡ true → all p s ≡ true
 unfolding all among any
-among-octets s [] h e = never e refl
-among-octets s (w ∷ ws) h e =
-    let b = both (all itemOctet w) (all (all itemOctet) ws) h in
-    either (same s w) (any (same s) ws) e (λ d. rw (same-is s w d) (b .0)) (λ d. among-octets s ws (b .1) d)
+among-all p s [] h e = never e refl
+among-all p s (w ∷ ws) h e =
+    let b = both (all p w) (all (all p) ws) h in
+    either (same s w) (any (same s) ws) e (λ d. rw (same-is s w d) (b .0)) (λ d. among-all p s ws (b .1) d)
 
 word-octets : (ws : List (List ℕ)) → all (all itemOctet) ws ≡ true → (s v : List ℕ) → wordOf ws s ≡ some v → all itemOctet s ≡ true
 unfolding wordOf
-word-octets ws h s v e = among-octets s ws h (when-is (among s ws) s v e .0)
+word-octets ws h s v e = among-all itemOctet s ws h (when-is (among s ws) s v e .0)
 
 frequency-octets : all (all itemOctet) frequencies ≡ true
 unfolding all frequencies itemOctet isUpper isDigit isSign between

@@ -1,35 +1,26 @@
 -- The ends of periods: a date-time, or else a duration without minus.
-use Prim.Native.Nat.{ℕ, _-_}
+use Prim.Native.Nat.{ℕ}
 use Prim.Native.Char.{code}
 use mathlib.Core.Path.{_≡_, refl, ap, _∙_}
 use mathlib.Core.List.{List, [], _∷_}
 use mathlib.Core.Option.{Option, none, some}
 use native.Mathlib.Omega.{arith}
-use borrow.Author.Tests.{ne-eqb}
 use lib.Dec.{eqb}
 use lib.ListN.{getD}
 use Rattle.octets.specs.Basics.{_or_}
 use Rattle.octets.specs.Optional.{or?, isSome, when}
-use Rattle.octets.specs.Classes.{between, isLower, upperOctet, upper}
+use Rattle.octets.specs.Classes.{upper}
 use Rattle.octets.specs.Decimal.{minus}
-use Rattle.octets.proofs.Cases.{cases}
-use Rattle.octets.proofs.Classes.{between-true}
 use Rattle.calendar.specs.Dates.{dateTimeOf}
 use Rattle.calendar.specs.Durations.{forwardIs, periodEndOf}
 use Rattle.calendar.proofs.Options.{some-when}
+use Rattle.calendar.proofs.Letters.{no-case}
 
 -- a minus has no case
-upper-minus : (c : ℕ) → eqb (upperOctet c) (code "-") ≡ eqb c (code "-")
-unfolding upperOctet isLower
-upper-minus c =
-    cases (between (code "a") (code "z") c)
-    (λ e. let b = between-true (code "a") (code "z") c e in rw (e, ne-eqb (c - 32) 45 (λ q. omega arith), ne-eqb c 45 (λ q. omega arith)))
-    (λ e. rw e)
-
 pub minus-upper : (s : List ℕ) → minus (upper s) ≡ eqb (getD s 0 0) (code "-")
 unfolding minus upper
 minus-upper [] = refl
-minus-upper (c ∷ s) = upper-minus c
+minus-upper (c ∷ s) = no-case c (code "-") (omega arith)
 
 pub is-some-or : {A : Type 0} (x y : Option A) → isSome (or? x y) ≡ (isSome x or isSome y)
 unfolding isSome or?

@@ -10,22 +10,22 @@ use native.Mathlib.Omega.{arith}
 use borrow.Author.Tests.{eqb-true}
 use lib.Dec.{eqb, leb}
 use lib.ListN.{length, getD}
-use Rattle.octets.specs.Basics.{_or_, all}
+use Rattle.octets.specs.Basics.{_or_, all, among}
 use Rattle.octets.specs.Optional.{map?, or?, isSome, when, guard}
 use Rattle.octets.specs.Classes.{between, isDigit, isLower, upperOctet, upper}
-use Rattle.octets.specs.Decimal.{isSign, minus}
-use Rattle.octets.proofs.Cases.{cases, same?, never, both, and-true, either, or-second, apart, itself, all-weaker}
+use Rattle.octets.specs.Decimal.{isSign, minus, unsigned}
+use Rattle.octets.proofs.Cases.{cases, same?, never, both, and-true, either, or-second, itself, all-weaker}
 use Rattle.octets.proofs.Classes.{between-true, within-between, below-between}
-use Rattle.octets.proofs.Decimal.{digit-no-sign}
 use Rattle.calendar.specs.Forms.{Slot, digit, sign, letter, added, takes, fits, kept, extended, keeps, basic, dateForm, clockForm, utc, timeForm, dateTimeForm, offsetForm}
 use Rattle.calendar.specs.Dates.{dateOf, dateTimeOf, dateIs, dateTimeIs, dateText, timeText, dateTimeText, offsetText, momentOf, momentIs, momentText}
-use Rattle.calendar.specs.Durations.{Span, start, wrong, span, spanAfter, mayEnd, durationIs, durationOf, forwardIs, periodEndOf, periodEndIs, periodEndText}
+use Rattle.calendar.specs.Durations.{spans, letters, durationIs, durationOf, forwardIs, periodEndOf, periodEndIs, periodEndText}
 use Rattle.calendar.specs.Texts.{formOf, formIs, formText, shape, shaped, numbersIn, readForm}
 use Rattle.calendar.specs.declared.texts.Form.{Form}
 use Rattle.calendar.specs.declared.texts.Form.the-variants.{Date, Time, DateTime, Offset}
 use Rattle.calendar.proofs.Options.{when-is, guard-is}
 use Rattle.calendar.proofs.Fixed.{formFor, longFrom, shape-form, form-taken, form-is}
-use Rattle.calendar.proofs.Phases.{no-octet, wrong-stays}
+use Rattle.calendar.proofs.Letters.{begins-no-digit, letters-all}
+use Rattle.calendar.proofs.Octets.{unsigned-all, among-all}
 
 -- printable ASCII without lowercase letters
 abbrev pub capital : ℕ → Bool
@@ -209,23 +209,17 @@ moment-returned s t e =
     (λ n a. let r = form-returned DateTime s t a in record { again = or-second (dateIs t) (r .again); back = unfold momentText in r .back; plain = r .plain })
 
 -- durations
-span-capital : (q : Span) (s : List ℕ) → mayEnd (spanAfter q s) ≡ true → all capital s ≡ true
-unfolding all spanAfter
-span-capital q [] h = refl
-span-capital q (c ∷ s) h =
-    cases (capital c)
-    (λ e. and-true e (span-capital (span q c) s h))
-    (λ e. absurd (false≢true (unfold mayEnd in (rw (no-octet q c capital e (digit-capital c) letter-capital, wrong-stays s) at h))))
+pub duration-capital : (s : List ℕ) → durationIs s ≡ true → all capital s ≡ true
+unfolding durationIs
+duration-capital s h =
+    let b = both (among (letters (unsigned s)) spans) _ h in
+    unsigned-all capital sign-capital s (letters-all capital digit-capital (unsigned s) (among-all capital (letters (unsigned s)) spans (unfold all spans between in refl) (b .0)))
   where
     digit-capital : (c : ℕ) → isDigit c ≡ true → capital c ≡ true
     digit-capital c e = takes-capital digit c (unfold readable in refl) (unfold takes in e)
 
-    letter-capital : (k : ℕ) → between (code "+") (code "W") k ≡ true → capital k ≡ true
-    letter-capital k e = let b = between-true (code "+") (code "W") k e in within-between 32 95 k (omega arith) (omega arith)
-
-pub duration-capital : (s : List ℕ) → durationIs s ≡ true → all capital s ≡ true
-unfolding durationIs
-duration-capital s h = span-capital start s h
+    sign-capital : (c : ℕ) → isSign c ≡ true → capital c ≡ true
+    sign-capital c e = takes-capital sign c (unfold readable in refl) (unfold takes in e)
 
 pub duration-returned : (s t : List ℕ) → durationOf s ≡ some t → Returned durationIs (λ u. u) s t
 unfolding durationOf
@@ -246,19 +240,8 @@ date-time-first : (t : List ℕ) → dateTimeIs t ≡ true → isDigit (getD t 0
 unfolding dateTimeIs
 date-time-first t h = first-digit (leb 20 (length t)) t (both (fits (dateTimeForm (leb 20 (length t))) t) _ h .0)
 
-duration-first : (s : List ℕ) → durationIs s ≡ true → isDigit (getD s 0 0) ≡ false
-unfolding durationIs spanAfter
-duration-first [] h = unfold isDigit between in refl
-duration-first (c ∷ s) h =
-    cases (isDigit c)
-    (λ e. absurd (false≢true (unfold mayEnd in (rw (digit-start c e, wrong-stays s) at h))))
-    (λ e. e)
-  where
-    digit-start : (c : ℕ) → isDigit c ≡ true → span start c ≡ wrong
-    digit-start c e = unfold span in rw (digit-no-sign c e, apart isDigit c (code "P") e (unfold isDigit between in refl))
-
 no-date-time : (s : List ℕ) → durationIs s ≡ true → dateTimeIs s ≡ false
-no-date-time s h = cases (dateTimeIs s) (λ e. never (date-time-first s e) (duration-first s h)) (λ e. e)
+no-date-time s h = cases (dateTimeIs s) (λ e. never (date-time-first s e) (begins-no-digit s h)) (λ e. e)
 
 pub period-end-returned : (s t : List ℕ) → periodEndOf s ≡ some t → Returned periodEndIs periodEndText s t
 unfolding periodEndOf periodEndIs periodEndText

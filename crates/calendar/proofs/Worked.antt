@@ -2,15 +2,15 @@
 use mathlib.Core.Path.{_≡_, refl}
 use mathlib.Core.Bool.{true}
 use mathlib.Core.Option.{none, some}
-use Rattle.octets.specs.Basics.{octets}
+use Rattle.octets.specs.Basics.{octets, any, same, among}
 use Rattle.octets.specs.Optional.{map?, when, guard}
 use Rattle.octets.specs.Classes.{between, isDigit, isLower, upperOctet, upper}
-use Rattle.octets.specs.Decimal.{valueFrom, valueOf, isSign, minus}
+use Rattle.octets.specs.Decimal.{valueFrom, valueOf, isSign, minus, unsigned}
 use Rattle.octets.specs.Limits.{lastYear}
 use Rattle.calendar.specs.Gregorian.{leapDay, months, monthDays, yearDays, isDay, dateOn, beforeYear, sum, beforeMonth, dayNumber}
 use Rattle.calendar.specs.Forms.{kept, takes, fits, extended, dateForm, clockForm, utc, timeForm, dateTimeForm, offsetForm, numberAt}
 use Rattle.calendar.specs.Dates.{dayIn, isClock, clockIn, dateOf, dateIs, timeOf, momentIn, dateTimeOf, offsetIn, offsetOf}
-use Rattle.calendar.specs.Durations.{span, spanAfter, mayEnd, durationIs, durationOf}
+use Rattle.calendar.specs.Durations.{spans, letters, isUnit, counted, placed, durationIs, durationOf}
 
 -- dates 20240229 and 20000229 stand, 20230229 and 21000229 do not
 pub leap-days :
@@ -42,7 +42,7 @@ offsets = (refl, refl, refl, refl)
 pub durations :
     (durationOf (octets "PT1H30S") ≡ none) × (durationOf (octets "PT1H0M30S") ≡ some (octets "PT1H0M30S")) × (durationOf (octets "P1W") ≡ some (octets "P1W"))
     × (durationOf (octets "P1WT1H") ≡ none) × (durationOf (octets "P") ≡ none)
-unfolding between isDigit isSign when span spanAfter mayEnd durationIs durationOf
+unfolding any same among between isDigit isSign unsigned when spans letters isUnit counted placed durationIs durationOf
 durations = (refl, refl, refl, refl, refl)
 
 -- day numbers: the first of March 2000 is the day behind a leap day

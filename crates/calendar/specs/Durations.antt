@@ -1,58 +1,41 @@
 -- Durations and the ends of periods (01, Values; RFC 5545 3.3.6, 3.3.9). All texts are in uppercase here; jCal keeps a duration as it is.
 use Prim.Native.Nat.{ℕ}
 use Prim.Native.Char.{code}
-use mathlib.Core.Bool.{Bool, true, false, not}
+use mathlib.Core.Bool.{Bool, not}
 use mathlib.Core.List.{List, [], _∷_}
 use mathlib.Core.Option.{Option}
 use lib.Dec.{eqb}
-use Rattle.octets.specs.Basics.{pick, _and_, _or_}
+use Rattle.octets.specs.Basics.{octets, pick, _and_, _or_, among}
 use Rattle.octets.specs.Optional.{or?, when}
 use Rattle.octets.specs.Classes.{isDigit}
-use Rattle.octets.specs.Decimal.{isSign, minus}
+use Rattle.octets.specs.Decimal.{minus, unsigned}
 use Rattle.calendar.specs.Dates.{dateTimeOf, dateTimeIs, dateTimeText}
 
--- What has been read: nothing; a sign; P; digits of days or weeks; the days; T; digits of hours, minutes or seconds; the hours; digits of
--- minutes; the minutes; digits of seconds; all of it; or what is no duration
-pub data Span : Type 0 where
-  start signed afterP dayDigits days afterT timeDigits hours minuteDigits minutes secondDigits finished wrong : Span
+-- what is left of a duration without its sign and its digits: weeks stand alone; minutes may not be skipped between hours and seconds
+unfoldable pub spans : List (List ℕ)
+spans =
+    octets "PW" ∷ octets "PD" ∷ octets "PTH" ∷ octets "PTHM" ∷ octets "PTHMS" ∷ octets "PTM" ∷ octets "PTMS" ∷ octets "PTS" ∷ octets "PDTH" ∷ octets "PDTHM" ∷ octets "PDTHMS" ∷ octets "PDTM" ∷ octets "PDTMS" ∷ octets "PDTS" ∷ []
 
--- minutes may not be skipped between hours and seconds; weeks stand alone
-unfoldable pub span : Span → ℕ → Span
-span start c = pick (isSign c) signed (pick (eqb c (code "P")) afterP wrong)
-span signed c = pick (eqb c (code "P")) afterP wrong
-span afterP c = pick (isDigit c) dayDigits (pick (eqb c (code "T")) afterT wrong)
-span dayDigits c = pick (isDigit c) dayDigits (pick (eqb c (code "D")) days (pick (eqb c (code "W")) finished wrong))
-span days c = pick (eqb c (code "T")) afterT wrong
-span afterT c = pick (isDigit c) timeDigits wrong
-span timeDigits c = pick (isDigit c) timeDigits (pick (eqb c (code "H")) hours (pick (eqb c (code "M")) minutes (pick (eqb c (code "S")) finished wrong)))
-span hours c = pick (isDigit c) minuteDigits wrong
-span minuteDigits c = pick (isDigit c) minuteDigits (pick (eqb c (code "M")) minutes wrong)
-span minutes c = pick (isDigit c) secondDigits wrong
-span secondDigits c = pick (isDigit c) secondDigits (pick (eqb c (code "S")) finished wrong)
-span finished c = wrong
-span wrong c = wrong
+-- the octets but the digits
+unfoldable pub letters : List ℕ → List ℕ
+letters [] = []
+letters (c ∷ s) = pick (isDigit c) (letters s) (c ∷ letters s)
 
-unfoldable pub spanAfter : Span → List ℕ → Span
-spanAfter p [] = p
-spanAfter p (c ∷ s) = spanAfter (span p c) s
+-- weeks, days, hours, minutes, seconds
+unfoldable pub isUnit : ℕ → Bool
+isUnit c = eqb c (code "W") or eqb c (code "D") or eqb c (code "H") or eqb c (code "M") or eqb c (code "S")
 
-unfoldable pub mayEnd : Span → Bool
-mayEnd start = false
-mayEnd signed = false
-mayEnd afterP = false
-mayEnd dayDigits = false
-mayEnd days = true
-mayEnd afterT = false
-mayEnd timeDigits = false
-mayEnd hours = true
-mayEnd minuteDigits = false
-mayEnd minutes = true
-mayEnd secondDigits = false
-mayEnd finished = true
-mayEnd wrong = false
+-- behind the octet p, a unit if p is a digit, and else none
+unfoldable pub counted : ℕ → ℕ → Bool
+counted p c = pick (isUnit c) (isDigit p) (not (isDigit p))
+
+-- digits stand before each unit and nowhere else; p is the octet before the text
+unfoldable pub placed : ℕ → List ℕ → Bool
+placed p [] = not (isDigit p)
+placed p (c ∷ s) = (isDigit c or counted p c) and placed c s
 
 unfoldable pub durationIs : List ℕ → Bool
-durationIs s = mayEnd (spanAfter start s)
+durationIs s = among (letters (unsigned s)) spans and placed 0 (unsigned s)
 
 unfoldable pub durationOf : List ℕ → Option (List ℕ)
 durationOf s = when (durationIs s) s

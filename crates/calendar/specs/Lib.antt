@@ -3,7 +3,7 @@ pub mod Forms
 pub mod Dates
 pub mod Texts
 pub mod Durations
-pub mod Phases
+pub mod Letters
 pub mod Recurrence
 pub mod Moments
 pub mod Rules

@@ -1,98 +1,99 @@
 // Durations and the ends of periods.
 ghost use mathlib.Core.Path.{_≡_};
-ghost use mathlib.Core.Bool.{false};
-ghost use Prim.Native.Nat.{_≤_};
 ghost use lib.Dec.{eqb};
-ghost use Rattle.octets.specs.Basics.{pick, _or_};
+ghost use Rattle.octets.specs.Basics.{_or_};
 ghost use Rattle.octets.specs.Optional.{isSome};
-ghost use Rattle.octets.specs.Classes.{isDigit, upper};
-ghost use Rattle.calendar.specs.Durations.{span, mayEnd, durationIs, forwardIs, periodEndOf, periodEndIs};
-ghost use Rattle.calendar.specs.Phases.{phaseAt};
+ghost use Rattle.octets.specs.Classes.{upper};
+ghost use Rattle.calendar.specs.Durations.{isUnit, durationIs, forwardIs, periodEndOf};
+ghost use Rattle.calendar.specs.Letters.{letterFollows, mayCome, letterWith};
 use crate::texts::Form;
 use crate::texts::is_basic;
-use crate::texts::is_extended;
 use octets::is_digit;
 use octets::peek;
+use octets::sign_length;
 use octets::upper_octet;
 
-// The state behind a digit, which 0 stands for.
-fn after_digit(p: u8) -> u8
-    requires { ⌜ (97 ≤ p) × (p ≤ 109) ⌝ }
-    ensures { λ r. ⌜ (phaseAt r ≡ span (phaseAt p) 48) × ((97 ≤ r) × (r ≤ 109)) ⌝ }
-{
-    match p {
-        b'c' | b'd' => b'd',
-        b'f' | b'g' => b'g',
-        b'h' | b'i' => b'i',
-        b'j' | b'k' => b'k',
-        _ => b'm',
-    }
-}
-
-// The state `to` behind one of two states, and behind any other that of what is no duration.
-fn only_behind(p: u8, one: u8, other: u8, to: u8) -> u8
-    ensures { λ r. ⌜ r ≡ pick (eqb p one or eqb p other) to 109 ⌝ }
-{
-    if p == one {
-        return to;
-    }
-    if p == other {
-        return to;
-    }
-    b'm'
-}
-
-// The state behind an octet that is no digit.
-fn after_letter(p: u8, c: u8) -> u8
-    requires { ⌜ ((97 ≤ p) × (p ≤ 109)) × (isDigit c ≡ false) ⌝ }
-    ensures { λ r. ⌜ (phaseAt r ≡ span (phaseAt p) c) × ((97 ≤ r) × (r ≤ 109)) ⌝ }
+// A unit of time: weeks, days, hours, minutes or seconds.
+fn is_unit(c: u8) -> bool
+    ensures { λ r. ⌜ r ≡ isUnit c ⌝ }
 {
     match c {
-        b'+' | b'-' => only_behind(p, b'a', b'a', b'b'),
-        b'P' => only_behind(p, b'a', b'b', b'c'),
-        b'T' => only_behind(p, b'c', b'e', b'f'),
-        b'D' => only_behind(p, b'd', b'd', b'e'),
-        b'W' => only_behind(p, b'd', b'd', b'l'),
-        b'H' => only_behind(p, b'g', b'g', b'h'),
-        b'M' => only_behind(p, b'g', b'i', b'j'),
-        b'S' => only_behind(p, b'g', b'k', b'l'),
-        _ => b'm',
-    }
-}
-
-// The state behind an octet.
-fn next(p: u8, c: u8) -> u8
-    requires { ⌜ (97 ≤ p) × (p ≤ 109) ⌝ }
-    ensures { λ r. ⌜ (phaseAt r ≡ span (phaseAt p) c) × ((97 ≤ r) × (r ≤ 109)) ⌝ }
-{
-    if is_digit(c) {
-        return after_digit(p);
-    }
-    after_letter(p, c)
-}
-
-// A duration may end in this state: behind the days, the hours, the minutes, or all of it.
-fn may_end(p: u8) -> bool
-    requires { ⌜ (97 ≤ p) × (p ≤ 109) ⌝ }
-    ensures { λ r. ⌜ r ≡ mayEnd (phaseAt p) ⌝ }
-{
-    match p {
-        b'e' | b'h' | b'j' | b'l' => true,
+        b'W' | b'D' | b'H' | b'M' | b'S' => true,
         _ => false,
     }
+}
+
+// The octet is one of three.
+fn is_one_of(c: u8, first: u8, second: u8, third: u8) -> bool
+    ensures { λ r. ⌜ r ≡ (eqb c first or eqb c second or eqb c third) ⌝ }
+{
+    if c == first {
+        return true;
+    }
+    if c == second {
+        return true;
+    }
+    c == third
+}
+
+// The letter c may follow the letter b, for which 0 stands if there is none.
+fn letter_follows(b: u8, c: u8) -> bool
+    ensures { λ r. ⌜ r ≡ letterFollows b c ⌝ }
+{
+    match b {
+        0 => c == b'P',
+        b'P' => is_one_of(c, b'D', b'T', b'W'),
+        b'D' => c == b'T',
+        b'T' => is_one_of(c, b'H', b'M', b'S'),
+        b'H' => c == b'M',
+        b'M' => c == b'S',
+        _ => false,
+    }
+}
+
+// The octet c may stand behind the octet p, where b is the last letter before it.
+fn may_come(b: u8, p: u8, c: u8) -> bool
+    ensures { λ r. ⌜ r ≡ mayCome b p c ⌝ }
+{
+    if is_digit(c) {
+        return true;
+    }
+    if !letter_follows(b, c) {
+        return false;
+    }
+    if is_unit(c) {
+        return is_digit(p);
+    }
+    !is_digit(p)
+}
+
+// The last letter, with the octet c.
+fn letter_with(b: u8, c: u8) -> u8
+    ensures { λ r. ⌜ r ≡ letterWith b c ⌝ }
+{
+    if is_digit(c) { b } else { c }
 }
 
 // The text is a duration.
 pub fn is_duration(s: &[u8]) -> bool
     ensures { λ r. ⌜ r ≡ durationIs (upper (now (s .entry))) ⌝ }
 {
-    let mut p = b'a';
-    let mut i = 0;
+    let mut letter = 0;
+    let mut last = 0;
+    let mut i = sign_length(s);
     while i < s.len() {
-        p = next(p, upper_octet(s[i]));
+        let c = upper_octet(s[i]);
+        if !may_come(letter, last, c) {
+            return false;
+        }
+        letter = letter_with(letter, c);
+        last = c;
         i += 1;
     }
-    may_end(p)
+    if is_digit(last) {
+        return false;
+    }
+    is_unit(letter)
 }
 
 // The text is a duration without minus.
@@ -113,14 +114,4 @@ pub fn is_period_end(s: &[u8]) -> bool
         return true;
     }
     is_forward(s)
-}
-
-// The text is a period's end in jCal.
-pub fn is_extended_period_end(t: &[u8]) -> bool
-    ensures { λ r. ⌜ r ≡ periodEndIs (upper (now (t .entry))) ⌝ }
-{
-    if is_extended(Form::DateTime, t) {
-        return true;
-    }
-    is_forward(t)
 }
