@@ -1,8 +1,9 @@
 -- Texts of a fixed form as the code has them: what one says, which places its form has, and that the tests are the definitions'.
 use Prim.Native.Nat.{ℕ}
+use Prim.Native.Char.{code}
 use mathlib.Core.Path.{_≡_, refl, sym, ap, _∙_}
 use mathlib.Core.Bool.{Bool, true, false, not}
-use mathlib.Core.List.{List}
+use mathlib.Core.List.{List, [], _∷_, _++_}
 use mathlib.Core.Option.{none, some}
 use native.Mathlib.Omega.{arith}
 use borrow.Author.Tests.{eq-eqb, ne-eqb, eqb-true, eqb-false}
@@ -11,13 +12,15 @@ use lib.ListN.{length}
 use Rattle.octets.specs.Basics.{octets, pick, _and_}
 use Rattle.octets.specs.Optional.{isSome, when, guard}
 use Rattle.octets.specs.Classes.{upperOctet, upper}
+use Rattle.octets.proofs.Cases.{cases}
 use Rattle.octets.proofs.Classes.{map-length}
-use Rattle.calendar.specs.Forms.{Slot, fits, extended, basic, dateForm, clockForm, utc, timeForm, dateTimeForm, offsetForm}
-use Rattle.calendar.specs.Dates.{dateOf, timeOf, dateTimeOf, offsetOf, dateIs, timeIs, dateTimeIs, offsetIs, dateText, timeText, dateTimeText, offsetText}
+use Rattle.calendar.specs.Forms.{Slot, digit, letter, added, fits, extended, fitsEither, keeps, basic, dateForm, clockForm, utc, timeForm, dateTimeForm, offsetForm}
+use Rattle.calendar.specs.Dates.{clockIn, momentIn, offsetIn, dateOf, timeOf, dateTimeOf, offsetOf, dateIs, timeIs, dateTimeIs, offsetIs, dateText, timeText, dateTimeText, offsetText}
 use Rattle.calendar.specs.Texts.{formOf, formIs, formText, octetsIn, textSaid, Says, Carries, isAdded, placeAt, slotAt, slots, shape, shaped, numbersIn, readForm}
 use Rattle.calendar.specs.declared.texts.Form.{Form}
 use Rattle.calendar.specs.declared.texts.Form.the-variants.{Date, Time, DateTime, Offset}
 use Rattle.calendar.specs.declared.texts.Text.{Text}
+use Rattle.calendar.proofs.Extended.{width, read-by-length, fits-by-length, basic-front}
 use Rattle.calendar.proofs.Slots.{whole-text}
 
 pub upper-length : (s : List ℕ) → length (upper s) ≡ length s
@@ -48,11 +51,11 @@ reads-shape true f form s e = whole-text form s ∙ ap (λ g. when (fits g s) s)
 reads-shape false f form s e = ap (λ g. extended g s) e
 
 pub form-taken : (f : Form) (s : List ℕ) → readForm false f s ≡ formOf f s
-unfolding readForm shaped shape numbersIn dateOf timeOf dateTimeOf offsetOf
+unfolding readForm shaped shape numbersIn dateOf timeOf dateTimeOf offsetOf width keeps dateForm clockForm utc timeForm dateTimeForm offsetForm
 form-taken Date s = refl
-form-taken Time s = refl
-form-taken DateTime s = refl
-form-taken Offset s = refl
+form-taken Time s = ap (guard (clockIn 0)) (sym (read-by-length timeForm 7 refl refl s))
+form-taken DateTime s = ap (guard momentIn) (sym (read-by-length dateTimeForm 16 refl refl s))
+form-taken Offset s = ap (guard offsetIn) (sym (read-by-length offsetForm 6 refl refl s))
 
 guard-when : (p : List ℕ → Bool) (b : Bool) (t : List ℕ) → isSome (guard p (when b t)) ≡ (b and p t)
 unfolding guard when isSome
@@ -64,18 +67,11 @@ guard-when p true t = at (p t)
     at false = unfold when isSome in refl
 
 pub form-is : (f : Form) (t : List ℕ) → isSome (readForm true f t) ≡ formIs f t
-unfolding readForm shaped shape numbersIn dateIs timeIs dateTimeIs offsetIs
+unfolding readForm shaped shape numbersIn dateIs timeIs dateTimeIs offsetIs dateForm clockForm utc timeForm dateTimeForm offsetForm
 form-is Date t = guard-when _ _ t
-form-is Time t = guard-when _ _ t
-form-is DateTime t = guard-when _ _ t
-form-is Offset t = guard-when _ _ t
-
-pub form-text : (f : Form) (form t : List ℕ) → slots false form ≡ shape true f t → basic (slots false form) t ≡ formText f t
-unfolding shape dateText timeText dateTimeText offsetText
-form-text Date form t e = ap (λ g. basic g t) e
-form-text Time form t e = ap (λ g. basic g t) e
-form-text DateTime form t e = ap (λ g. basic g t) e
-form-text Offset form t e = ap (λ g. basic g t) e
+form-is Time t = guard-when _ _ t ∙ ap (λ b. b and clockIn 0 t) (sym (fits-by-length timeForm 9 refl refl t))
+form-is DateTime t = guard-when _ _ t ∙ ap (λ b. b and momentIn t) (sym (fits-by-length dateTimeForm 20 refl refl t))
+form-is Offset t = guard-when _ _ t ∙ ap (λ b. b and offsetIn t) (sym (fits-by-length offsetForm 7 refl refl t))
 
 -- the places of each form as the code writes them, longer or not, and the length from which on a text has the longer form
 abbrev pub places : Form → Bool → List ℕ
@@ -98,6 +94,37 @@ formFor Date b = dateForm
 formFor Time b = timeForm b
 formFor DateTime b = dateTimeForm b
 formFor Offset b = offsetForm b
+
+-- a text is written by the longer form, of which the other is the beginning
+pub form-text : (f : Form) (t : List ℕ) → formText f t ≡ basic (formFor f true) t
+unfolding dateText timeText dateTimeText offsetText
+form-text Date t = refl
+form-text Time t = refl
+form-text DateTime t = refl
+form-text Offset t = refl
+
+abbrev formEnd : Form → List Slot
+formEnd Date = []
+formEnd Time = letter (code "Z") ∷ []
+formEnd DateTime = letter (code "Z") ∷ []
+formEnd Offset = added (code ":") ∷ digit ∷ digit ∷ []
+
+pub longer-written : (f : Form) (b : Bool) (t : List ℕ) → fits (formFor f b) t ≡ true → basic (formFor f true) t ≡ basic (formFor f b) t
+longer-written f true t h = refl
+longer-written f false t h = ap (λ g. basic g t) (longer f) ∙ basic-front (formFor f false) (formEnd f) t h
+  where
+    longer : (f : Form) → formFor f true ≡ formFor f false ++ formEnd f
+    longer Date = unfold dateForm in refl
+    longer Time = unfold timeForm utc in refl
+    longer DateTime = unfold dateTimeForm utc in refl
+    longer Offset = unfold offsetForm clockForm in refl
+
+pub is-by : (f : Form) (t : List ℕ) → formIs f t ≡ (fitsEither (formFor f) t and numbersIn f t)
+unfolding fitsEither numbersIn dateIs timeIs dateTimeIs offsetIs
+is-by Date t = cases (fits dateForm t) (λ e. rw e) (λ e. rw e)
+is-by Time t = refl
+is-by DateTime t = refl
+is-by Offset t = refl
 
 places-form : (f : Form) (b : Bool) → slots false (places f b) ≡ formFor f b
 unfolding slots slotAt isAdded placeAt dateForm clockForm utc timeForm dateTimeForm offsetForm
@@ -124,9 +151,8 @@ pub read-by : (whole b : Bool) (f : Form) (s : List ℕ) → leb (longFrom whole
     → Says t (extended (slots whole (places f b)) (upper s)) → Says t (shaped whole g (upper s))
 read-by whole b f s e i r = rw i (record { text = r .text ∙ reads-shape whole f (places f b) (upper s) (shape-places whole f s b e); room = r .room })
 
-pub written-by : (b : Bool) (f : Form) (s : List ℕ) → leb (longFrom true f) (length s) ≡ b → {g : Form} → g ≡ f → {t : Text}
-    → Carries t (basic (slots false (places f b)) (upper s)) → Carries t (formText g (upper s))
-written-by b f s e i r = rw i (record { octets = r .octets ∙ form-text f (places f b) (upper s) (shape-places true f s b e); room = r .room })
+pub written-by : (f : Form) (s : List ℕ) {g : Form} → g ≡ f → {t : Text} → Carries t (basic (slots false (places f true)) (upper s)) → Carries t (formText g (upper s))
+written-by f s i r = rw i (record { octets = r .octets ∙ ap (λ g. basic g (upper s)) (places-form f true) ∙ sym (form-text f (upper s)); room = r .room })
 
 -- a text that is read passes the test of its numbers, or there is none; a text that fails it is taken back
 pub passes : (whole : Bool) (f : Form) (s : List ℕ) (t : Text) → Says t (shaped whole f s) → ((t .len ≡ 0 → ⊥) → numbersIn f (octetsIn t) ≡ true) → Says t (readForm whole f s)

@@ -3,6 +3,7 @@ pub mod Ranges
 pub mod Days
 pub mod Back
 pub mod Inverse
+pub mod Extended
 pub mod Slots
 pub mod Numbers
 pub mod Fixed

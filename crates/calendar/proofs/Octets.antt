@@ -6,7 +6,7 @@ use mathlib.Core.List.{List, [], _∷_, _++_, map}
 use mathlib.Core.Option.{Option, none, some}
 use native.Mathlib.Omega.{arith}
 use borrow.Author.Tests.{eqb-true}
-use lib.Dec.{eqb, leb}
+use lib.Dec.{eqb}
 use lib.ListN.{length, take, drop, take-append-drop}
 use Rattle.octets.specs.Basics.{_or_, all, any, filled, same, among}
 use Rattle.octets.specs.Optional.{map?, or?, isSome}
@@ -14,10 +14,11 @@ use Rattle.octets.specs.Classes.{between, isDigit, isUpper}
 use Rattle.octets.specs.Decimal.{digits, isSign, hasSign, unsigned, trim, integerText}
 use Rattle.octets.proofs.Cases.{cases, both, either, never, and-true, or-first, or-second, all-weaker, all-append}
 use Rattle.octets.proofs.Classes.{same-is}
-use Rattle.calendar.specs.Forms.{Slot, digit, sign, letter, added, kept, extended, dateForm, clockForm, utc, dateTimeForm}
+use Rattle.calendar.specs.Forms.{Slot, digit, sign, letter, added, extended, extendedEither, dateForm, clockForm, utc, dateTimeForm}
 use Rattle.calendar.specs.Dates.{dateOf, dateTimeOf, momentOf}
 use Rattle.octets.proofs.Optional.{when-is, guard-is}
-use Rattle.calendar.proofs.Options.{map-is, then-is}
+use Rattle.calendar.proofs.Options.{map-is, then-is, or-tells}
+use Rattle.calendar.proofs.Extended.{kept-tells}
 use Rattle.calendar.specs.Recurrence.{PartSort, frequency, moment, count, weekday, ordinal, numbers, frequencies, weekdays, wordOf, untilOf, countOf, numberOf, ordinalOf, dayOf, itemOf}
 
 unfoldable pub itemOctet : ℕ → Bool
@@ -97,25 +98,20 @@ Lettered (sign ∷ f) = Lettered f
 Lettered (letter l ∷ f) = (itemOctet l ≡ true) × Lettered f
 Lettered (added a ∷ f) = Lettered f
 
-kept-is : (b : Bool) (x : ℕ) (r : Option (List ℕ)) (t : List ℕ) → kept b x r ≡ some t → (b ≡ true) × (u : List ℕ) × (r ≡ some u)
-unfolding kept
-kept-is false x r t e = let z : _≡_ {A = ℕ} 0 1 = cc in absurd (omega arith)
-kept-is true x r t e = let m = map-is (λ s. x ∷ s) r t e in (refl, m .0, m .1)
-
 form-octets : (f : List Slot) (s t : List ℕ) → Lettered f → extended f s ≡ some t → all itemOctet s ≡ true
 unfolding extended all
 form-octets [] [] t l e = refl
 form-octets [] (x ∷ s) t l e = let z : _≡_ {A = ℕ} 0 1 = cc in absurd (omega arith)
 form-octets (digit ∷ f) [] t l e = refl
-form-octets (digit ∷ f) (x ∷ s) t l e = let k = kept-is (isDigit x) x (extended f s) t e in and-true (digit-octet x (k .0)) (form-octets f s (k .1) l (k .2))
+form-octets (digit ∷ f) (x ∷ s) t l e = let k = kept-tells (isDigit x) x (extended f s) t e in and-true (digit-octet x (k .passed)) (form-octets f s (k .tail) l (k .rest))
 form-octets (sign ∷ f) [] t l e = refl
-form-octets (sign ∷ f) (x ∷ s) t l e = let k = kept-is (isSign x) x (extended f s) t e in and-true (sign-octet x (k .0)) (form-octets f s (k .1) l (k .2))
+form-octets (sign ∷ f) (x ∷ s) t l e = let k = kept-tells (isSign x) x (extended f s) t e in and-true (sign-octet x (k .passed)) (form-octets f s (k .tail) l (k .rest))
 form-octets (letter a ∷ f) [] t l e = refl
 form-octets (letter a ∷ f) (x ∷ s) t l e =
-    let k = kept-is (eqb x a) a (extended f s) t e in
-    let q : itemOctet x ≡ true = rw (eqb-true x a (k .0)) (l .0) in
-    and-true q (form-octets f s (k .1) (l .1) (k .2))
-form-octets (added a ∷ f) s t l e = let k = kept-is true a (extended f s) t e in form-octets f s (k .1) l (k .2)
+    let k = kept-tells (eqb x a) a (extended f s) t e in
+    let q : itemOctet x ≡ true = rw (eqb-true x a (k .passed)) (l .0) in
+    and-true q (form-octets f s (k .tail) (l .1) (k .rest))
+form-octets (added a ∷ f) s t l e = let k = kept-tells true a (extended f s) t e in form-octets f s (k .tail) l (k .rest)
 
 date-lettered : Lettered dateForm
 unfolding dateForm
@@ -132,7 +128,9 @@ moment-octets s v e = by (dateOf s) refl (dateTimeOf s) refl (when-is _ s v e .0
   where
     by : (o : Option (List ℕ)) → dateOf s ≡ o → (p : Option (List ℕ)) → dateTimeOf s ≡ p → isSome (or? o p) ≡ true → all itemOctet s ≡ true
     by none d none m h = unfold or? isSome in never h refl
-    by none d (some t) m h = unfold dateTimeOf in form-octets (dateTimeForm (leb 16 (length s))) s t (dateTime-lettered (leb 16 (length s))) (guard-is _ _ t m .0)
+    by none d (some t) m h =
+        or-tells (extended (dateTimeForm false) s) (extended (dateTimeForm true) s) t (unfold dateTimeOf extendedEither in (guard-is _ _ t m .0))
+        (λ a. form-octets (dateTimeForm false) s t (dateTime-lettered false) a) (λ n a. form-octets (dateTimeForm true) s t (dateTime-lettered true) a)
     by (some t) d p m h = unfold dateOf in form-octets dateForm s t date-lettered (guard-is _ _ t d .0)
 
 -- the octets of a value that is taken

@@ -2,7 +2,7 @@
 use mathlib.Core.Path.{_≡_, refl}
 use mathlib.Core.Bool.{Bool, true, false}
 use mathlib.Core.Option.{Option, none, some}
-use Rattle.octets.specs.Optional.{map?, then?, isSome, when}
+use Rattle.octets.specs.Optional.{map?, then?, or?, isSome, when}
 use Rattle.octets.proofs.Cases.{never}
 use Rattle.octets.proofs.Optional.{map-is as mapped, then-is as followed}
 pub use Rattle.octets.proofs.Optional.{when-is, guard-is}
@@ -13,6 +13,11 @@ map-is f o b e = mapped f o b e (λ a p q. (a, p, q))
 
 pub then-is : {A B : Type 0} (o : Option A) (f : A → Option B) (b : B) → then? o f ≡ some b → (a : A) × (o ≡ some a) × (f a ≡ some b)
 then-is o f b e = followed o f b e (λ a p q. (a, p, q))
+
+pub or-tells {ℓ} : {P : Type ℓ} {A : Type 0} (x y : Option A) (a : A) → or? x y ≡ some a → (x ≡ some a → P) → (x ≡ none → y ≡ some a → P) → P
+unfolding or?
+or-tells none y a e f g = g refl e
+or-tells (some b) y a e f g = f e
 
 -- whether there is a result
 pub some-when : {A : Type 0} (b : Bool) (a : A) → isSome (when b a) ≡ b

@@ -1,29 +1,30 @@
 -- What is read is written back: for each form, the extended text that is read has the extended form, its basic text is the one that was read, and
 -- both are printable ASCII without lowercase letters. The same for moments, durations and the ends of periods.
-use Prim.Native.Nat.{ℕ, suc}
+use Prim.Native.Nat.{ℕ}
 use Prim.Native.Char.{code}
-use mathlib.Core.Path.{_≡_, refl, sym, ap, _∙_}
+use mathlib.Core.Path.{_≡_, refl, sym, _∙_}
 use mathlib.Core.Bool.{Bool, true, false, not, false≢true}
 use mathlib.Core.List.{List, [], _∷_, _++_}
-use mathlib.Core.Option.{Option, none, some}
+use mathlib.Core.Option.{some}
 use native.Mathlib.Omega.{arith}
 use borrow.Author.Tests.{eqb-true}
 use lib.Dec.{eqb, leb}
 use lib.ListN.{length, getD}
 use Rattle.octets.specs.Basics.{_or_, all, among}
-use Rattle.octets.specs.Optional.{map?, or?, isSome, when, guard}
+use Rattle.octets.specs.Optional.{or?, when}
 use Rattle.octets.specs.Classes.{between, isDigit, isLower, upperOctet, upper}
 use Rattle.octets.specs.Decimal.{isSign, minus, unsigned}
-use Rattle.octets.proofs.Cases.{cases, same?, never, both, and-true, either, or-second, itself, all-weaker}
+use Rattle.octets.proofs.Cases.{cases, never, both, and-true, either, or-second, all-weaker, all-append}
 use Rattle.octets.proofs.Classes.{between-true, within-between, below-between}
-use Rattle.calendar.specs.Forms.{Slot, digit, sign, letter, added, takes, fits, kept, extended, keeps, basic, dateForm, clockForm, utc, timeForm, dateTimeForm, offsetForm}
-use Rattle.calendar.specs.Dates.{dateOf, dateTimeOf, dateIs, dateTimeIs, dateText, timeText, dateTimeText, offsetText, momentOf, momentIs, momentText}
+use Rattle.calendar.specs.Forms.{Slot, digit, sign, letter, added, takes, fits, extended, fitsEither, keeps, basic, dateForm, clockForm, utc, timeForm, dateTimeForm, offsetForm}
+use Rattle.calendar.specs.Dates.{dateOf, dateTimeOf, dateIs, dateTimeIs, dateTimeText, momentOf, momentIs, momentText}
 use Rattle.calendar.specs.Durations.{spans, letters, durationIs, durationOf, forwardIs, periodEndOf, periodEndIs, periodEndText}
 use Rattle.calendar.specs.Texts.{formOf, formIs, formText, shape, shaped, numbersIn, readForm}
 use Rattle.calendar.specs.declared.texts.Form.{Form}
 use Rattle.calendar.specs.declared.texts.Form.the-variants.{Date, Time, DateTime, Offset}
-use Rattle.calendar.proofs.Options.{when-is, guard-is}
-use Rattle.calendar.proofs.Fixed.{formFor, longFrom, shape-form, form-taken, form-is}
+use Rattle.calendar.proofs.Options.{when-is, guard-is, or-tells}
+use Rattle.calendar.proofs.Extended.{Fitted, fitted, fits-either, basic-front}
+use Rattle.calendar.proofs.Fixed.{formFor, longFrom, shape-form, form-taken, is-by, form-text, longer-written}
 use Rattle.calendar.proofs.Letters.{begins-no-digit, letters-all}
 use Rattle.calendar.proofs.Octets.{unsigned-all, among-all}
 
@@ -41,59 +42,6 @@ capital-upper (c ∷ s) h = let b = both (capital c) (all capital s) h in rw (st
   where
     stays : (c : ℕ) → capital c ≡ true → upperOctet c ≡ c
     stays c e = let b = between-true 32 95 c e in unfold upperOctet isLower in rw (below-between (code "a") (code "z") c (omega arith))
-
--- what `kept` and `or?` tell
-record Kept (b : Bool) (x : ℕ) (r : Option (List ℕ)) (t : List ℕ) : Type 0 where
-  tail : List ℕ
-  passed : b ≡ true
-  rest : r ≡ some tail
-  whole : t ≡ x ∷ tail
-
-kept-tells : (b : Bool) (x : ℕ) (r : Option (List ℕ)) (t : List ℕ) → kept b x r ≡ some t → Kept b x r t
-unfolding kept map?
-kept-tells false x r t e = let z : _≡_ {A = ℕ} 0 1 = cc in absurd (omega arith)
-kept-tells true x none t e = let z : _≡_ {A = ℕ} 0 1 = cc in absurd (omega arith)
-kept-tells true x (some u) t e = record { tail = u; passed = refl; rest = refl; whole = cc }
-
-pub or-tells {ℓ} : {P : Type ℓ} (x y : Option (List ℕ)) (t : List ℕ) → or? x y ≡ some t → (x ≡ some t → P) → (x ≡ none → y ≡ some t → P) → P
-unfolding or?
-or-tells none y t e f g = g refl e
-or-tells (some a) y t e f g = f e
-
--- The extended text t of s, by a form.
-pub record Fitted (f : List Slot) (s t : List ℕ) : Type 0 where
-  pub has : fits f t ≡ true
-  pub back : basic f t ≡ s
-  pub count : length t ≡ length f
-
--- at a place that the basic form has too
-module _ (p : Slot) (reads : (f : List Slot) (x : ℕ) (xs : List ℕ) → extended (p ∷ f) (x ∷ xs) ≡ kept (takes p x) x (extended f xs)) (writes : (x : ℕ) → keeps p x ≡ x ∷ []) where
-  fitted-on : (f : List Slot) (x : ℕ) (xs t : List ℕ) → ((u : List ℕ) → extended f xs ≡ some u → Fitted f xs u) → extended (p ∷ f) (x ∷ xs) ≡ some t → Fitted (p ∷ f) (x ∷ xs) t
-  unfolding fits basic
-  fitted-on f x xs t ih e =
-      let k = kept-tells (takes p x) x (extended f xs) t (sym (reads f x xs) ∙ e) in
-      let r = ih (k .tail) (k .rest) in
-      rw (k .whole) (record { has = and-true (k .passed) (r .has); back = rw (writes x, r .back); count = ap suc (r .count) })
-
-letter-reads : (l : ℕ) (f : List Slot) (x : ℕ) (xs : List ℕ) → extended (letter l ∷ f) (x ∷ xs) ≡ kept (takes (letter l) x) x (extended f xs)
-letter-reads l f x xs = same? x l (λ e. rw e (unfold extended takes in refl)) (λ e. unfold extended takes kept in rw e)
-
--- and at one that only the extended form has
-fitted-added : (a : ℕ) (f : List Slot) (s u t : List ℕ) → Fitted f s u → t ≡ a ∷ u → Fitted (added a ∷ f) s t
-unfolding fits takes basic keeps
-fitted-added a f s u t r e = rw e (record { has = and-true (itself a) (r .has); back = r .back; count = ap suc (r .count) })
-
-pub fitted : (f : List Slot) (s t : List ℕ) → extended f s ≡ some t → Fitted f s t
-unfolding extended
-fitted [] [] t e = let q : t ≡ [] = cc in rw q (record { has = unfold fits in refl; back = unfold basic in refl; count = refl })
-fitted [] (x ∷ s) t e = let z : _≡_ {A = ℕ} 0 1 = cc in absurd (omega arith)
-fitted (digit ∷ f) [] t e = let z : _≡_ {A = ℕ} 0 1 = cc in absurd (omega arith)
-fitted (digit ∷ f) (x ∷ s) t e = fitted-on digit (λ f x xs. unfold takes in refl) (λ x. unfold keeps in refl) f x s t (fitted f s) e
-fitted (sign ∷ f) [] t e = let z : _≡_ {A = ℕ} 0 1 = cc in absurd (omega arith)
-fitted (sign ∷ f) (x ∷ s) t e = fitted-on sign (λ f x xs. unfold takes in refl) (λ x. unfold keeps in refl) f x s t (fitted f s) e
-fitted (letter l ∷ f) [] t e = let z : _≡_ {A = ℕ} 0 1 = cc in absurd (omega arith)
-fitted (letter l ∷ f) (x ∷ s) t e = fitted-on (letter l) (letter-reads l) (λ x. unfold keeps in refl) f x s t (fitted f s) e
-fitted (added a ∷ f) s t e = let k = kept-tells true a (extended f s) t e in fitted-added a f s (k .tail) t (fitted f s (k .tail) (k .rest)) (k .whole)
 
 -- a place takes such octets alone
 unfoldable pub readable : Slot → Bool
@@ -131,23 +79,28 @@ form-readable DateTime false = refl
 form-readable Offset true = refl
 form-readable Offset false = refl
 
--- a text's length tells which of a form's two it has
-form-length : (f : Form) (b : Bool) → formFor f (leb (longFrom true f) (length (formFor f b))) ≡ formFor f b
-unfolding dateForm clockForm utc timeForm dateTimeForm offsetForm
-form-length Date b = refl
-form-length Time true = refl
-form-length Time false = refl
-form-length DateTime true = refl
-form-length DateTime false = refl
-form-length Offset true = refl
-form-length Offset false = refl
+basic-capital : (f : List Slot) (t : List ℕ) → all capital t ≡ true → all capital (basic f t) ≡ true
+unfolding basic all
+basic-capital [] t h = refl
+basic-capital (p ∷ f) [] h = refl
+basic-capital (p ∷ f) (x ∷ t) h =
+    let b = both (capital x) (all capital t) h in
+    all-append capital (keeps p x) (basic f t) ∙ and-true (kept p (b .0)) (basic-capital f t (b .1))
+  where
+    kept : (p : Slot) → capital x ≡ true → all capital (keeps p x) ≡ true
+    kept digit e = unfold keeps all in rw e
+    kept sign e = unfold keeps all in rw e
+    kept (letter l) e = unfold keeps all in rw e
+    kept (added a) e = unfold keeps all in refl
 
-text-by : (f : Form) (t : List ℕ) → formText f t ≡ basic (shape true f t) t
-unfolding shape dateText timeText dateTimeText offsetText
-text-by Date t = refl
-text-by Time t = refl
-text-by DateTime t = refl
-text-by Offset t = refl
+-- such is what is written for a text that has its form
+pub form-capital : (f : Form) (t : List ℕ) → formIs f t ≡ true → all capital (formText f t) ≡ true
+unfolding fitsEither
+form-capital f t h =
+    either (fits (formFor f false) t) (fits (formFor f true) t) (both (fitsEither (formFor f) t) _ (sym (is-by f t) ∙ h) .0) (written false) (written true)
+  where
+    written : (b : Bool) → fits (formFor f b) t ≡ true → all capital (formText f t) ≡ true
+    written b e = rw (form-text f t) (basic-capital (formFor f true) t (fits-capital (formFor f b) t (form-readable f b) e))
 
 -- What is read as t is t in jCal, and s again in iCalendar.
 pub record Returned (is : List ℕ → Bool) (text : List ℕ → List ℕ) (s t : List ℕ) : Type 0 where
@@ -166,40 +119,18 @@ module _ (f : Form) (s t : List ℕ) (e : formOf f s ≡ some t) where
   pub form-fitted : Fitted (formFor f longer) s t
   form-fitted = fitted (formFor f longer) s t (rw (shape-form false f s) at (numbered .0))
 
-  same-shape : shape true f t ≡ formFor f longer
-  same-shape = shape-form true f t ∙ ap (λ n. formFor f (leb (longFrom true f) n)) (form-fitted .count) ∙ form-length f longer
-
-  form-again : formIs f t ≡ true
-  unfolding readForm shaped
-  form-again = sym (form-is f t) ∙ rw (same-shape, form-fitted .has) (unfold when guard isSome in rw (numbered .1))
-
   pub form-returned : Returned (formIs f) (formText f) s t
   form-returned =
       record {
-        again = form-again;
-        back = text-by f t ∙ rw same-shape (form-fitted .back);
+        again = is-by f t ∙ and-true (fits-either (formFor f) longer t (form-fitted .has)) (numbered .1);
+        back = form-text f t ∙ longer-written f longer t (form-fitted .has) ∙ form-fitted .back;
         plain = fits-capital (formFor f longer) t (form-readable f longer) (form-fitted .has);
       }
 
 -- a date's text is written by a date-time's form
-basic-none : (g : List Slot) → basic g [] ≡ []
-unfolding basic
-basic-none [] = refl
-basic-none (p ∷ g) = refl
-
-basic-front : (f g : List Slot) (t : List ℕ) → fits f t ≡ true → basic (f ++ g) t ≡ basic f t
-unfolding basic fits
-basic-front [] g [] h = basic-none g
-basic-front [] g (x ∷ t) h = absurd (false≢true h)
-basic-front (p ∷ f) g [] h = refl
-basic-front (p ∷ f) g (x ∷ t) h = rw (basic-front f g t (both (takes p x) (fits f t) h .1))
-
 date-moment : (s t : List ℕ) → dateOf s ≡ some t → momentText t ≡ s
-unfolding momentText dateTimeText dateTimeForm utc
-date-moment s t e =
-    let r = form-fitted Date s t e in
-    let n : leb 20 (length t) ≡ false = rw (r .count) (unfold dateForm in refl) in
-    rw (n, basic-front dateForm (letter (code "T") ∷ clockForm) t (r .has)) (r .back)
+unfolding momentText dateTimeText dateTimeForm dateForm utc
+date-moment s t e = let r = form-fitted Date s t e in basic-front dateForm (letter (code "T") ∷ clockForm ++ letter (code "Z") ∷ []) t (r .has) ∙ r .back
 
 pub moment-returned : (s t : List ℕ) → momentOf s ≡ some t → Returned momentIs momentText s t
 unfolding momentOf momentIs
@@ -237,8 +168,9 @@ first-digit false [] h = absurd (false≢true h)
 first-digit false (x ∷ t) h = both (isDigit x) _ h .0
 
 date-time-first : (t : List ℕ) → dateTimeIs t ≡ true → isDigit (getD t 0 0) ≡ true
-unfolding dateTimeIs
-date-time-first t h = first-digit (leb 20 (length t)) t (both (fits (dateTimeForm (leb 20 (length t))) t) _ h .0)
+unfolding dateTimeIs fitsEither
+date-time-first t h =
+    either (fits (dateTimeForm false) t) (fits (dateTimeForm true) t) (both (fitsEither dateTimeForm t) _ h .0) (first-digit false t) (first-digit true t)
 
 no-date-time : (s : List ℕ) → durationIs s ≡ true → dateTimeIs s ≡ false
 no-date-time s h = cases (dateTimeIs s) (λ e. never (date-time-first s e) (begins-no-digit s h)) (λ e. e)

@@ -1,7 +1,7 @@
 -- Moments that are read, and those that they are moved to, can be named.
 use Prim.Native.Nat.{ℕ, _+_, _*_, _/_, _%_, _≤_, _<_}
 use mathlib.Core.Path.{_≡_, refl}
-use mathlib.Core.Bool.{true}
+use mathlib.Core.Bool.{Bool, true, false}
 use mathlib.Core.List.{List}
 use mathlib.Core.Option.{Option, none, some}
 use native.Mathlib.Omega.{arith}
@@ -14,14 +14,16 @@ use Rattle.octets.specs.Decimal.{valueFrom, valueOf}
 use Rattle.octets.proofs.Cases.{both, and-true}
 use Rattle.octets.proofs.Positions.{ended}
 use Rattle.calendar.specs.Gregorian.{isDay, dayCount}
-use Rattle.calendar.specs.Forms.{numberAt, dateForm}
+use Rattle.calendar.specs.Forms.{fits, dateForm, clockForm, utc, dateTimeForm, numberAt}
 use Rattle.calendar.specs.Dates.{dayIn, isClock, clockIn, momentIn, dateOf, dateTimeOf, momentOf}
-use Rattle.calendar.specs.Moments.{momentFrom, readMoment, isMoment, hourNumber, atHour, moved}
+use Rattle.calendar.specs.Moments.{kindOf, momentFrom, readMoment, isMoment, hourNumber, atHour, moved}
+use Rattle.calendar.specs.Texts.{kindAt}
 use Rattle.calendar.specs.declared.moments.Moment.{Moment}
-use Rattle.calendar.specs.declared.texts.Form.the-variants.{Date}
+use Rattle.calendar.specs.declared.texts.Form.the-variants.{Date, DateTime}
 use Rattle.calendar.proofs.Inverse.{number-back}
-use Rattle.calendar.proofs.Options.{when-is, guard-is}
-use Rattle.calendar.proofs.Readback.{or-tells, form-fitted}
+use Rattle.calendar.proofs.Options.{when-is, guard-is, or-tells}
+use Rattle.calendar.proofs.Extended.{not-fitting}
+use Rattle.calendar.proofs.Readback.{form-fitted}
 
 -- digits that are not there say 0
 beyond : (at : ℕ) (t : List ℕ) → length t ≤ at → numberAt at 2 t ≡ 0
@@ -47,6 +49,19 @@ date-time-real u t e = guard-is momentIn _ t e .1
 pub text-real : (u t : List ℕ) → momentOf u ≡ some t → isMoment (momentFrom t) ≡ true
 unfolding momentOf
 text-real u t e = or-tells (dateOf u) (dateTimeOf u) t e (date-real u t) (λ n. date-time-real u t)
+
+-- the length of a moment's text tells its kind
+date-time-kind : (b : Bool) (t : List ℕ) → fits (dateTimeForm b) t ≡ true → length t ≡ length (dateTimeForm b) → kindOf t ≡ kindAt (length t)
+unfolding kindOf kindAt dateTimeForm dateForm clockForm utc
+date-time-kind true t h n = rw (not-fitting dateForm t (λ q. omega arith), h, n)
+date-time-kind false t h n = rw (not-fitting dateForm t (λ q. omega arith), not-fitting (dateTimeForm true) t (λ q. omega arith), n)
+
+pub kind-by-length : (u t : List ℕ) → momentOf u ≡ some t → kindOf t ≡ kindAt (length t)
+unfolding momentOf kindOf kindAt
+kind-by-length u t e =
+    or-tells (dateOf u) (dateTimeOf u) t e
+    (λ a. let r = form-fitted Date u t a in rw (r .has, r .count) (unfold dateForm in refl))
+    (λ n a. let r = form-fitted DateTime u t a in date-time-kind (leb 16 (length u)) t (r .has) (r .count))
 
 pub read-real : (s : List ℕ) (m : Moment) → readMoment s ≡ some m → isMoment m ≡ true
 unfolding readMoment

@@ -17,6 +17,7 @@ use Rattle.octets.proofs.Cases.{cases, same?}
 use Rattle.octets.proofs.Positions.{here, ended}
 use Rattle.calendar.specs.Forms.{Slot, digit, sign, letter, added, takes, fits, kept, extended, keeps, basic}
 use Rattle.calendar.specs.Texts.{isAdded, placeAt, slotAt, slots}
+use Rattle.calendar.proofs.Extended.{basic-none}
 
 -- a place is a digit, a sign or a letter
 place-cases {ℓ} : (P : Slot → Type ℓ) (c : ℕ) → P digit → P sign → P (letter c) → P (placeAt c)
@@ -138,11 +139,6 @@ pub record Writing (form t out : List ℕ) (n k : ℕ) : Type 0 where
 basic-place : (c : ℕ) (fs : List Slot) (x : ℕ) (xs : List ℕ) → basic (placeAt c ∷ fs) (x ∷ xs) ≡ x ∷ basic fs xs
 basic-place c fs x xs =
     place-cases (λ p. basic (p ∷ fs) (x ∷ xs) ≡ x ∷ basic fs xs) c (unfold basic keeps in refl) (unfold basic keeps in refl) (unfold basic keeps in refl)
-
-basic-none : (fs : List Slot) → basic fs [] ≡ []
-unfolding basic
-basic-none [] = refl
-basic-none (f ∷ fs) = refl
 
 module _ (form t : List ℕ) where
   pub writes : (out : List ℕ) → length out ≡ 20 → Writing form t out 0 0

@@ -3,12 +3,12 @@ use mathlib.Core.Path.{_≡_, refl}
 use mathlib.Core.Bool.{true}
 use mathlib.Core.Option.{none, some}
 use Rattle.octets.specs.Basics.{octets, any, same, among}
-use Rattle.octets.specs.Optional.{map?, when, guard}
+use Rattle.octets.specs.Optional.{map?, or?, when, guard}
 use Rattle.octets.specs.Classes.{between, isDigit, isLower, upperOctet, upper}
 use Rattle.octets.specs.Decimal.{valueFrom, valueOf, isSign, minus, unsigned}
 use Rattle.octets.specs.Limits.{lastYear}
 use Rattle.calendar.specs.Gregorian.{leapDay, months, monthDays, yearDays, isDay, dateOn, beforeYear, sum, beforeMonth, dayNumber}
-use Rattle.calendar.specs.Forms.{kept, takes, fits, extended, dateForm, clockForm, utc, timeForm, dateTimeForm, offsetForm, numberAt}
+use Rattle.calendar.specs.Forms.{kept, takes, fits, extended, extendedEither, dateForm, clockForm, utc, timeForm, dateTimeForm, offsetForm, numberAt}
 use Rattle.calendar.specs.Dates.{dayIn, isClock, clockIn, dateOf, dateIs, timeOf, momentIn, dateTimeOf, offsetIn, offsetOf}
 use Rattle.calendar.specs.Durations.{spans, letters, isUnit, counted, placed, durationIs, durationOf}
 
@@ -28,14 +28,14 @@ year-0 = refl
 pub clocks :
     (timeOf (octets "235960Z") ≡ some (octets "23:59:60Z")) × (timeOf (octets "240000") ≡ none)
     × (dateTimeOf (upper (octets "20240229t060000z")) ≡ some (octets "2024-02-29T06:00:00Z"))
-unfolding kept map? extended dateForm clockForm utc timeForm dateTimeForm guard when dayIn isDay lastYear between monthDays months leapDay numberAt valueOf valueFrom isDigit isClock clockIn momentIn timeOf dateTimeOf upper upperOctet isLower
+unfolding kept map? or? extended extendedEither dateForm clockForm utc timeForm dateTimeForm guard when dayIn isDay lastYear between monthDays months leapDay numberAt valueOf valueFrom isDigit isClock clockIn momentIn timeOf dateTimeOf upper upperOctet isLower
 clocks = (refl, refl, refl)
 
 -- offset -0000 does not stand, +0000 and -000060 do
 pub offsets :
     (offsetOf (octets "-0000") ≡ none) × (offsetOf (octets "-000000") ≡ none) × (offsetOf (octets "+0000") ≡ some (octets "+00:00"))
     × (offsetOf (octets "-000060") ≡ some (octets "-00:00:60"))
-unfolding kept map? extended clockForm offsetForm guard when between numberAt valueOf valueFrom isDigit isSign minus isClock clockIn offsetIn offsetOf
+unfolding kept map? or? extended extendedEither clockForm offsetForm guard when between numberAt valueOf valueFrom isDigit isSign minus isClock clockIn offsetIn offsetOf
 offsets = (refl, refl, refl, refl)
 
 -- duration PT1H30S skips the minutes

@@ -6,8 +6,8 @@ use mathlib.Core.List.{List, [], _∷_, _++_}
 use mathlib.Core.Option.{Option, none, some}
 use lib.Dec.{eqb}
 use lib.ListN.{take, drop}
-use Rattle.octets.specs.Basics.{_and_}
-use Rattle.octets.specs.Optional.{map?}
+use Rattle.octets.specs.Basics.{_and_, _or_}
+use Rattle.octets.specs.Optional.{map?, or?}
 use Rattle.octets.specs.Classes.{isDigit}
 use Rattle.octets.specs.Decimal.{isSign, valueOf}
 
@@ -45,13 +45,20 @@ extended (letter l ∷ f) [] = none
 extended (letter l ∷ f) (x ∷ xs) = kept (eqb x l) l (extended f xs)
 extended (added a ∷ f) xs = kept true a (extended f xs)
 
+-- the same by a form that may be with its end or without it
+unfoldable pub fitsEither : (Bool → List Slot) → List ℕ → Bool
+fitsEither f t = fits (f false) t or fits (f true) t
+
+unfoldable pub extendedEither : (Bool → List Slot) → List ℕ → Option (List ℕ)
+extendedEither f s = or? (extended (f false) s) (extended (f true) s)
+
 unfoldable pub keeps : Slot → ℕ → List ℕ
 keeps digit x = x ∷ []
 keeps sign x = x ∷ []
 keeps (letter l) x = x ∷ []
 keeps (added a) x = []
 
--- the basic text of an extended one
+-- the basic text of an extended one, which may end before the form does
 unfoldable pub basic : List Slot → List ℕ → List ℕ
 basic [] xs = []
 basic (f ∷ fs) [] = []

@@ -4,20 +4,19 @@ use mathlib.Core.Bool.{Bool, true, false}
 use mathlib.Core.List.{List}
 use mathlib.Core.Option.{Option}
 use lib.Dec.{ltb, leb}
-use lib.ListN.{length}
 use Rattle.octets.specs.Basics.{pick, _and_}
 use Rattle.octets.specs.Optional.{map?, when}
 use Rattle.octets.specs.Classes.{upper}
 use Rattle.calendar.specs.Gregorian.{isDay, dateOn, dayNumber, dayCount, dateAt}
-use Rattle.calendar.specs.Forms.{numberAt}
+use Rattle.calendar.specs.Forms.{fits, dateForm, dateTimeForm, numberAt}
 use Rattle.calendar.specs.Dates.{momentOf, isClock}
 use Rattle.calendar.specs.declared.moments.Kind.{Kind}
 use Rattle.calendar.specs.declared.moments.Kind.the-variants.{Day, Local, Utc}
 use Rattle.calendar.specs.declared.moments.Moment.{Moment}
 
--- jCal's form of a date has 10 octets, of a local date-time 19, of one in UTC 20
+-- the kind, by the form that a text has in jCal
 unfoldable pub kindOf : List ℕ → Kind
-kindOf t = pick (leb (length t) 10) Day (pick (leb (length t) 19) Local Utc)
+kindOf t = pick (fits dateForm t) Day (pick (fits (dateTimeForm true) t) Utc Local)
 
 -- the moment that a text in jCal's form names; a date has the time 0:00:00
 unfoldable pub momentFrom : List ℕ → Moment

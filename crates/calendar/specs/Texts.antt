@@ -11,6 +11,8 @@ use Rattle.octets.specs.Basics.{pick, _and_, _or_}
 use Rattle.octets.specs.Optional.{when, guard}
 use Rattle.calendar.specs.Forms.{Slot, digit, sign, letter, added, fits, extended, dateForm, timeForm, dateTimeForm, offsetForm}
 use Rattle.calendar.specs.Dates.{dayIn, clockIn, momentIn, offsetIn, dateOf, timeOf, dateTimeOf, offsetOf, dateIs, timeIs, dateTimeIs, offsetIs, dateText, timeText, dateTimeText, offsetText}
+use Rattle.calendar.specs.declared.moments.Kind.{Kind}
+use Rattle.calendar.specs.declared.moments.Kind.the-variants.{Day, Local, Utc}
 use Rattle.calendar.specs.declared.texts.Form.{Form}
 use Rattle.calendar.specs.declared.texts.Form.the-variants.{Date, Time, DateTime, Offset}
 use Rattle.calendar.specs.declared.texts.Text.{Text}
@@ -75,6 +77,10 @@ shape whole Offset s = offsetForm (leb (pick whole 7 6) (length s))
 unfoldable pub shaped : Bool → Form → List ℕ → Option (List ℕ)
 shaped true f s = when (fits (shape true f s) s) s
 shaped false f s = extended (shape false f s) s
+
+-- the kind of a moment whose text has so many octets in the extended form
+unfoldable pub kindAt : ℕ → Kind
+kindAt n = pick (leb n 10) Day (pick (leb n 19) Local Utc)
 
 -- its numbers are real
 unfoldable pub numbersIn : Form → List ℕ → Bool

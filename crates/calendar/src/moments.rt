@@ -1,6 +1,8 @@
 // Moments: a date, a local date-time or one in UTC.
 ghost use mathlib.Core.Path.{_≡_};
+ghost use lib.ListN.{length};
 ghost use Rattle.calendar.specs.Moments.{kindOf, momentFrom, readMoment};
+ghost use Rattle.calendar.specs.Texts.{kindAt};
 ghost use Rattle.calendar.specs.Answers.{momentSaid, movedOn};
 use crate::dates::DAY_COUNT;
 use crate::dates::Date;
@@ -73,7 +75,7 @@ impl Moment {
 
 // The kind of a moment, by the length of its text in the extended form.
 fn kind_of(t: &[u8]) -> Kind
-    ensures { λ r. ⌜ r ≡ kindOf (now (t .entry)) ⌝ }
+    ensures { λ r. ⌜ r ≡ kindAt (length (now (t .entry))) ⌝ }
 {
     if t.len() <= 10 {
         return Kind::Day;
@@ -86,6 +88,7 @@ fn kind_of(t: &[u8]) -> Kind
 
 // The moment that a text in the extended form names.
 fn moment_from(t: &[u8]) -> Moment
+    requires { ⌜ kindOf (now t) ≡ kindAt (length (now t)) ⌝ }
     ensures { λ r. ⌜ r ≡ momentFrom (now (t .entry)) ⌝ }
 {
     let date = Date {

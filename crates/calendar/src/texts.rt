@@ -301,30 +301,15 @@ pub fn is_extended(form: Form, t: &[u8]) -> bool
     u.len != 0
 }
 
-// The basic text of one in the extended form.
+// The basic text of one in the extended form, which may end before the form does.
 pub fn basic(form: Form, t: &[u8]) -> Text
     ensures { λ r. ⌜ Carries r (formText form (upper (now (t .entry)))) ⌝ }
 {
     match form {
         Form::Date => strip(b"9999-99-99", &*t),
-        Form::Time => {
-            if 9 <= t.len() {
-                return strip(b"99:99:99Z", &*t);
-            }
-            strip(b"99:99:99", &*t)
-        }
-        Form::DateTime => {
-            if 20 <= t.len() {
-                return strip(b"9999-99-99T99:99:99Z", &*t);
-            }
-            strip(b"9999-99-99T99:99:99", &*t)
-        }
-        Form::Offset => {
-            if 7 <= t.len() {
-                return strip(b"+99:99:99", &*t);
-            }
-            strip(b"+99:99", &*t)
-        }
+        Form::Time => strip(b"99:99:99Z", &*t),
+        Form::DateTime => strip(b"9999-99-99T99:99:99Z", &*t),
+        Form::Offset => strip(b"+99:99:99", &*t),
     }
 }
 

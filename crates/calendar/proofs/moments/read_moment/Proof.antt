@@ -6,6 +6,7 @@ use Rattle.octets.specs.Optional.{map?}
 use Rattle.octets.proofs.Positions.{upto}
 use Rattle.calendar.specs.Moments.{momentFrom, readMoment}
 use Rattle.calendar.proofs.Fixed.{says-some, says-none}
+use Rattle.calendar.proofs.Real.{kind-by-length}
 use Rattle.calendar.proofs.moments.read_moment.Statement.{statement}
 use Rattle.calendar.proofs.moments.read_moment.Tie as tie
 
@@ -15,6 +16,11 @@ returns c = rw (sym (c .before .before .extended-moment .ensures .text) ∙ says
 
 part-moment-from-end : tie.Need-part-moment-from-end
 part-moment-from-end c = c .before .before .before .extended-moment .ensures .room
+
+moment-from-requires : tie.Need-moment-from-requires
+moment-from-requires c κs =
+    let t = c .before .before .before .before .extended-moment in
+    rw (upto (t .result .octets) (t .result .len)) (kind-by-length _ _ (sym (t .ensures .text) ∙ says-some _ (c .before .before .if1 .left)))
 
 returns-2 : tie.Need-returns-2
 unfolding readMoment map?
@@ -29,5 +35,5 @@ read-moment-spec =
     (λ c. search needs)
     (λ c. search needs)
     part-moment-from-end
-    (λ c κs. search needs)
+    moment-from-requires
     returns-2)
