@@ -1,13 +1,14 @@
 -- The texts that values are written as are clean: fixed forms, durations, binary and numbers.
-use Prim.Native.Nat.{ℕ}
+use Prim.Native.Nat.{ℕ, _+_, _-_, _%_}
 use Prim.Native.Char.{code}
-use mathlib.Core.Path.{_≡_, refl, _∙_}
+use mathlib.Core.Path.{_≡_, refl, sym, ap, _∙_}
 use mathlib.Core.Bool.{Bool, true, false, not}
 use mathlib.Core.List.{List, [], _∷_}
 use native.Mathlib.Omega.{arith}
 use borrow.Author.Tests.{eqb-true}
 use lib.Dec.{eqb, leb}
-use lib.ListN.{length}
+use lib.ListN.{length, getD, take}
+use lib.Seq.{take-all}
 use Rattle.octets.specs.Basics.{_and_, all, All}
 use Rattle.octets.specs.Pieces.{split, joined}
 use Rattle.octets.specs.Optional.{isSome, when}
@@ -17,6 +18,7 @@ use Rattle.octets.specs.Decimal.{isSign, digits, minus, unsigned, integerText}
 use Rattle.octets.proofs.Cases.{cases, never, both, and-true, either, all-weaker, all-append}
 use Rattle.octets.proofs.Classes.{between-true, within-between}
 use Rattle.octets.proofs.Pieces.{joined-split}
+use Rattle.octets.proofs.Positions.{taken}
 use Rattle.octets.proofs.Utf8.{printable-clean}
 use Rattle.octets.proofs.Decimal.{digits-all}
 use Rattle.calendar.specs.Forms.{Slot, digit, sign, letter, added, fits, keeps, basic, dateForm, clockForm, utc, timeForm, dateTimeForm, offsetForm}
@@ -24,8 +26,7 @@ use Rattle.calendar.specs.Dates.{dateIs, timeIs, dateTimeIs, offsetIs, dateText
 use Rattle.calendar.specs.Durations.{durationIs, forwardIs, periodEndIs, periodEndText}
 use Rattle.calendar.proofs.Readback.{capital, capital-printable, readable, fits-capital, duration-capital}
 use Rattle.content.proofs.WrittenOctets.{printable, joined-has}
-use Rattle.values.specs.Simple.{Group, whole, broken, base64Octet, group, groupAfter, isWhole, binaryIs, pointed, floatOf, integerOf}
-use Rattle.values.proofs.Groups.{group-other}
+use Rattle.values.specs.Simple.{base64Octet, unpadded, binaryIs, pointed, floatOf, integerOf}
 use Rattle.values.proofs.NumberLaws.{integer-numeral, numeral-clean}
 
 abbrev pub Clean : List ℕ → Type 0
@@ -114,25 +115,25 @@ base64-printable c h = either (isLetter c) _ h
     (λ e. rw (eqb-true c (code "+") e) (unfold between in refl))
     (λ e. rw (eqb-true c (code "/") e) (unfold between in refl))))
 
-broken-never : (s : List ℕ) → isWhole (groupAfter broken s) ≡ false
-unfolding groupAfter group
-broken-never [] = unfold isWhole in refl
-broken-never (c ∷ s) = broken-never s
-
-groups-printable : (g : Group) (s : List ℕ) → isWhole (groupAfter g s) ≡ true → Printable s
-unfolding groupAfter all
-groups-printable g [] h = refl
-groups-printable g (c ∷ s) h = and-true here (groups-printable (group g c) s h)
+padding-printable : (s : List ℕ) → Printable (unpadded s) → Printable s
+unfolding unpadded
+padding-printable s h = cases (eqb (getD s (length s - 1) 0) (code "=")) (λ e. last s e (rw e at h)) (λ n. rw n at h)
   where
-    here : printable c ≡ true
-    here =
-        cases (base64Octet c) (base64-printable c) λ n.
-        cases (eqb c (code "=")) (λ e. rw (eqb-true c (code "=") e) (unfold between in refl)) λ m.
-        never h (rw (group-other g c n m) (broken-never s))
+    padding : (c : ℕ) → eqb c (code "=") ≡ true → Printable (c ∷ [])
+    padding c e = unfold all in rw (eqb-true c (code "=") e) (unfold between in refl)
+
+    last : (s : List ℕ) → eqb (getD s (length s - 1) 0) (code "=") ≡ true → Printable (take (length s - 1) s) → Printable s
+    last [] e h = h
+    last (c ∷ s) e h =
+        let n = length (c ∷ s) - 1 in
+        let w : take (n + 1) (c ∷ s) ≡ c ∷ s = take-all (n + 1) (c ∷ s) (omega arith) in
+        sym (ap (all printable) w) ∙ ap (all printable) (taken (c ∷ s) n (omega arith))
+        ∙ all-append printable (take n (c ∷ s)) (getD (c ∷ s) n 0 ∷ []) ∙ and-true h (padding (getD (c ∷ s) n 0) e)
 
 pub binary-clean : (s : List ℕ) → binaryIs s ≡ true → Clean s
 unfolding binaryIs
-binary-clean s h = printable-clean s (groups-printable whole s h)
+binary-clean s h =
+    printable-clean s (padding-printable s (padding-printable (unpadded s) (all-weaker base64Octet printable base64-printable (unpadded (unpadded s)) (both (eqb (length s % 4) 0) _ h .1))))
 
 -- numbers
 digits-printable : (s : List ℕ) → digits s ≡ true → Printable s

@@ -24,8 +24,7 @@ use Rattle.calendar.specs.Walk.{beforeFirst}
 use Rattle.calendar.proofs.Pieces.{before-le, before-take, before-all, split-more, split-last, Uncased, uncased, split-upper}
 use Rattle.values.specs.Simple.{floatOf}
 use Rattle.values.specs.Read.{geoOf, readGeo, periodOf, readPeriod}
-use Rattle.values.specs.Single.{isPair}
-use Rattle.values.specs.Shown.{behindFirst, arrayShown}
+use Rattle.values.specs.Shown.{behindFirst, isPair, arrayShown}
 
 pub found-le : (sep : ℕ) (s : List ℕ) (e : ℕ) → e ≡ length (beforeFirst sep s) → e ≤ length s
 found-le sep s e is = rw is (before-le sep s)

@@ -1,4 +1,5 @@
 pub mod Neat
+pub mod TextWalk
 pub mod Lifting
 pub mod FixedLaws
 pub mod NumberLaws
@@ -6,7 +7,8 @@ pub mod TextLaws
 pub mod RecurLaws
 pub mod ValueLaws
 pub mod Naming
-pub mod Groups
+pub mod Binaries
+pub mod Booleans
 pub mod Halves
 pub mod Floats
 pub mod Arrays

@@ -7,17 +7,17 @@ use mathlib.Core.List.{List, [], _∷_, map}
 use mathlib.Core.Option.{Option, some}
 use Rattle.octets.specs.Basics.{all, filled, single, All}
 use Rattle.octets.specs.Pieces.{split, joined}
-use Rattle.octets.specs.Optional.{map?, both?, each}
+use Rattle.octets.specs.Optional.{both?, each}
 use Rattle.octets.specs.Classes.{isControl, plainOctet}
 use Rattle.octets.specs.Utf8.{clean}
 use Rattle.octets.proofs.Cases.{and-true, never, all-All, All-all}
-use Rattle.octets.proofs.Optional.{map-is, each-none, each-is}
+use Rattle.octets.proofs.Optional.{each-none, each-is}
 use Rattle.octets.proofs.Pieces.{Free, split-last, split-free, split-filled, joined-split, list-again}
 use Rattle.octets.proofs.Utf8.{ascii}
 use Rattle.json.specs.Tree.{Json}
 use Rattle.content.proofs.WrittenClean.{clean-joined}
 use Rattle.values.specs.Sorts.{Sort, sortSplits}
-use Rattle.values.specs.Read.{alone, listed, readValues}
+use Rattle.values.specs.Read.{readValues}
 use Rattle.values.specs.Write.{valueIs, valueText, valuesText}
 use Rattle.values.proofs.Neat.{Neat}
 
@@ -79,13 +79,13 @@ each-filled f [] bs n e = absurd (n refl)
 each-filled f (a ∷ xs) bs n e = each-is f a xs bs e (λ b cs p q w. rw (← w) (unfold filled in refl))
 
 -- a value that stands alone
-module _ (sort : Sort) (R : List ℕ → Option Json) (law : ItemLaw sort R) (reads : (s : List ℕ) → readValues sort s ≡ alone (R s)) where
+module _ (sort : Sort) (R : List ℕ → Option Json) (law : ItemLaw sort R) (reads : (s : List ℕ) → readValues sort s ≡ each R (s ∷ [])) where
   single-text : (j : Json) → valuesText sort (j ∷ []) ≡ valueText sort j
   unfolding valuesText joined
   single-text j = refl
 
   single-piece : (j : Json) → R (valueText sort j) ≡ some j → readValues sort (valueText sort j) ≡ some (j ∷ [])
-  unfolding alone map?
+  unfolding each both?
   single-piece j e = reads (valueText sort j) ∙ rw e
 
   single-held : (raw : List ℕ) (j : Json) → Item sort R raw j → Held sort raw (j ∷ [])
@@ -101,14 +101,13 @@ module _ (sort : Sort) (R : List ℕ → Option Json) (law : ItemLaw sort R) (re
   }
 
   pub alone-held : (raw : List ℕ) (vs : List Json) → readValues sort raw ≡ some vs → Held sort raw vs
-  unfolding alone
-  alone-held raw vs e = map-is (λ j. j ∷ []) (R raw) vs (sym (reads raw) ∙ e) (λ j q w. rw (← w) (single-held raw j (law raw j q)))
+  alone-held raw vs e = each-is R raw [] vs (sym (reads raw) ∙ e) (λ j ws q u w. rw (← w, each-none R ws u) (single-held raw j (law raw j q)))
 
 -- values between commas
-module _ (sort : Sort) (R : List ℕ → Option Json) (law : ListLaw sort R) (reads : (s : List ℕ) → readValues sort s ≡ listed R s)
+module _ (sort : Sort) (R : List ℕ → Option Json) (law : ListLaw sort R) (reads : (s : List ℕ) → readValues sort s ≡ each R (split (code ",") s))
     (many : sortSplits sort ≡ true) where
   one-piece : (j : Json) → R (valueText sort j) ≡ some j → Free (code ",") (valueText sort j) → readValues sort (valueText sort j) ≡ some (j ∷ [])
-  unfolding listed each both?
+  unfolding each both?
   one-piece j e f = reads (valueText sort j) ∙ rw (split-last (code ",") (valueText sort j) f, e)
 
   module _ (raw : List ℕ) (vs : List Json) (e : each R (split (code ",") raw) ≡ some vs) where
@@ -140,17 +139,13 @@ module _ (sort : Sort) (R : List ℕ → Option Json) (law : ListLaw sort R) (re
     list-again-held : each R (split (code ",") (joined (code ",") (map (valueText sort) vs))) ≡ some vs
     list-again-held = list-again (code ",") R (valueText sort) (λ s j f q. (law .0 s j q .again, law .1 s j f q)) raw vs e
 
-  pieces-read : (raw : List ℕ) (vs : List Json) → readValues sort raw ≡ some vs → each R (split (code ",") raw) ≡ some vs
-  unfolding listed
-  pieces-read raw vs e = sym (reads raw) ∙ e
-
   pieces-again : (vs : List Json) → each R (split (code ",") (joined (code ",") (map (valueText sort) vs))) ≡ some vs → readValues sort (valuesText sort vs) ≡ some vs
-  unfolding listed valuesText
+  unfolding valuesText
   pieces-again vs e = reads (valuesText sort vs) ∙ e
 
   pub listed-held : (raw : List ℕ) (vs : List Json) → readValues sort raw ≡ some vs → Held sort raw vs
   listed-held raw vs e =
-      let f = pieces-read raw vs e in
+      let f = sym (reads raw) ∙ e in
       record {
         again = pieces-again vs (list-again-held raw vs f);
         pieces = list-pieces raw vs f;

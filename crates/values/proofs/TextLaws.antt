@@ -21,17 +21,14 @@ use Rattle.octets.proofs.Transducer.{Runs, Keeps, run-all, run-utf8}
 use Rattle.types.specs.Codes as typed
 use Rattle.json.specs.Tree.{Json, str, arr, string?, number?, array?, itemsOf, listOfItems, octetsOf, elements}
 use Rattle.values.specs.Sorts.{text, status, sortSplits}
-use Rattle.values.specs.Texts.{Act, add, next, escape, stop, act, escapes, done, textsFrom, texts, fields, textIs, escapedOctet, textText}
+use Rattle.values.specs.Texts.{fields, textIs, escapedOctet, textText}
+use Rattle.values.specs.TextWalk.{Act, add, next, escape, stop, act, escapes, done, textsFrom, texts}
 use Rattle.values.specs.Read.{twoOrThree, readStatus, readValues}
 use Rattle.values.specs.Write.{isString, isTwoOrThree, isArray, valueIs, elementsText, valueText, valuesText}
 use Rattle.values.proofs.Neat.{Textual, Neat, n-str, n-arr, neat-items}
 use Rattle.content.proofs.WrittenClean.{clean-joined}
+use Rattle.values.proofs.TextWalk.{Separators, commas, semicolons, fields-walked, texts-read}
 use Rattle.values.proofs.Lifting.{Item, ItemLaw, Held, comma-low, comma-plain, All-map}
-
--- the separators of a kind: a bare comma separates, and a bare semicolon is refused; or the other way round
-pub data Separators : ℕ → ℕ → Type 0 where
-  commas : Separators (code ",") (code ";")
-  semicolons : Separators (code ";") (code ",")
 
 abbrev Text : List ℕ → Type 0
 Text t = all textOctet t ≡ true
@@ -350,8 +347,8 @@ strings-neat d [] h = tt
 strings-neat d (t ∷ ts) h = (n-str (h .0), strings-neat d ts (h .1))
 
 one-text : (t : List ℕ) → Text t → readValues text (valueText text (str t)) ≡ some (str t ∷ [])
-unfolding readValues texts map?
-one-text t h = rw (string-text t, alone t (texts-back (code ",") (code ";") commas t [] (h, tt)))
+unfolding texts map?
+one-text t h = rw (string-text t, texts-read (textText t), alone t (texts-back (code ",") (code ";") commas t [] (h, tt)))
   where
     alone : (t : List ℕ) → textsFrom (code ",") (code ";") false (joined (code ",") (textText t ∷ [])) ≡ some (t ∷ []) → textsFrom (code ",") (code ";") false (textText t) ≡ some (t ∷ [])
     alone t e = unfold joined in e
@@ -371,15 +368,14 @@ texts-held raw ts q =
   where
     reads : (ts : List (List ℕ)) → textsFrom (code ",") (code ";") false (joined (code ",") (map textText ts)) ≡ some ts
         → readValues text (joined (code ",") (map textText ts)) ≡ some (map str ts)
-    reads ts e = unfold readValues texts map? in rw e
+    reads ts e = unfold texts map? in rw (texts-read (joined (code ",") (map textText ts)), e)
 
     filled-map : (ts : List (List ℕ)) → filled ts ≡ true → filled (map str ts) ≡ true
     filled-map [] h = never h (unfold filled in refl)
     filled-map (t ∷ ts) h = unfold filled in refl
 
 pub text-held : (raw : List ℕ) (vs : List Json) → readValues text raw ≡ some vs → Held text raw vs
-unfolding readValues
-text-held raw vs e = map-is (map str) (texts raw) vs e (λ ts q w. rw (← w) (texts-held raw ts q))
+text-held raw vs e = map-is (map str) (texts raw) vs (sym (texts-read raw) ∙ e) (λ ts q w. rw (← w) (texts-held raw ts q))
 
 -- REQUEST-STATUS
 pub list-items : (js : List Json) → listOfItems (itemsOf js) ≡ js
@@ -421,9 +417,9 @@ semicolon-plain = refl
 
 fields-item : (s : List ℕ) (ts : List (List ℕ)) → fields s ≡ some ts → twoOrThree ts ≡ true → Item status readStatus s (arr (itemsOf (map str ts)))
 fields-item s ts q k =
-    let r = texts-reading semicolons s ts (unfold fields in q) in
+    let r = texts-reading semicolons s ts (sym (fields-walked s) ∙ q) in
     record {
-      again = rw (status-text ts) (status-again ts (unfold fields in r .again) k);
+      again = rw (status-text ts) (status-again ts (fields-walked _ ∙ r .again) k);
       is = status-is ts (r .are) k;
       line = λ c. rw (status-text ts) (written-clean (code ";") (sep-low semicolons) semicolon-plain ts (r .textual c));
       neat = λ c. n-arr (neat-items 1 (map str ts) (strings-neat 1 ts (r .textual c)));

@@ -7,7 +7,7 @@ use mathlib.Core.List.{List, [], _∷_}
 use mathlib.Core.Option.{some}
 use Rattle.octets.specs.Basics.{_and_, _or_, all, single}
 use Rattle.octets.specs.Pieces.{joined}
-use Rattle.octets.specs.Optional.{map?, guard, given}
+use Rattle.octets.specs.Optional.{both?, guard, given, each}
 use Rattle.octets.specs.Classes.{between, plainOctet, upper}
 use Rattle.octets.specs.Utf8.{utf8, clean}
 use Rattle.octets.proofs.Cases.{cases, both, and-true, or-second}
@@ -16,10 +16,10 @@ use Rattle.calendar.specs.Dates.{dateOf, timeOf, dateTimeOf, offsetOf}
 use Rattle.calendar.specs.Durations.{durationOf}
 use Rattle.types.specs.Codes as typed
 use Rattle.json.specs.Tree.{Json, str, string?, number?, octetsOf}
-use Rattle.values.specs.Sorts.{Sort, plain, binary, boolean, date, dateTime, duration, float, geo, integer, period, recur, text, status, time, utcOffset, sortOf, sortSplits}
+use Rattle.values.specs.Sorts.{Sort, plain, binary, boolean, date, dateTime, duration, float, geo, integer, period, recur, text, status, time, utcOffset, sortOf, isText, sortSplits}
 use Rattle.values.specs.Simple.{booleanOf, floatOf, integerOf}
 use Rattle.values.specs.Recur.{recurOf}
-use Rattle.values.specs.Read.{readPlain, readBinary, asString, asNumber, readPeriod, readGeo, readStatus, alone, readValues, valuesOf}
+use Rattle.values.specs.Read.{readPlain, readBinary, asString, asNumber, readPeriod, readGeo, readStatus, readOne, valuesIn, readValues, valuesOf}
 use Rattle.values.specs.Write.{valueText, valuesAre, valuesText}
 use Rattle.values.proofs.Lifting.{Held, alone-held, listed-held}
 use Rattle.values.proofs.FixedLaws.{plain-law, binary-law, date-law, time-law, date-time-law, offset-law, duration-law, boolean-law, period-law}
@@ -28,21 +28,22 @@ use Rattle.values.proofs.TextLaws.{text-held, status-law}
 use Rattle.values.proofs.RecurLaws.{recur-law}
 
 pub values-held : (sort : Sort) (raw : List ℕ) (vs : List Json) → readValues sort raw ≡ some vs → Held sort raw vs
-values-held plain = alone-held plain readPlain plain-law (λ s. unfold readValues in refl)
-values-held binary = alone-held binary readBinary binary-law (λ s. unfold readValues in refl)
-values-held boolean = listed-held boolean (λ v. booleanOf (upper v)) boolean-law (λ s. unfold readValues in refl) (unfold sortSplits typed.typeSplits between in refl)
-values-held date = listed-held date (asString dateOf) date-law (λ s. unfold readValues in refl) (unfold sortSplits typed.typeSplits between in refl)
-values-held dateTime = listed-held dateTime (asString dateTimeOf) date-time-law (λ s. unfold readValues in refl) (unfold sortSplits typed.typeSplits between in refl)
-values-held duration = listed-held duration (asString durationOf) duration-law (λ s. unfold readValues in refl) (unfold sortSplits typed.typeSplits between in refl)
-values-held float = listed-held float (asNumber floatOf) float-law (λ s. unfold readValues in refl) (unfold sortSplits typed.typeSplits between in refl)
-values-held geo = alone-held geo readGeo geo-law (λ s. unfold readValues in refl)
-values-held integer = listed-held integer (asNumber integerOf) integer-law (λ s. unfold readValues in refl) (unfold sortSplits typed.typeSplits between in refl)
-values-held period = listed-held period readPeriod period-law (λ s. unfold readValues in refl) (unfold sortSplits typed.typeSplits between in refl)
-values-held recur = alone-held recur (λ s. recurOf (upper s)) recur-law (λ s. unfold readValues in refl)
+unfolding readValues valuesIn readOne isText sortSplits typed.typeSplits between
+values-held plain = alone-held plain readPlain plain-law (λ s. refl)
+values-held binary = alone-held binary readBinary binary-law (λ s. refl)
+values-held boolean = listed-held boolean (λ v. booleanOf (upper v)) boolean-law (λ s. refl) refl
+values-held date = listed-held date (asString dateOf) date-law (λ s. refl) refl
+values-held dateTime = listed-held dateTime (asString dateTimeOf) date-time-law (λ s. refl) refl
+values-held duration = listed-held duration (asString durationOf) duration-law (λ s. refl) refl
+values-held float = listed-held float (asNumber floatOf) float-law (λ s. refl) refl
+values-held geo = alone-held geo readGeo geo-law (λ s. refl)
+values-held integer = listed-held integer (asNumber integerOf) integer-law (λ s. refl) refl
+values-held period = listed-held period readPeriod period-law (λ s. refl) refl
+values-held recur = alone-held recur (λ s. recurOf (upper s)) recur-law (λ s. refl)
 values-held text = text-held
-values-held status = alone-held status readStatus status-law (λ s. unfold readValues in refl)
-values-held time = listed-held time (asString timeOf) time-law (λ s. unfold readValues in refl) (unfold sortSplits typed.typeSplits between in refl)
-values-held utcOffset = listed-held utcOffset (asString offsetOf) offset-law (λ s. unfold readValues in refl) (unfold sortSplits typed.typeSplits between in refl)
+values-held status = alone-held status readStatus status-law (λ s. refl)
+values-held time = listed-held time (asString timeOf) time-law (λ s. refl) refl
+values-held utcOffset = listed-held utcOffset (asString offsetOf) offset-law (λ s. refl) refl
 
 -- jCal's tests, for a name that may have many values, or one that has one
 pub values-are : (sort : Sort) (raw : List ℕ) (vs : List Json) → Held sort raw vs → (many : Bool) → (many or single vs) ≡ true → valuesAre many sort vs ≡ true
@@ -74,7 +75,7 @@ values-of name c many raw vs e =
 
 -- a value that passes unprocessed: one string, written as it is
 pub unprocessed-read : (raw : List ℕ) → clean raw ≡ true → readValues plain raw ≡ some (str raw ∷ [])
-unfolding readValues alone readPlain map? clean
+unfolding readValues valuesIn isText sortSplits typed.typeSplits between readOne readPlain each both? clean
 unprocessed-read raw h = rw (when-true (all plainOctet raw) (str raw) (both (utf8 raw) (all plainOctet raw) h .1))
 
 pub unprocessed-held : (raw : List ℕ) → clean raw ≡ true → Held plain raw (str raw ∷ [])

@@ -5,6 +5,5 @@ pub mod Recur
 pub mod Read
 pub mod Write
 pub mod Coded
-pub mod Single
 pub mod Shown
-pub mod Steps
+pub mod TextWalk

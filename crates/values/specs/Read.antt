@@ -4,15 +4,15 @@ use Prim.Native.Char.{code}
 use mathlib.Core.Bool.{Bool, true, false}
 use mathlib.Core.List.{List, [], _∷_, map}
 use mathlib.Core.Option.{Option, none}
-use Rattle.octets.specs.Basics.{_or_, all, single}
+use Rattle.octets.specs.Basics.{pick, _or_, all, single}
 use Rattle.octets.specs.Pieces.{split}
 use Rattle.octets.specs.Optional.{map?, both?, when, guard, each}
 use Rattle.octets.specs.Classes.{plainOctet, upper}
 use Rattle.calendar.specs.Dates.{dateOf, timeOf, dateTimeOf, offsetOf}
 use Rattle.calendar.specs.Durations.{durationOf, periodEndOf}
 use Rattle.json.specs.Tree.{Json, num, str, arr, noItems, item, itemsOf}
-use Rattle.values.specs.Sorts.{Sort, plain, binary, boolean, date, dateTime, duration, float, geo, integer, period, recur, text, status, time, utcOffset, sortOf}
-use Rattle.values.specs.Texts.{texts, fields}
+use Rattle.values.specs.Sorts.{Sort, plain, binary, boolean, date, dateTime, duration, float, geo, integer, period, recur, text, status, time, utcOffset, sortOf, isText, sortSplits}
+use Rattle.values.specs.Texts.{bareSplit, unescaped, fields}
 use Rattle.values.specs.Simple.{binaryIs, booleanOf, floatOf, integerOf}
 use Rattle.values.specs.Recur.{recurOf}
 
@@ -61,29 +61,33 @@ twoOrThree (a ∷ b ∷ c ∷ d ∷ l) = false
 unfoldable pub readStatus : List ℕ → Option Json
 readStatus s = map? (λ ts. arr (itemsOf (map str ts))) (guard twoOrThree (fields s))
 
--- a value that stands alone, and values between commas
-unfoldable pub alone : Option Json → Option (List Json)
-alone r = map? (λ j. j ∷ []) r
+unfoldable pub readText : List ℕ → Option Json
+readText s = map? str (unescaped s)
 
-unfoldable pub listed : (List ℕ → Option Json) → List ℕ → Option (List Json)
-listed f s = each f (split (code ",") s)
+-- one value by itself
+unfoldable pub readOne : Sort → List ℕ → Option Json
+readOne plain s = readPlain s
+readOne binary s = readBinary s
+readOne boolean s = booleanOf (upper s)
+readOne date s = asString dateOf s
+readOne dateTime s = asString dateTimeOf s
+readOne duration s = asString durationOf s
+readOne float s = asNumber floatOf s
+readOne geo s = readGeo s
+readOne integer s = asNumber integerOf s
+readOne period s = readPeriod s
+readOne recur s = recurOf (upper s)
+readOne text s = readText s
+readOne status s = readStatus s
+readOne time s = asString timeOf s
+readOne utcOffset s = asString offsetOf s
+
+-- the values: texts between bare commas, others between commas where they split, else one that stands alone
+unfoldable pub valuesIn : Sort → List ℕ → List (List ℕ)
+valuesIn k s = pick (isText k) (bareSplit (code ",") s) (pick (sortSplits k) (split (code ",") s) (s ∷ []))
 
 unfoldable pub readValues : Sort → List ℕ → Option (List Json)
-readValues plain s = alone (readPlain s)
-readValues binary s = alone (readBinary s)
-readValues boolean s = listed (λ v. booleanOf (upper v)) s
-readValues date s = listed (asString dateOf) s
-readValues dateTime s = listed (asString dateTimeOf) s
-readValues duration s = listed (asString durationOf) s
-readValues float s = listed (asNumber floatOf) s
-readValues geo s = alone (readGeo s)
-readValues integer s = listed (asNumber integerOf) s
-readValues period s = listed readPeriod s
-readValues recur s = alone (recurOf (upper s))
-readValues text s = map? (map str) (texts s)
-readValues status s = alone (readStatus s)
-readValues time s = listed (asString timeOf) s
-readValues utcOffset s = listed (asString offsetOf) s
+readValues k s = each (readOne k) (valuesIn k s)
 
 -- by the property's name in lowercase and the type's code; several values only where the name may have many
 unfoldable pub valuesOf : List ℕ → ℕ → Bool → List ℕ → Option (List Json)

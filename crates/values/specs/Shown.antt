@@ -1,7 +1,7 @@
 -- The octets that are written for a raw value, valid or not.
 use Prim.Native.Nat.{ℕ, _+_, _-_}
 use Prim.Native.Char.{code}
-use mathlib.Core.Bool.{Bool, not}
+use mathlib.Core.Bool.{Bool, true, false, not}
 use mathlib.Core.List.{List, [], _∷_, _++_, map}
 use mathlib.Core.Option.{Option}
 use lib.Dec.{eqb, leb, ltb}
@@ -12,7 +12,7 @@ use Rattle.octets.specs.Optional.{given}
 use Rattle.octets.specs.Classes.{upper, lower}
 use Rattle.octets.specs.Decimal.{minus, unsigned, trim, minusIf}
 use Rattle.calendar.specs.Dates.{dateTimeOf, momentOf}
-use Rattle.calendar.specs.Recurrence.{PartSort as Kind, frequency, moment, count, weekday, ordinal, numbers}
+use Rattle.calendar.specs.Recurrence.{PartSort, frequency, moment, count, weekday, ordinal, numbers}
 use Rattle.calendar.specs.Walk.{beforeFirst, keyAt, firstPart, itemShown}
 use Rattle.json.specs.Print.{printString}
 
@@ -23,6 +23,13 @@ runOctet c = leb 32 c and not (eqb c (code "\"") or eqb c (code ",") or eqb c (c
 -- what lies behind the first `sep`
 unfoldable pub behindFirst : ℕ → List ℕ → List ℕ
 behindFirst sep s = drop (length (beforeFirst sep s) + 1) s
+
+-- exactly two pieces
+unfoldable pub isPair : {A : Type 0} → List A → Bool
+isPair [] = false
+isPair (a ∷ []) = false
+isPair (a ∷ b ∷ []) = true
+isPair (a ∷ b ∷ c ∷ l) = false
 
 -- a text that may be missing
 unfoldable pub stringShown : Option (List ℕ) → List ℕ
@@ -48,7 +55,7 @@ unfoldable pub periodShown : List ℕ → List ℕ
 periodShown s = arrayShown (stringShown (dateTimeOf (upper (beforeFirst (code "/") s)))) (endShown (behindFirst (code "/") s))
 
 -- a recurrence rule: a value of a part, the values, a part, and the object
-unfoldable pub itemJsonShown : Kind → List ℕ → List ℕ
+unfoldable pub itemJsonShown : PartSort → List ℕ → List ℕ
 itemJsonShown frequency s = code "\"" ∷ (itemShown frequency s ++ octets "\"")
 itemJsonShown moment s = stringShown (momentOf (upper s))
 itemJsonShown count s = itemShown count s
@@ -59,7 +66,7 @@ itemJsonShown (numbers signed most lo hi) s = itemShown (numbers signed most lo 
 unfoldable pub listShown : (List ℕ → List ℕ) → ℕ → List ℕ → List ℕ
 listShown f sep s = joined (code ",") (map f (split sep s))
 
-unfoldable pub itemsShown : Kind → List ℕ → List ℕ
+unfoldable pub itemsShown : PartSort → List ℕ → List ℕ
 itemsShown k v =
     pick (ltb (length (beforeFirst (code ",") v)) (length v)) (code "[" ∷ (listShown (itemJsonShown k) (code ",") v ++ octets "]")) (itemJsonShown k v)
 

@@ -1,11 +1,12 @@
 -- Binary, boolean, float and integer values (01, Values; RFC 5545 3.3.1, 3.3.2, 3.3.7, 3.3.8; RFC 4648 4).
-use Prim.Native.Nat.{ℕ, suc}
+use Prim.Native.Nat.{ℕ, suc, _-_, _%_}
 use Prim.Native.Char.{code}
 use mathlib.Core.Bool.{Bool, true, false}
 use mathlib.Core.List.{List, [], _∷_}
 use mathlib.Core.Option.{Option}
 use lib.Dec.{eqb, leb}
-use Rattle.octets.specs.Basics.{octets, pick, _and_, _or_, same}
+use lib.ListN.{length, getD, take}
+use Rattle.octets.specs.Basics.{octets, pick, _and_, _or_, all, same}
 use Rattle.octets.specs.Pieces.{split}
 use Rattle.octets.specs.Optional.{or?, when}
 use Rattle.octets.specs.Classes.{isLetter, isDigit}
@@ -13,39 +14,16 @@ use Rattle.octets.specs.Decimal.{digits, valueOf, minus, unsigned, trim, minusI
 use Rattle.octets.specs.Limits.{mostInteger}
 use Rattle.json.specs.Tree.{Json, falsity, truth}
 
--- how far a group of four has come; `pad`: behind the first of two paddings; `padded`: behind the last
-pub data Group : Type 0 where
-  whole one two three pad padded broken : Group
-
 unfoldable pub base64Octet : ℕ → Bool
 base64Octet c = isLetter c or isDigit c or eqb c (code "+") or eqb c (code "/")
 
--- padding only at the end; pad bits are not checked
-unfoldable pub group : Group → ℕ → Group
-group whole c = pick (base64Octet c) one broken
-group one c = pick (base64Octet c) two broken
-group two c = pick (base64Octet c) three (pick (eqb c (code "=")) pad broken)
-group three c = pick (base64Octet c) whole (pick (eqb c (code "=")) padded broken)
-group pad c = pick (eqb c (code "=")) padded broken
-group padded c = broken
-group broken c = broken
+-- without a padding at the end, if there is one
+unfoldable pub unpadded : List ℕ → List ℕ
+unpadded s = pick (eqb (getD s (length s - 1) 0) (code "=")) (take (length s - 1) s) s
 
-unfoldable pub groupAfter : Group → List ℕ → Group
-groupAfter g [] = g
-groupAfter g (c ∷ s) = groupAfter (group g c) s
-
-unfoldable pub isWhole : Group → Bool
-isWhole whole = true
-isWhole one = false
-isWhole two = false
-isWhole three = false
-isWhole pad = false
-isWhole padded = true
-isWhole broken = false
-
--- RFC 4648 4, kept as text
+-- RFC 4648 4, kept as text: octets of the alphabet, at most two paddings at the end, in groups of four; pad bits are not checked
 unfoldable pub binaryIs : List ℕ → Bool
-binaryIs s = isWhole (groupAfter whole s)
+binaryIs s = eqb (length s % 4) 0 and all base64Octet (unpadded (unpadded s))
 
 -- TRUE or FALSE, in uppercase here
 unfoldable pub booleanOf : List ℕ → Option Json

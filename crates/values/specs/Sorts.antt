@@ -1,6 +1,6 @@
 -- What rules a value, by the property's name and the type's code (01, Which type and Values).
 use Prim.Native.Nat.{ℕ}
-use mathlib.Core.Bool.{Bool, false}
+use mathlib.Core.Bool.{Bool, true, false}
 use mathlib.Core.List.{List}
 use lib.Dec.{eqb}
 use Rattle.octets.specs.Basics.{octets, pick, same}
@@ -25,6 +25,24 @@ sortOf n c =
     (pick (eqb c code.text) (pick (same n (octets "request-status")) status text)
     (pick (eqb c code.time) time
     (pick (eqb c code.utcOffset) utcOffset plain)))))))))))
+
+-- texts, which split at bare commas
+unfoldable pub isText : Sort → Bool
+isText plain = false
+isText binary = false
+isText boolean = false
+isText date = false
+isText dateTime = false
+isText duration = false
+isText float = false
+isText geo = false
+isText integer = false
+isText period = false
+isText recur = false
+isText text = true
+isText status = false
+isText time = false
+isText utcOffset = false
 
 -- values split at commas as their type says, plain ones as URIs; GEO and REQUEST-STATUS are one array each
 unfoldable pub sortSplits : Sort → Bool

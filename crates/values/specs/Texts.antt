@@ -3,49 +3,41 @@ use Prim.Native.Nat.{ℕ}
 use Prim.Native.Char.{code}
 use mathlib.Core.Bool.{Bool, true, false, not}
 use mathlib.Core.List.{List, [], _∷_, _++_}
-use mathlib.Core.Option.{Option, none, some}
+use mathlib.Core.Option.{Option, some}
 use lib.Dec.{eqb}
-use Rattle.octets.specs.Basics.{octets, pick, _or_, all}
-use Rattle.octets.specs.Pieces.{onto}
-use Rattle.octets.specs.Optional.{map?}
+use Rattle.octets.specs.Basics.{octets, pick, _and_, _or_, all}
+use Rattle.octets.specs.Pieces.{cut}
+use Rattle.octets.specs.Optional.{both?, when, each}
 use Rattle.octets.specs.Classes.{plainOctet, textOctet}
 
--- what an octet does: it adds an octet to the text under way, ends the text, begins an escape, or is refused
-pub data Act : Type 0 where
-  add : ℕ → Act
-  next escape stop : Act
+-- Below, the flag says that a backslash escapes the octet. A backslash that none escapes does so with the octet behind it.
+unfoldable pub escapesNext : Bool → ℕ → Bool
+escapesNext escaped c = not escaped and eqb c (code "\\")
 
--- a bare `sep` ends a text, a bare `other` is refused; the flag says that a backslash stands before
-unfoldable pub act : ℕ → ℕ → Bool → ℕ → Act
-act sep other false c =
-    pick (eqb c (code "\\")) escape (pick (eqb c sep) next (pick (eqb c other or not (plainOctet c)) stop (add c)))
-act sep other true c =
-    pick (eqb c (code "\\") or eqb c (code ";") or eqb c (code ",")) (add c)
-    (pick (eqb c (code "n") or eqb c (code "N")) (add (code "\n")) stop)
+-- the pieces between the octets `sep` that are not escaped, one at least
+unfoldable pub bareFrom : ℕ → Bool → List ℕ → List (List ℕ)
+bareFrom sep escaped [] = [] ∷ []
+bareFrom sep escaped (c ∷ s) = cut (not escaped and eqb c sep) c (bareFrom sep (escapesNext escaped c) s)
 
-unfoldable pub escapes : Act → Bool
-escapes (add c) = false
-escapes next = false
-escapes escape = true
-escapes stop = false
+unfoldable pub bareSplit : ℕ → List ℕ → List (List ℕ)
+bareSplit sep s = bareFrom sep false s
 
-unfoldable pub done : Act → Option (List (List ℕ)) → Option (List (List ℕ))
-done (add c) r = map? (onto c) r
-done next r = map? (λ ts. [] ∷ ts) r
-done escape r = r
-done stop r = none
+-- what an octet says: \\ \; \, \n \N are the only escapes; bare, it is no comma, no semicolon and no control character but tab
+unfoldable pub unescapedOctet : Bool → ℕ → Option (List ℕ)
+unescapedOctet true c = pick (eqb c (code "\\") or eqb c (code ";") or eqb c (code ",")) (some (c ∷ [])) (when (eqb c (code "n") or eqb c (code "N")) (octets "\n"))
+unescapedOctet false c = pick (eqb c (code "\\")) (some []) (when (not (eqb c (code ",") or eqb c (code ";")) and plainOctet c) (c ∷ []))
 
-unfoldable pub textsFrom : ℕ → ℕ → Bool → List ℕ → Option (List (List ℕ))
-textsFrom sep other e [] = pick e none (some ([] ∷ []))
-textsFrom sep other e (c ∷ s) = done (act sep other e c) (textsFrom sep other (escapes (act sep other e c)) s)
+unfoldable pub unescapedFrom : Bool → List ℕ → Option (List ℕ)
+unescapedFrom escaped [] = when (not escaped) []
+unescapedFrom escaped (c ∷ s) = both? _++_ (unescapedOctet escaped c) (unescapedFrom (escapesNext escaped c) s)
 
--- the texts between bare commas
-unfoldable pub texts : List ℕ → Option (List (List ℕ))
-texts s = textsFrom (code ",") (code ";") false s
+-- a text without its escapes
+unfoldable pub unescaped : List ℕ → Option (List ℕ)
+unescaped s = unescapedFrom false s
 
 -- REQUEST-STATUS: the texts between bare semicolons
 unfoldable pub fields : List ℕ → Option (List (List ℕ))
-fields s = textsFrom (code ";") (code ",") false s
+fields s = each unescaped (bareSplit (code ";") s)
 
 -- a text in jCal: no control character but tab and newline
 unfoldable pub textIs : List ℕ → Bool

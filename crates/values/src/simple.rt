@@ -2,18 +2,16 @@
 ghost use mathlib.Core.Path.{_≡_};
 ghost use Prim.Native.Nat.{ℕ, _+_, _≤_};
 ghost use lib.Dec.{leb};
-ghost use lib.ListN.{length, drop};
+ghost use lib.ListN.{length, take, drop};
+ghost use Rattle.octets.specs.Basics.{all};
 ghost use Rattle.octets.specs.Classes.{upper};
 ghost use Rattle.octets.specs.Optional.{isSome};
 ghost use Rattle.octets.specs.Pieces.{split};
 ghost use Rattle.octets.specs.Decimal.{minus};
 ghost use Rattle.octets.specs.Pen.{pen, Wrote};
-ghost use Rattle.values.specs.Simple.{base64Octet, group, binaryIs, isWhole, booleanOf, floatOf, inRange, integerOf};
+ghost use Rattle.values.specs.Simple.{base64Octet, unpadded, binaryIs, booleanOf, floatOf, inRange, integerOf};
 ghost use Rattle.values.specs.Read.{readGeo, readPeriod};
-ghost use Rattle.values.specs.Single.{isPair};
-ghost use Rattle.values.specs.Shown.{booleanShown, floatShown, geoShown};
-ghost use Rattle.values.specs.Steps.{filledGroup, closedGroup};
-ghost use Rattle.values.specs.Coded.{groupSaid};
+ghost use Rattle.values.specs.Shown.{isPair, booleanShown, floatShown, geoShown};
 use calendar::durations::is_period_end;
 use calendar::parts::find;
 use calendar::texts::Form;
@@ -31,17 +29,7 @@ use octets::same_name;
 use octets::sign_length;
 use octets::value_of;
 
-// How far a group of four has come: Pad is behind the first of two paddings, Padded behind the last.
-enum Group {
-    Whole,
-    One,
-    Two,
-    Three,
-    Pad,
-    Padded,
-    Broken,
-}
-
+// An octet of the alphabet of base64.
 fn is_base64(c: u8) -> bool
     ensures { λ r. ⌜ r ≡ base64Octet c ⌝ }
 {
@@ -60,76 +48,41 @@ fn is_base64(c: u8) -> bool
     c == b'/'
 }
 
-impl Group {
-    // Behind one octet more.
-    fn next(self, c: u8) -> Group
-        ensures { λ r. ⌜ groupSaid r ≡ group (groupSaid self) c ⌝ }
-    {
-        if is_base64(c) {
-            return self.filled();
+fn all_base64(s: &[u8]) -> bool
+    ensures { λ r. ⌜ r ≡ all base64Octet (now (s .entry)) ⌝ }
+{
+    let mut i = 0;
+    while i < s.len() {
+        if !is_base64(s[i]) {
+            return false;
         }
-        if c == b'=' {
-            return self.closed();
-        }
-        Group::Broken
+        i += 1;
     }
-
-    // Behind an octet of the alphabet.
-    fn filled(self) -> Group
-        ensures { λ r. ⌜ groupSaid r ≡ filledGroup (groupSaid self) ⌝ }
-    {
-        match self {
-            Group::Whole => Group::One,
-            Group::One => Group::Two,
-            Group::Two => Group::Three,
-            Group::Three => Group::Whole,
-            Group::Pad => Group::Broken,
-            Group::Padded => Group::Broken,
-            Group::Broken => Group::Broken,
-        }
-    }
-
-    // Behind a padding.
-    fn closed(self) -> Group
-        ensures { λ r. ⌜ groupSaid r ≡ closedGroup (groupSaid self) ⌝ }
-    {
-        match self {
-            Group::Whole => Group::Broken,
-            Group::One => Group::Broken,
-            Group::Two => Group::Pad,
-            Group::Three => Group::Padded,
-            Group::Pad => Group::Padded,
-            Group::Padded => Group::Broken,
-            Group::Broken => Group::Broken,
-        }
-    }
-
-    fn is_whole(self) -> bool
-        ensures { λ r. ⌜ r ≡ isWhole (groupSaid self) ⌝ }
-    {
-        match self {
-            Group::Whole => true,
-            Group::One => false,
-            Group::Two => false,
-            Group::Three => false,
-            Group::Pad => false,
-            Group::Padded => true,
-            Group::Broken => false,
-        }
-    }
+    true
 }
 
-// Base64 in whole groups of four, with padding only at the end.
+// The octets before a padding at the end, or all of them.
+fn unpadded(s: &[u8]) -> usize
+    ensures { λ r. ⌜ (r ≤ length (now (s .entry))) × (take r (now (s .entry)) ≡ unpadded (now (s .entry))) ⌝ }
+{
+    let n = s.len();
+    if n == 0 {
+        return 0;
+    }
+    if s[n - 1] == b'=' { n - 1 } else { n }
+}
+
+// Base64 in whole groups of four, with at most two paddings at the end.
 pub fn is_binary(s: &[u8]) -> bool
     ensures { λ r. ⌜ r ≡ binaryIs (now (s .entry)) ⌝ }
 {
-    let mut g = Group::Whole;
-    let mut i = 0;
-    while i < s.len() {
-        g = g.next(s[i]);
-        i += 1;
+    if s.len() % 4 != 0 {
+        return false;
     }
-    g.is_whole()
+    let n = unpadded(s);
+    let first = &s[0..n];
+    let m = unpadded(first);
+    all_base64(&first[0..m])
 }
 
 pub fn is_boolean(s: &[u8]) -> bool

@@ -1,8 +1,7 @@
 // What rules a value, by the property's name and the type's code.
 ghost use mathlib.Core.Path.{_≡_};
 ghost use Rattle.octets.specs.Classes.{lower};
-ghost use Rattle.values.specs.Sorts.{sortOf, sortSplits};
-ghost use Rattle.values.specs.Single.{isText};
+ghost use Rattle.values.specs.Sorts.{sortOf, isText, sortSplits};
 ghost use Rattle.values.specs.Coded.{sortSaid};
 use octets::same_name;
 use types::does_split;

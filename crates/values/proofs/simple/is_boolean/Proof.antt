@@ -1,7 +1,7 @@
 -- `values::simple::is_boolean` meets its contract.
 use mathlib.Core.Path.{sym, _∙_}
 use borrow.Author.Needs.{needs}
-use Rattle.values.proofs.Groups.{boolean-true, boolean-other}
+use Rattle.values.proofs.Booleans.{boolean-true, boolean-other}
 use Rattle.values.proofs.simple.is_boolean.Statement.{statement}
 use Rattle.values.proofs.simple.is_boolean.Tie as tie
 

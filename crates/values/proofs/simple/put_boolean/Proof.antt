@@ -2,7 +2,7 @@
 use mathlib.Core.Path.{sym, _∙_}
 use borrow.Author.Needs.{needs}
 use Rattle.octets.proofs.Pen.{as-text}
-use Rattle.values.proofs.Groups.{shown-true, shown-other}
+use Rattle.values.proofs.Booleans.{shown-true, shown-other}
 use Rattle.values.proofs.simple.put_boolean.Statement.{statement}
 use Rattle.values.proofs.simple.put_boolean.Tie as tie
 

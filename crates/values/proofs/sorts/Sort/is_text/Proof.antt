@@ -1,7 +1,7 @@
 -- `values::sorts::Sort::is_text` meets its contract.
 use borrow.Author.Needs.{needs}
 use Rattle.values.specs.Coded.{sortSaid}
-use Rattle.values.specs.Single.{isText}
+use Rattle.values.specs.Sorts.{isText}
 use Rattle.values.proofs.sorts.Sort.is_text.Statement.{statement}
 use Rattle.values.proofs.sorts.Sort.is_text.Tie as tie
 

@@ -1,0 +1,34 @@
+-- Binary values: groups of four octets, with paddings at the end.
+use Prim.Native.Nat.{ℕ, _-_, _%_}
+use mathlib.Core.Path.{_≡_, refl, ap, _∙_}
+use mathlib.Core.Bool.{Bool, false}
+use mathlib.Core.List.{List, []}
+use native.Mathlib.Omega.{arith}
+use borrow.Author.Tests.{eq-eqb, ne-eqb}
+use lib.ListN.{length, getD, take, drop}
+use lib.Seq.{take-all}
+use Rattle.octets.specs.Basics.{_and_, all}
+use Rattle.octets.proofs.Positions.{ended, upto}
+use Rattle.values.specs.Simple.{base64Octet, unpadded, binaryIs}
+
+module _ (s : List ℕ) where
+  pub unpadded-none : length s ≡ 0 → [] ≡ unpadded s
+  unpadded-none h = rw (ended s 0 (omega arith)) (unfold unpadded in refl)
+
+  pub unpadded-last : getD s (length s - 1) 0 ≡ 61 → take (length s - 1) s ≡ unpadded s
+  unfolding unpadded
+  unpadded-last h = rw (eq-eqb _ _ h)
+
+  pub unpadded-all : (getD s (length s - 1) 0 ≡ 61 → ⊥) → take (length s) s ≡ unpadded s
+  unfolding unpadded
+  unpadded-all h = rw (ne-eqb _ _ h) (take-all (length s) s (omega arith))
+
+  pub no-groups : (length s % 4 ≡ 0 → ⊥) → false ≡ binaryIs s
+  unfolding binaryIs
+  no-groups h = rw (ne-eqb _ _ h)
+
+  -- n octets stand before the last padding, and m before both
+  pub groups : (n m : ℕ) (r : Bool) → length s % 4 ≡ 0 → take n s ≡ unpadded s → take m (take (n - 0) (drop 0 s)) ≡ unpadded (take (n - 0) (drop 0 s))
+      → r ≡ all base64Octet (take (m - 0) (drop 0 (take (n - 0) (drop 0 s)))) → r ≡ binaryIs s
+  unfolding binaryIs
+  groups n m r h f g e = rw (eq-eqb _ _ h) (e ∙ ap (all base64Octet) (upto (take (n - 0) (drop 0 s)) m ∙ g ∙ ap unpadded (upto s n ∙ f)))
