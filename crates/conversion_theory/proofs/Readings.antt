@@ -22,6 +22,7 @@ use Rattle.content.specs.Line.{Line, lineOf}
 use Rattle.conversion_theory.specs.Tree.{Property, Component}
 use Rattle.conversion_theory.specs.Structure.{Event, bounds, eventOf, fresh, closed, nestAfter, structured}
 use Rattle.conversion_theory.specs.Growth.{eachProperty, treeOf}
+use Rattle.content.specs.Reading.{tested}
 use Rattle.conversion_theory.specs.ToJcal.{readLinesBy, readLines, reading}
 use Rattle.conversion_theory.proofs.Carried.{LineFine, LineLaw}
 use Rattle.conversion_theory.proofs.Nesting.{structured-is, is-structured, Known}
@@ -39,18 +40,19 @@ pub record Taken (f : Line → Answer Property) (ls : List (List ℕ)) (c : Comp
   pub grown : treeOf found ≡ c
 
 pub lines-taken : (f : Line → Answer Property) (ls : List (List ℕ)) (c : Component) → readLinesBy f ls ≡ accepted c → Taken f ls c
-unfolding readLinesBy
+unfolding readLinesBy tested
 lines-taken f ls c h =
     let last : List (Event Line) → Answer Component = λ es. then (eachProperty f es) (λ ps. accepted (treeOf ps)) in
-    let a = unless-accepted 3 (all clean ls) (λ _. unless 4 (all formed ls) (λ _. then (structured (eventsAt ls)) last)) c h in
-    let b = unless-accepted 4 (all formed ls) (λ _. then (structured (eventsAt ls)) last) c (a .1) in
-    then-accepted (structured (eventsAt ls)) last c (b .1) (λ es d r.
+    then-accepted (tested ls) (λ ks. then (structured (eventsAt ks)) last) c h (λ ks t k.
+    let a = unless-accepted 3 (all clean ls) (λ _. unless 4 (all formed ls) (λ _. accepted ls)) ks t in
+    let b = unless-accepted 4 (all formed ls) (λ _. accepted ls) ks (a .1) in
+    then-accepted (structured (eventsAt ls)) last c (rw (← accepted-same (b .1)) at k) (λ es d r.
     then-accepted (eachProperty f es) (λ ps. accepted (treeOf ps)) c r (λ ps e g.
     let w = structured-is (eventsAt ls) es d in
-    record { are-clean = a .0; are-formed = b .0; close = w .close; found = ps; read = ap (eachProperty f) (w .stay) ∙ e; grown = accepted-same g }))
+    record { are-clean = a .0; are-formed = b .0; close = w .close; found = ps; read = ap (eachProperty f) (w .stay) ∙ e; grown = accepted-same g })))
 
 pub taken-lines : (f : Line → Answer Property) (ls : List (List ℕ)) (c : Component) → Taken f ls c → readLinesBy f ls ≡ accepted c
-unfolding readLinesBy unless then
+unfolding readLinesBy tested unless then
 taken-lines f ls c t = rw (t .are-clean, t .are-formed, is-structured (eventsAt ls) (t .close), t .read, t .grown)
 
 -- a text under the table of a file

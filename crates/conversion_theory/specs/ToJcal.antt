@@ -3,15 +3,13 @@ use Prim.Native.Nat.{ℕ}
 use mathlib.Core.List.{List, map}
 use lib.Dec.{leb}
 use lib.ListN.{length}
-use Rattle.octets.specs.Basics.{all}
-use Rattle.octets.specs.Utf8.{clean}
 use Rattle.octets.specs.Limits.{mostText}
 use Rattle.octets.specs.Answers.{Answer, accepted, then, unless}
 use Rattle.types.specs.Table.{Table}
 use Rattle.types.specs.Rows.{tableOf}
 use Rattle.json.specs.Print.{print}
 use Rattle.content.specs.Lines.{linesOf}
-use Rattle.content.specs.Form.{formed}
+use Rattle.content.specs.Reading.{tested}
 use Rattle.content.specs.Line.{Line, lineOf}
 use Rattle.conversion_theory.specs.Tree.{Property, Component}
 use Rattle.conversion_theory.specs.Structure.{eventOf, structured}
@@ -22,10 +20,9 @@ use Rattle.conversion_theory.specs.Jcal.{jcalOf}
 -- numbers 3, 4, then 5 or 6, then what f refuses at the first property in fault
 unfoldable pub readLinesBy : (Line → Answer Property) → List (List ℕ) → Answer Component
 readLinesBy f ls =
-    unless 3 (all clean ls) (λ _.
-    unless 4 (all formed ls) (λ _.
-    then (structured (map (λ l. eventOf (lineOf l)) ls)) (λ es.
-    then (eachProperty f es) (λ ps. accepted (treeOf ps)))))
+    then (tested ls) (λ ks.
+    then (structured (map (λ l. eventOf (lineOf l)) ks)) (λ es.
+    then (eachProperty f es) (λ ps. accepted (treeOf ps))))
 
 unfoldable pub readLines : Table → List (List ℕ) → Answer Component
 readLines t ls = readLinesBy (readProperty t) ls
