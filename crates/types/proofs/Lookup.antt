@@ -35,12 +35,16 @@ other-letter m n k u q = cases (same m (upper n))
     (λ e. e)
 
 -- a name is among the rows that begin as it does, or nowhere
-pub by-letter : (k : ℕ) (t : Table) (n : List ℕ) → upperOctet (getD n 0 0) ≡ k → find (led k t) n ≡ find t n
+by-letter : (k : ℕ) (t : Table) (n : List ℕ) → upperOctet (getD n 0 0) ≡ k → find (led k t) n ≡ find t n
 unfolding find led
 by-letter k [] n u = refl
 by-letter k (e ∷ t) n u = cases (eqb k (getD (e .name) 0 0))
     (λ q. rw (q, by-letter k t n u))
     (λ q. rw (q, other-letter (e .name) n k u q) (by-letter k t n u))
+
+-- what the rows of its first letter say of a name, the table says of it
+pub in-letter : (k : ℕ) (t : Table) (n : List ℕ) {i : ℕ} {r : Option Row} → i ≡ upperOctet (getD n 0 0) → i ≡ k → r ≡ find (led k t) n → r ≡ find t n
+in-letter k t n u e q = q ∙ by-letter k t n (sym u ∙ e)
 
 -- a name whose first letter no row has
 pub no-letter : (n : List ℕ) (k : ℕ) → k ≡ upperOctet (getD n 0 0) → (t : Table) → led k t ≡ [] → find t n ≡ none

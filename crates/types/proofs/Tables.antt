@@ -1,5 +1,5 @@
 -- Tables that a file makes: what their rows are, what a lookup in them tells, and what it means that a newer table keeps the rows of an older one.
-use Prim.Native.Nat.{ℕ, _+_, _≤_}
+use Prim.Native.Nat.{ℕ, _≤_}
 use Prim.Native.Char.{code}
 use mathlib.Core.Path.{_≡_, refl, sym, ap, _∙_}
 use mathlib.Core.Bool.{Bool, true, false, not}
@@ -82,10 +82,6 @@ module _ (t : Table) (w : Well-formed t) (n : List ℕ) (r : Row) (h : find t n 
   pub found-code : (1 ≤ r .code) × (r .code ≤ 14)
   found-code = between-true binary utcOffset (r .code) (found-told .coded)
 
-  -- a name with many values has a type that splits
-  pub found-many : r .many ≡ true → typeSplits (r .code) ≡ true
-  found-many m = rw m at (found-told .some-many)
-
   -- the name is one of a property
   pub found-name : (all rowOctet (upper n) ≡ true) × (sameName n (octets "BEGIN") ≡ false) × (sameName n (octets "END") ≡ false)
   unfolding sameName upper upperOctet isLower between no-keyword
@@ -125,13 +121,6 @@ row-found (x ∷ t) n e d m q =
 module _ (older newer : Table) (w : Well-formed newer) (k : Keeps older newer) (n : List ℕ) where
   pub kept-found : (r : Row) → find older n ≡ some r → find newer n ≡ some r
   kept-found r h = found-row older n r h (λ e m q s. row-found newer n e (w .distinct) (k e m) q ∙ ap some s)
-
-  pub not-found : find newer n ≡ none → find older n ≡ none
-  not-found h = by (find older n) refl
-    where
-      by : (o : Option Row) → find older n ≡ o → o ≡ none
-      by none e = refl
-      by (some r) e = missing (sym h ∙ kept-found r e)
 
   -- the same row, or none
   pub kept-or-none : (find older n ≡ find newer n) ⊎ (find older n ≡ none)

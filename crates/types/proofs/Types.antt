@@ -116,13 +116,6 @@ module _ (t : List ℕ) where
       by zero e = absurd (n e)
       by (suc c) e = coded t c e .0
 
-  pub code-within : codeNamed t ≤ 14
-  code-within = by (codeNamed t) refl
-    where
-      by : (c : ℕ) → codeNamed t ≡ c → c ≤ 14
-      by zero e = omega arith
-      by (suc c) e = coded t c e .1
-
 -- the names in slots of twelve octets: the length, the name, and dots
 slot : List ℕ → List ℕ → List ℕ
 slot n rest = length n ∷ (n ++ (replicate (11 - length n) (code ".") ++ rest))
@@ -156,3 +149,6 @@ module _ (c : ℕ) (h : c ≤ 14) where
 pub nameless : (c : ℕ) → 14 < c → typeName c ≡ []
 unfolding typeName
 nameless c h = List·getD-eq-default ([] ∷ typeNames) [] {n = c} (omega (arith, fourteen))
+
+pub code-of-none : (c : ℕ) → 14 < c → codeNamed (typeName c) ≡ 0
+code-of-none c h = rw (nameless c h) (unfold codeNamed placeFrom typeNames same in refl)

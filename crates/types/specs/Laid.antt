@@ -9,7 +9,7 @@ use Rattle.octets.specs.Optional.{map?, guard}
 use Rattle.octets.specs.Limits.{mostRows}
 use Rattle.octets.specs.Answers.{Answer, orElse}
 use Rattle.types.specs.Table.{Row, Entry, entry, Table, defaults}
-use Rattle.types.specs.Rows.{rowsOf, mayJoin}
+use Rattle.types.specs.Rows.{mostName, rowsOf, mayJoin}
 use Rattle.types.specs.declared.Found.{Found}
 use Rattle.types.specs.declared.Found.the-variants.{Listed, Unlisted}
 
@@ -42,6 +42,6 @@ rowFound Unlisted = none
 unfoldable pub laidOf : List ℕ → Answer (List ℕ)
 laidOf hex = orElse 2 (map? laid (guard mayJoin (rowsOf hex)))
 
--- octets that the rows of a file take at most, each row three and 32 of its name
+-- octets that the rows of a file take at most, each row three and its name
 unfoldable pub roomForRows : ℕ
-roomForRows = mostRows * 35
+roomForRows = mostRows * (3 + mostName)

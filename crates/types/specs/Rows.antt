@@ -29,10 +29,14 @@ frameOf (h ∷ l ∷ s) = both? _∷_ (octetOf h l) (frameOf s)
 unfoldable pub rowOctet : ℕ → Bool
 rowOctet c = isUpper c or isDigit c or eqb c (code "-")
 
+-- octets of a name
+abbrev pub mostName : ℕ
+mostName = 32
+
 -- one of the fourteen codes; 0 for one value, or 1 for many of a type that splits; 1 to 32 name octets; neither BEGIN nor END
 unfoldable pub isRow : ℕ → ℕ → List ℕ → Bool
 isRow c m n =
-    between binary utcOffset c and (eqb m 0 or (eqb m 1 and typeSplits c)) and between 1 32 (length n) and all rowOctet n
+    between binary utcOffset c and (eqb m 0 or (eqb m 1 and typeSplits c)) and between 1 mostName (length n) and all rowOctet n
     and not (same n (octets "BEGIN") or same n (octets "END"))
 
 -- a frame: type code, one or many, name

@@ -24,6 +24,13 @@ pub fn code_named(name: &[u8]) -> u8
     }
 }
 
+// The code of a type that rows name; 0 for a code outside the fourteen, which no row that is read has.
+pub fn known_code(code: u8) -> u8
+    ensures { λ r. ⌜ r ≡ codeNamed (typeName code) ⌝ }
+{
+    if 14 < code { 0 } else { code }
+}
+
 // The fourteen types as rows.
 fn find_type(name: &[u8]) -> Found
     ensures { λ r. ⌜ rowFound r ≡ find types (now (name .entry)) ⌝ }

@@ -14,6 +14,8 @@ ghost use Rattle.types.specs.Rows.{rowOctet, entryOf, rowOf, rowsOf, may
 ghost use Rattle.types.specs.Laid.{laidRow, laid, tableIn, laidOf, roomForRows};
 ghost use Rattle.types.specs.Reading.{firstLine, ifUnlisted, penBehind};
 use crate::Found;
+use crate::MOST_DIGITS;
+use crate::MOST_FRAME;
 use crate::ROOM_FOR_ROWS;
 use crate::codes::does_split;
 use crate::table::find;
@@ -108,7 +110,7 @@ fn lay_line(line: &[u8], rows: &mut [u8], at: usize) -> Laid
     requires { ⌜ at ≤ length (now rows) ⌝ }
     ensures { λ r. ⌜ penBehind r (now (rows .exit)) ≡ map? (λ e. wrote (pen (now (rows .entry)) at) (laidRow e)) (ifUnlisted (tableIn (take at (now (rows .entry)))) (rowOf (now (line .entry)))) ⌝ }
 {
-    let mut frame = [0u8; 34];
+    let mut frame = [0u8; MOST_FRAME];
     let n = decode(line, &mut frame);
     lay_frame(&frame[0..n], rows, at)
 }
@@ -142,7 +144,7 @@ fn decode(line: &[u8], frame: &mut [u8]) -> usize
     requires { ⌜ length (now frame) ≡ 34 ⌝ }
     ensures { λ r. ⌜ (r ≤ 34) × (entryOf (take r (now (frame .exit))) ≡ rowOf (now (line .entry))) ⌝ }
 {
-    if 68 < line.len() {
+    if MOST_DIGITS < line.len() {
         return 0;
     }
     let mut n = 0;
@@ -171,7 +173,7 @@ fn is_row(frame: &[u8]) -> bool
     if frame.len() < 3 {
         return false;
     }
-    if 34 < frame.len() {
+    if MOST_FRAME < frame.len() {
         return false;
     }
     if !is_kind(frame[0], frame[1]) {

@@ -1,50 +1,14 @@
 -- `types::codes::find_type` meets its contract: what stands under the first letter of a name is all that the table says of it.
-use mathlib.Core.Path.{sym, _∙_}
+use mathlib.Core.Path.{sym}
 use borrow.Author.Needs.{needs}
 use borrow.Author.Tests.{ne-eqb}
 use Rattle.octets.specs.Classes.{between, isLower, upperOctet, upper}
 use Rattle.types.specs.Codes.{typeNames}
 use Rattle.types.specs.Reading.{led, numbered, types}
 use Rattle.types.specs.Laid.{rowFound}
-use Rattle.types.proofs.Lookup.{by-letter, no-letter}
+use Rattle.types.proofs.Lookup.{in-letter, no-letter}
 use Rattle.types.proofs.codes.find_type.Statement.{statement}
 use Rattle.types.proofs.codes.find_type.Tie as tie
-
-returns : tie.Need-returns
-unfolding led types numbered typeNames upper upperOctet isLower between
-returns c = c .type-b .ensures ∙ by-letter 66 types _ (sym (c .before .before .initial .ensures) ∙ c .before .match .keys1)
-
-returns-2 : tie.Need-returns-2
-unfolding led types numbered typeNames upper upperOctet isLower between
-returns-2 c = c .named .ensures ∙ by-letter 67 types _ (sym (c .before .before .before .initial .ensures) ∙ c .before .before .match .keys2)
-
-returns-3 : tie.Need-returns-3
-unfolding led types numbered typeNames upper upperOctet isLower between
-returns-3 c = c .type-d .ensures ∙ by-letter 68 types _ (sym (c .before .before .initial .ensures) ∙ c .before .match .keys3)
-
-returns-4 : tie.Need-returns-4
-unfolding led types numbered typeNames upper upperOctet isLower between
-returns-4 c = c .named2 .ensures ∙ by-letter 70 types _ (sym (c .before .before .before .initial .ensures) ∙ c .before .before .match .keys4)
-
-returns-5 : tie.Need-returns-5
-unfolding led types numbered typeNames upper upperOctet isLower between
-returns-5 c = c .named3 .ensures ∙ by-letter 73 types _ (sym (c .before .before .before .initial .ensures) ∙ c .before .before .match .keys5)
-
-returns-6 : tie.Need-returns-6
-unfolding led types numbered typeNames upper upperOctet isLower between
-returns-6 c = c .named4 .ensures ∙ by-letter 80 types _ (sym (c .before .before .before .initial .ensures) ∙ c .before .before .match .keys6)
-
-returns-7 : tie.Need-returns-7
-unfolding led types numbered typeNames upper upperOctet isLower between
-returns-7 c = c .named5 .ensures ∙ by-letter 82 types _ (sym (c .before .before .before .initial .ensures) ∙ c .before .before .match .keys7)
-
-returns-8 : tie.Need-returns-8
-unfolding led types numbered typeNames upper upperOctet isLower between
-returns-8 c = c .type-t .ensures ∙ by-letter 84 types _ (sym (c .before .before .initial .ensures) ∙ c .before .match .keys8)
-
-returns-9 : tie.Need-returns-9
-unfolding led types numbered typeNames upper upperOctet isLower between
-returns-9 c = c .type-u .ensures ∙ by-letter 85 types _ (sym (c .before .before .initial .ensures) ∙ c .before .match .keys9)
 
 returns-10 : tie.Need-returns-10
 unfolding rowFound led types numbered typeNames upper upperOctet isLower between
@@ -64,13 +28,13 @@ find-type-spec =
     (λ c. search needs) (λ c κs. search needs)
     (λ c κs. search needs)
     (λ c κs. search needs)
-    returns
-    returns-2
-    returns-3
-    returns-4
-    returns-5
-    returns-6
-    returns-7
-    returns-8
-    returns-9
+    (λ c. unfold led types numbered typeNames upper upperOctet isLower between in in-letter 66 types _ (c .before .before .initial .ensures) (c .before .match .keys1) (c .type-b .ensures))
+    (λ c. unfold led types numbered typeNames upper upperOctet isLower between in in-letter 67 types _ (c .before .before .before .initial .ensures) (c .before .before .match .keys2) (c .named .ensures))
+    (λ c. unfold led types numbered typeNames upper upperOctet isLower between in in-letter 68 types _ (c .before .before .initial .ensures) (c .before .match .keys3) (c .type-d .ensures))
+    (λ c. unfold led types numbered typeNames upper upperOctet isLower between in in-letter 70 types _ (c .before .before .before .initial .ensures) (c .before .before .match .keys4) (c .named2 .ensures))
+    (λ c. unfold led types numbered typeNames upper upperOctet isLower between in in-letter 73 types _ (c .before .before .before .initial .ensures) (c .before .before .match .keys5) (c .named3 .ensures))
+    (λ c. unfold led types numbered typeNames upper upperOctet isLower between in in-letter 80 types _ (c .before .before .before .initial .ensures) (c .before .before .match .keys6) (c .named4 .ensures))
+    (λ c. unfold led types numbered typeNames upper upperOctet isLower between in in-letter 82 types _ (c .before .before .before .initial .ensures) (c .before .before .match .keys7) (c .named5 .ensures))
+    (λ c. unfold led types numbered typeNames upper upperOctet isLower between in in-letter 84 types _ (c .before .before .initial .ensures) (c .before .match .keys8) (c .type-t .ensures))
+    (λ c. unfold led types numbered typeNames upper upperOctet isLower between in in-letter 85 types _ (c .before .before .initial .ensures) (c .before .match .keys9) (c .type-u .ensures))
     returns-10)
