@@ -30,7 +30,7 @@ use Rattle.values.proofs.ValueLaws.{values-are, Valued, values-of, unprocessed-
 use Rattle.conversion_theory.specs.Tree.{Property, property}
 use Rattle.conversion_theory.specs.Property.{typeOf, codeOf, manyOf, encodingFits, readAs}
 use Rattle.conversion_theory.specs.Return.{isUnknown, statedType, writtenSort, firstOctets, takenBy, checked, isDefault, shown}
-use Rattle.conversion_theory.proofs.PropertyReading.{read-as, as-read, read-alike, stated-code, stated-type}
+use Rattle.conversion_theory.proofs.PropertyReading.{read-as, as-read, read-alike, stated-code, stated-type, unprocessed-code}
 use Rattle.conversion_theory.proofs.Older.{stated-older, unprocessed-older}
 use Rattle.conversion_theory.proofs.Stating.{Stated, StatedIf, shown-stated}
 
@@ -45,8 +45,8 @@ Typed (some r) = (1 ≤ r .code) × (r .code ≤ 14)
 
 -- the default type may as well be stated
 default-alike : (r : Row) → Typed (some r) → (t : List ℕ) → r .code ≡ codeNamed t → (n : List ℕ) (ps : List Param) (raw : List ℕ) → readAs (some r) n none ps raw ≡ readAs (some r) n (some t) ps raw
-unfolding codeOf typeOf
-default-alike r w t c n ps raw = read-alike (some r) none (some t) c (ap typeName c ∙ name-of-code t (λ z. omega (arith, w .0))) n ps raw
+unfolding typeOf
+default-alike r w t c n ps raw = read-alike (some r) none (some t) (ap typeName c ∙ name-of-code t (λ z. omega (arith, w .0))) n ps raw
 
 type-stated : (r : Row) → Typed (some r) → Stated (typeName (r .code))
 type-stated r w = record { named = name-lower (r .code) (w .0) (w .1); known = unfold isUnknown in not-unknown (r .code) (w .1) }
@@ -135,8 +135,8 @@ module _ (n : List ℕ) (ps : List Param) (raw : List ℕ) (fine : clean raw ≡
       one false = unfold single filled in refl
 
   unlisted-passes : checked none held ≡ accepted held
-  unfolding held checked unless statedType isUnknown same encodingFits codeOf writtenSort takenBy
-  unlisted-passes = rw (may, plain-are (manyOf none))
+  unfolding held checked unless statedType isUnknown same encodingFits writtenSort takenBy
+  unlisted-passes = rw (may, unprocessed-code, plain-are (manyOf none))
 
   listed-passes : (r : Row) (p : Property) → readAs (some r) n none ps raw ≡ accepted p → checked (some r) held ≡ accepted p
   unfolding held checked unless statedType isUnknown same writtenSort takenBy firstOctets octetsOf string? number? given

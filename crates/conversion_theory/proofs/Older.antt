@@ -25,7 +25,7 @@ use Rattle.conversion_theory.specs.Property.{typeOf, codeOf, manyOf, enc
 use Rattle.conversion_theory.specs.Claim.{excepted, asUnknown, readAsOlder}
 use Rattle.conversion_theory.proofs.Carried.{LineFine}
 use Rattle.conversion_theory.proofs.Stating.{none-stated, some-stated}
-use Rattle.conversion_theory.proofs.PropertyReading.{read-as, as-read, stated-code, stated-type, read-line, line-read}
+use Rattle.conversion_theory.proofs.PropertyReading.{read-as, as-read, stated-code, stated-type, unprocessed-code, read-line, line-read}
 
 -- where a name may have many, it may have what it had
 many-more : (name : List ℕ) (c : ℕ) (many : Bool) (raw : List ℕ) (vs : List Json) → valuesOf name c many raw ≡ some vs → valuesOf name c true raw ≡ some vs
@@ -46,8 +46,8 @@ stated-older row name t params raw p e =
 -- by no row and without VALUE: the value passes unprocessed
 pub unprocessed-older : (name : List ℕ) (params : List Param) (raw : List ℕ) → clean raw ≡ true
     → readAs none name none params raw ≡ accepted (property name params (octets "unknown") (str raw ∷ []))
-unfolding typeOf codeOf manyOf encodingFits valuesOf sortOf guard when
-unprocessed-older name params raw h = as-read none name none params raw (str raw ∷ []) refl (rw (unprocessed-read raw h))
+unfolding typeOf manyOf encodingFits valuesOf sortOf guard when
+unprocessed-older name params raw h = as-read none name none params raw (str raw ∷ []) (rw unprocessed-code) (rw (unprocessed-code, unprocessed-read raw h))
 
 -- by its name's rows
 module _ (l : Line) (p : Property) where

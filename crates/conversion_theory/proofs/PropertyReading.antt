@@ -1,15 +1,16 @@
 -- What an accepted property says of its line and of its name's row, and what makes one.
 use Prim.Native.Nat.{ℕ}
-use mathlib.Core.Path.{_≡_, refl}
+use mathlib.Core.Path.{_≡_, refl, ap}
 use mathlib.Core.Bool.{true, not}
 use mathlib.Core.List.{List}
 use mathlib.Core.Option.{Option, none, some}
+use Rattle.octets.specs.Basics.{same}
 use Rattle.octets.specs.Optional.{map?}
 use Rattle.octets.specs.Classes.{lower}
 use Rattle.octets.specs.Answers.{Answer, accepted, then, orElse, unless}
 use Rattle.octets.proofs.Optional.{map-is}
 use Rattle.octets.proofs.Answers.{then-accepted, orElse-accepted, unless-accepted}
-use Rattle.types.specs.Codes.{codeNamed}
+use Rattle.types.specs.Codes.{unprocessed, typeNames, placeFrom, codeNamed}
 use Rattle.types.specs.Table.{Row, Table, find}
 use Rattle.json.specs.Tree.{Json}
 use Rattle.content.specs.Line.{Param, Line}
@@ -39,22 +40,26 @@ module _ (row : Option Row) (name : List ℕ) (type : Option (List ℕ)) (params
   unfolding readAs unless orElse map?
   as-read vs f h = rw (f, h)
 
--- of what VALUE says, only the type's name and code count
-pub read-alike : (row : Option Row) (v w : Option (List ℕ)) → codeOf row v ≡ codeOf row w → typeOf row v ≡ typeOf row w
+-- of what VALUE says, only the type's name counts
+pub read-alike : (row : Option Row) (v w : Option (List ℕ)) → typeOf row v ≡ typeOf row w
     → (name : List ℕ) (params : List Param) (raw : List ℕ) → readAs row name v params raw ≡ readAs row name w params raw
-unfolding readAs
-read-alike row v w c t name params raw = rw (c, t)
+unfolding readAs codeOf
+read-alike row v w t name params raw = rw t
 
 -- a type that VALUE states does not hang on the row
-pub stated-code : (row : Option Row) (t : List ℕ) → codeOf row (some t) ≡ codeNamed t
-unfolding codeOf
-stated-code none t = refl
-stated-code (some r) t = refl
-
 pub stated-type : (row : Option Row) (t : List ℕ) → typeOf row (some t) ≡ t
 unfolding typeOf
 stated-type none t = refl
 stated-type (some r) t = refl
+
+pub stated-code : (row : Option Row) (t : List ℕ) → codeOf row (some t) ≡ codeNamed t
+unfolding codeOf
+stated-code row t = ap codeNamed (stated-type row t)
+
+-- without a row and without VALUE the value is unprocessed
+pub unprocessed-code : codeOf none none ≡ unprocessed
+unfolding codeOf typeOf codeNamed placeFrom typeNames same
+unprocessed-code = refl
 
 -- of its line: no parameter name twice, the type that VALUE names, and the property by its row
 pub record ReadLine (t : Table) (l : Line) (p : Property) : Type 0 where

@@ -23,9 +23,7 @@ typeOf none none = octets "unknown"
 
 -- its code
 unfoldable pub codeOf : Option Row → Option (List ℕ) → ℕ
-codeOf row (some t) = codeNamed t
-codeOf (some r) none = r .code
-codeOf none none = unprocessed
+codeOf row type = codeNamed (typeOf row type)
 
 -- one or many belongs to the name; an unlisted one may have many
 unfoldable pub manyOf : Option Row → Bool
