@@ -1,4 +1,5 @@
 //! Measures the library beside another implementation of the same rules: same inputs, one run, calls in turn, medians.
+use reference::{Level, Settings};
 use std::hint::black_box;
 use std::time::Instant;
 
@@ -12,6 +13,23 @@ extern "C" {
 
 const ROOM: usize = 65_536;
 const TURNS: usize = 60;
+
+/// The level of the other implementation at which it answers as the library does.
+const LEVEL: u8 = 0;
+
+fn level() -> Level {
+    Level::new(LEVEL).expect("the other implementation has the level")
+}
+
+/// The other's conversion to jCal, without added rows.
+fn other_to_jcal(text: &[u8], room: usize) -> Result<Vec<u8>, u8> {
+    reference::tojcal(text, &Settings::of_program(b"", level()), level().default_form(), room)
+}
+
+/// The other's conversion to iCalendar, without added rows.
+fn other_to_ical(text: &[u8], room: usize) -> Result<Vec<u8>, u8> {
+    reference::tocal(text, &Settings::of_program(b"", level()), room)
+}
 
 /// An ordinary calendar: events with the usual properties.
 fn ordinary(size: usize) -> Vec<u8> {
@@ -102,26 +120,26 @@ fn row(name: &str, octets: usize, (ours, theirs): (f64, f64)) {
 }
 
 type Ours = unsafe extern "C" fn(*const u8, usize, *const u8, usize, *mut u8, usize) -> usize;
-type Theirs = fn(&[u8], &[u8], usize) -> Result<Vec<u8>, u8>;
+type Theirs = fn(&[u8], usize) -> Result<Vec<u8>, u8>;
 
 /// Converts a text by both, sees that they agree, and prints their speed.
 fn convert(name: &str, ours: Ours, theirs: Theirs, text: &[u8]) {
     let mut out = vec![0u8; 8 * ROOM];
     let n = unsafe { ours(text.as_ptr(), text.len(), text.as_ptr(), 0, out.as_mut_ptr(), out.len()) };
-    let written = theirs(text, b"", out.len()).expect("the input is accepted");
+    let written = theirs(text, out.len()).expect("the input is accepted");
     assert!(n == written.len() && out[..n] == written[..], "{name}: the answers differ");
     let times = medians(
         || {
             black_box(unsafe { ours(text.as_ptr(), text.len(), text.as_ptr(), 0, out.as_mut_ptr(), out.len()) });
         },
         || {
-            black_box(theirs(black_box(text), b"", 8 * ROOM).ok());
+            black_box(theirs(black_box(text), 8 * ROOM).ok());
         },
     );
     row(name, text.len(), times);
 }
 
-/// The times of a list of so many stops, and of one of them.
+/// The times of so many stops, and of one of them.
 fn stop_row(name: &str, count: usize, (ours, theirs): (f64, f64)) {
     let each = |ns: f64| ns / count as f64;
     println!("| {name} | {:.2} | {:.2} | {:.0} | {:.0} | {:.2} |", ours / 1000.0, theirs / 1000.0, each(ours), each(theirs), theirs / ours);
@@ -129,49 +147,54 @@ fn stop_row(name: &str, count: usize, (ours, theirs): (f64, f64)) {
 
 const START: &[u8] = b"20240228T180000";
 const RULE: &[u8] = b"FREQ=HOURLY;INTERVAL=12";
+/// The most stops that a page has.
+const PAGE: usize = 64;
 
-/// Lists so many stops by both, sees that the moments agree, and prints their times.
-fn list(name: &str, count: usize) {
-    let mut out = vec![0u8; 64 * (count + 1)];
-    let mut ours = || unsafe { putrenski_list(START.as_ptr(), START.len(), RULE.as_ptr(), RULE.len(), count, out.as_mut_ptr(), out.len()) };
-    let theirs = || reference::stop_list(black_box(START), RULE, count).expect("the rule is served");
-    let n = ours();
-    let times = medians(
-        || {
-            black_box(ours());
-        },
-        || {
-            black_box(theirs());
-        },
-    );
-    let page = std::str::from_utf8(&out[..n]).unwrap();
-    assert!(page.lines().skip(1).map(|line| line.split_once(' ').unwrap().1).eq(theirs()), "{name}: the moments differ");
-    assert!(page.starts_with(&format!("stops {count}\n")), "{name}: the counts differ");
-    stop_row(name, count, times);
+/// The library's list of so many stops, as text.
+fn list(count: usize, out: &mut [u8]) -> usize {
+    unsafe { putrenski_list(START.as_ptr(), START.len(), RULE.as_ptr(), RULE.len(), count, out.as_mut_ptr(), out.len()) }
 }
 
-/// Prints a page of 64 stops by both, sees that they agree, and prints their times.
-fn page(name: &str) {
-    let text = [START, RULE, b"64\n"].join(&b'\n');
-    let mut out = vec![0u8; 4096];
-    let mut ours = || unsafe { putrenski_stops(text.as_ptr(), text.len(), out.as_mut_ptr(), out.len()) };
-    let n = ours();
-    let times = medians(
+/// Prints a page of stops by the library's page, then by its list, and by the other's program; sees that they agree, and prints their times.
+fn pages() {
+    let text = [START, RULE, format!("{PAGE}\n").as_bytes()].join(&b'\n');
+    let theirs = || reference::stops_program(black_box(&text), level());
+    let page = |out: &mut [u8]| unsafe { putrenski_stops(text.as_ptr(), text.len(), out.as_mut_ptr(), out.len()) };
+    let jobs: [(&str, &dyn Fn(&mut [u8]) -> usize); 2] = [("a page of 64", &page), ("a list of 64", &|out| list(PAGE, out))];
+    for (name, ours) in jobs {
+        let mut out = vec![0u8; 4096];
+        let n = ours(&mut out);
+        assert!(out[..n] == theirs()[..], "{name}: the answers differ");
+        let times = medians(
+            || {
+                black_box(ours(&mut out));
+            },
+            || {
+                black_box(theirs());
+            },
+        );
+        stop_row(name, PAGE, times);
+    }
+}
+
+/// Prints the times of a list of so many stops; the other lists no more than a page.
+fn long_list(name: &str, count: usize) {
+    let mut out = vec![0u8; 64 * (count + 1)];
+    let n = list(count, &mut out);
+    assert!(out[..n].starts_with(format!("stops {count}\n").as_bytes()), "{name}: stops are missing");
+    let (ours, _) = medians(
         || {
-            black_box(ours());
+            black_box(list(count, &mut out));
         },
-        || {
-            black_box(reference::stops_program(black_box(&text)));
-        },
+        || (),
     );
-    assert!(out[..n] == reference::stops_program(&text)[..], "{name}: the answers differ");
-    stop_row(name, 64, times);
+    println!("| {name} | {:.2} | | {:.0} | | |", ours / 1000.0, ours / count as f64);
 }
 
 /// The jCal of the longest calendar of a kind whose jCal has at most so many octets.
 fn jcal(make: fn(usize) -> Vec<u8>, most: usize) -> Vec<u8> {
     (1..)
-        .map(|k| reference::tojcal(&make(most - k * most / 64), b"", 8 * ROOM).expect("the input is accepted"))
+        .map(|k| other_to_jcal(&make(most - k * most / 64), 8 * ROOM).expect("the input is accepted"))
         .find(|jcal| jcal.len() <= most)
         .unwrap()
 }
@@ -189,17 +212,16 @@ fn main() {
     println!("| to jCal | octets | MB/s | other MB/s | ratio |\n|---|---|---|---|---|");
     for (name, make) in inputs {
         for size in SIZES {
-            convert(name, putrenski_to_jcal, reference::tojcal, &make(size));
+            convert(name, putrenski_to_jcal, other_to_jcal, &make(size));
         }
     }
     println!("\n| to iCalendar | octets | MB/s | other MB/s | ratio |\n|---|---|---|---|---|");
     for (name, make) in inputs {
         for size in SIZES {
-            convert(name, putrenski_to_ical, reference::tocal, &jcal(make, size));
+            convert(name, putrenski_to_ical, other_to_ical, &jcal(make, size));
         }
     }
     println!("\n| stops | µs | other µs | ns a stop | other ns | ratio |\n|---|---|---|---|---|---|");
-    page("a page of 64");
-    list("a list of 64", 64);
-    list("a list of 10,000", 10_000);
+    pages();
+    long_list("a list of 10,000", 10_000);
 }
