@@ -6,6 +6,8 @@ use mathlib.Core.List.{List, [], _∷_}
 use native.Mathlib.Numerals.{add-one}
 use native.Mathlib.Omega.{arith}
 use lib.ListN.{length, drop}
+use types.Run.{OneOf, miss}
+use denote.Enum.Declared.{tagOf}
 use Rattle.octets.specs.Basics.{all}
 use Rattle.octets.specs.Answers.{Answer, refused, accepted, then}
 use Rattle.octets.proofs.Cases.{never, both}
@@ -16,9 +18,9 @@ use Rattle.jcal.specs.Events.{eventsIn, LineAt, nameFrom, lineTold, Tell
 use Rattle.jcal.specs.Order.{mayStand, endsHere, orderedFrom}
 use Rattle.jcal.specs.Walk.{isAccepted, reads, eventTested, eachTested, behindEnd, nextOf, levelAt, subsText}
 use Rattle.jcal.specs.Walked.{ready, Behind, SubNext, EndNext}
-use Rattle.jcal.specs.declared.events.Kind.{Kind}
-use Rattle.jcal.specs.declared.events.Kind.the-variants.{Opens, Closes, Plain, Broken}
-use Rattle.jcal.proofs.Telling.{name-of}
+use Rattle.jcal.specs.declared.events.LineKind.{LineKind}
+use Rattle.jcal.specs.declared.events.LineKind.the-variants.{Opens, Closes, Plain, Broken}
+use Rattle.jcal.proofs.events.LineKind.{the-type}
 use Rattle.jcal.proofs.Stacks.{events-none, events-told}
 use Rattle.jcal.proofs.Levels.{level-none, level-stray, level-ends, level-holds, reads-behind}
 use Rattle.jcal.proofs.Order.{ordered-behind}
@@ -82,7 +84,7 @@ module _ (f : Line → Answer Property) where
 module _ (s : List ℕ) (from i : ℕ) (low : from ≤ i) where
   module _ (within : ℕ) (g : behindEnd within (eventsIn (drop i s)) ≡ behindEnd 0 (eventsIn (drop from s))) where
     module _ (e : ℕ) (h : LineAt s i e) where
-      over : (k : Kind) → TellsLine s i e k → behindEnd within (lineTold s i k ∷ eventsIn (drop (e + 1) s)) ≡ behindEnd 0 (eventsIn (drop from s))
+      over : (k : LineKind) → TellsLine s i e k → behindEnd within (lineTold s i k ∷ eventsIn (drop (e + 1) s)) ≡ behindEnd 0 (eventsIn (drop from s))
       over k t = sym (ap (behindEnd within) (events-told s i e k h t)) ∙ g
 
       pub over-opens : (n : ℕ) → TellsLine s i e (Opens n) → behindEnd (within + 1) (eventsIn (drop (e + 1) s)) ≡ behindEnd 0 (eventsIn (drop from s))
@@ -99,13 +101,12 @@ module _ (s : List ℕ) (from i : ℕ) (low : from ≤ i) where
       unfolding lineTold behindEnd
       over-end n t z = record { rest = rw z at (over (Closes n) t); further = omega (arith, h .ends) }
 
-      pub over-plain : TellsLine s i e Plain → behindEnd within (eventsIn (drop (e + 1) s)) ≡ behindEnd 0 (eventsIn (drop from s))
+      pub over-other : (k : LineKind) → OneOf (2 ∷ 3 ∷ []) (tagOf the-type k) → TellsLine s i e k → behindEnd within (eventsIn (drop (e + 1) s)) ≡ behindEnd 0 (eventsIn (drop from s))
       unfolding lineTold behindEnd
-      over-plain t = over Plain t
-
-      pub over-broken : TellsLine s i e Broken → behindEnd within (eventsIn (drop (e + 1) s)) ≡ behindEnd 0 (eventsIn (drop from s))
-      unfolding lineTold behindEnd
-      over-broken t = over Broken t
+      over-other (Opens n) o t = absurd (miss (2 ∷ 3 ∷ []) 0 tt o)
+      over-other (Closes n) o t = absurd (miss (2 ∷ 3 ∷ []) 1 tt o)
+      over-other Plain o t = over Plain t
+      over-other Broken o t = over Broken t
 
     pub over-none : length s ≤ i → Behind s from i
     unfolding behindEnd
@@ -113,20 +114,19 @@ module _ (s : List ℕ) (from i : ℕ) (low : from ≤ i) where
 
   module _ (g : nextOf (eventsIn (drop i s)) ≡ nextOf (eventsIn (drop from s))) where
     module _ (e : ℕ) (h : LineAt s i e) where
-      upto : (k : Kind) → TellsLine s i e k → nextOf (lineTold s i k ∷ eventsIn (drop (e + 1) s)) ≡ nextOf (eventsIn (drop from s))
+      upto : (k : LineKind) → TellsLine s i e k → nextOf (lineTold s i k ∷ eventsIn (drop (e + 1) s)) ≡ nextOf (eventsIn (drop from s))
       upto k t = sym (ap nextOf (events-told s i e k h t)) ∙ g
 
-      pub next-plain : TellsLine s i e Plain → nextOf (eventsIn (drop (e + 1) s)) ≡ nextOf (eventsIn (drop from s))
+      pub next-other : (k : LineKind) → OneOf (2 ∷ 3 ∷ []) (tagOf the-type k) → TellsLine s i e k → nextOf (eventsIn (drop (e + 1) s)) ≡ nextOf (eventsIn (drop from s))
       unfolding lineTold nextOf
-      next-plain t = upto Plain t
-
-      pub next-broken : TellsLine s i e Broken → nextOf (eventsIn (drop (e + 1) s)) ≡ nextOf (eventsIn (drop from s))
-      unfolding lineTold nextOf
-      next-broken t = upto Broken t
+      next-other (Opens n) o t = absurd (miss (2 ∷ 3 ∷ []) 0 tt o)
+      next-other (Closes n) o t = absurd (miss (2 ∷ 3 ∷ []) 1 tt o)
+      next-other Plain o t = upto Plain t
+      next-other Broken o t = upto Broken t
 
       pub next-opens : (n : ℕ) → TellsLine s i e (Opens n) → SubNext s from (eventsIn (drop from s)) n e
       unfolding lineTold nextOf
-      next-opens n t = record { is = upto (Opens n) t; named = name-of s i e h (Opens n) t; further = omega (arith, h .ends) }
+      next-opens n t = record { is = upto (Opens n) t; named = t .names; further = omega (arith, h .ends) }
 
       pub next-closes : (n : ℕ) → TellsLine s i e (Closes n) → EndNext s from (eventsIn (drop from s)) (e + 1)
       unfolding lineTold nextOf

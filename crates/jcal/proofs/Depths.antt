@@ -18,13 +18,7 @@ use Rattle.conversion_theory.specs.Structure.{Event, begins, ends, carries, str
 use Rattle.jcal.specs.Walk.{behindEnd, levelAt, componentAt}
 use Rattle.jcal.proofs.Levels.{level-ends, level-left, level-holds, level-passed, level-begins, level-entered}
 
-not-closed {ℓ} : {P : Type ℓ} {k : ℕ} → _≡_ {A = Nest} (fault k) closed → P
-not-closed e = let z : _≡_ {A = ℕ} 0 1 = cc in absurd (omega arith)
-
-not-inside {ℓ} : {P : Type ℓ} {n : List ℕ} {ns : List (List ℕ)} → _≡_ {A = Nest} (inside n ns) closed → P
-not-inside e = let z : _≡_ {A = ℕ} 0 1 = cc in absurd (omega arith)
-
-not-fresh {ℓ} : {P : Type ℓ} → _≡_ {A = Nest} fresh closed → P
+pub not-fresh {ℓ} : {P : Type ℓ} → _≡_ {A = Nest} fresh closed → P
 not-fresh e = let z : _≡_ {A = ℕ} 0 1 = cc in absurd (omega arith)
 
 fault-stays : (k : ℕ) (es : List (Event Line)) → nestAfter (fault k) es ≡ fault k
@@ -37,7 +31,10 @@ fault-stays k (stray ∷ es) = fault-stays k es
 
 -- a fault on the way is none that closes
 faulty {ℓ} : {P : Type ℓ} (k : ℕ) (es : List (Event Line)) → nestAfter (fault k) es ≡ closed → P
-faulty k es h = not-closed (sym (fault-stays k es) ∙ h)
+faulty k es h =
+    let e : _≡_ {A = Nest} (fault k) closed = sym (fault-stays k es) ∙ h in
+    let z : _≡_ {A = ℕ} 0 1 = cc in
+    absurd (omega arith)
 
 -- a choice of which one part is a fault
 picked {ℓ} : {P : Type ℓ} (b : Bool) (k : ℕ) (n : Nest) (es : List (Event Line)) → nestAfter (pick b (fault k) n) es ≡ closed → (b ≡ false → nestAfter n es ≡ closed → P) → P
@@ -67,7 +64,7 @@ module _ (f : Line → Answer Property) where
   pub within-levels : (es : List (Event Line)) (n : List ℕ) (ns : List (List ℕ)) → nestAfter (inside n ns) es ≡ closed → suc (length ns) ≤ mostLevels
       → (j m : ℕ) → 0 < m → j + m ≡ suc (length ns) → under j es + m ≤ mostLevels
   unfolding nestAfter nest left
-  within-levels [] n ns h d j m z e = not-inside h
+  within-levels [] n ns h d j m z e = let x : _≡_ {A = ℕ} 0 1 = cc in absurd (omega arith)
   within-levels (begins x ∷ es) n ns h d zero m z e = picked (leb mostLevels (suc (length ns))) 6 (inside x (n ∷ ns)) es h (λ t g.
       let l : suc (suc (length ns)) ≤ mostLevels = omega (arith, leb-false mostLevels (suc (length ns)) t) in
       begun-within x es m (within-levels es x (n ∷ ns) g l 0 (suc m) (omega arith) (omega arith)) (within-levels es x (n ∷ ns) g l 1 m z (omega arith)))

@@ -13,7 +13,7 @@ use Rattle.conversion_theory.specs.Tree.{Property}
 use Rattle.conversion_theory.specs.Structure.{Event, begins, ends, carries, stray}
 use Rattle.jcal.specs.Events.{eventsIn, LineAt, lineTold, TellsLine}
 use Rattle.jcal.specs.Order.{mayStand, endsHere, orderedFrom, OrderKept, EndTold}
-use Rattle.jcal.specs.declared.events.Kind.{Kind}
+use Rattle.jcal.specs.declared.events.LineKind.{LineKind}
 use Rattle.jcal.specs.Walk.{behindEnd, levelAt, propertiesText}
 use Rattle.jcal.proofs.Stacks.{events-none, events-told}
 use Rattle.jcal.proofs.Levels.{level-none, level-begins, level-entered, level-ends, level-left, level-passed, level-stray, listed-none}
@@ -52,7 +52,7 @@ module _ (f : Line → Answer Property) where
 
 -- one line more, and none
 module _ (s : List ℕ) (i : ℕ) (kept behind : Bool) where
-  pub order-on : (e : ℕ) (k : Kind) (still ended : Bool) → LineAt s i e → TellsLine s i e k → OrderKept kept behind k still → EndTold behind k ended
+  pub order-on : (e : ℕ) (k : LineKind) (still ended : Bool) → LineAt s i e → TellsLine s i e k → OrderKept kept behind k still → EndTold behind k ended
       → (kept and orderedFrom behind (eventsIn (drop i s))) ≡ (still and orderedFrom ended (eventsIn (drop (e + 1) s)))
   unfolding orderedFrom
   order-on e k still ended h t x y = rw (events-told s i e k h t, x s i, y s i) (sym (and-assoc kept (mayStand behind (lineTold s i k)) _))

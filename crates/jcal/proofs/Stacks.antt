@@ -8,6 +8,8 @@ use native.Mathlib.Omega.{arith}
 use borrow.Author.Tests.{le-leb, lt-leb}
 use lib.Dec.{eqb, leb, eqb·suc-zero}
 use lib.ListN.{length, getD, set, take, drop, length-set}
+use types.Run.{OneOf, miss}
+use denote.Enum.Declared.{tagOf}
 use lib.Seq.{getD-set-same, getD-set-other}
 use Rattle.octets.specs.Basics.{octets, same}
 use Rattle.octets.specs.Classes.{lowerOctet, isUpper, between, lower, sameName}
@@ -23,14 +25,14 @@ use Rattle.content.specs.Buffer.{isLf}
 use Rattle.content.proofs.Scanning.{scan-is}
 use Rattle.content.proofs.Buffer.{line-here, lines-none}
 use Rattle.content.proofs.Walking.{same-lower}
-use Rattle.conversion_theory.specs.Structure.{Event, begins, ends, carries, stray, fresh, closed, inside, fault, left, nest, nestAfter, verdict}
+use Rattle.conversion_theory.specs.Structure.{Event, begins, ends, carries, stray, fresh, closed, inside, fault, left, nest, nestAfter}
 use Rattle.jcal.specs.Events.{eventAt, eventsIn, lineFrom, LineAt, nameFrom, lineTold, Named, TellsLine}
-use Rattle.jcal.specs.Nesting.{stack, inner, nestOf, aroundOf, NestsBehind, pairing, Judged}
-use Rattle.jcal.specs.declared.events.Kind.{Kind}
-use Rattle.jcal.specs.declared.events.Kind.the-variants.{Opens, Closes, Plain, Broken}
+use Rattle.jcal.specs.Nesting.{stack, inner, nestOf, aroundOf, NestsBehind}
+use Rattle.jcal.specs.declared.events.LineKind.{LineKind}
+use Rattle.jcal.specs.declared.events.LineKind.the-variants.{Opens, Closes, Plain, Broken}
 use Rattle.jcal.specs.declared.nesting.Nesting.{Nesting}
 use Rattle.jcal.specs.declared.nesting.Nesting.the-variants.{Unbegun, Within, Complete, Wrong}
-use Rattle.jcal.specs.declared.nesting.Structure.the-variants.{Paired, Failed}
+use Rattle.jcal.proofs.events.LineKind.{the-type}
 use Rattle.jcal.proofs.Telling.{line-is}
 
 -- a name is nothing where it has no octets
@@ -71,21 +73,14 @@ module _ (s : List ℕ) where
 few : (n : ℕ) → n < 8 → n < mostLevels
 few n h = rw most-levels h
 
--- neither BEGIN
-abbrev Else : Kind → Type 0
-Else (Opens n) = ⊥
-Else (Closes n) = Unit {0}
-Else Plain = Unit {0}
-Else Broken = Unit {0}
-
 -- what a line makes of the open components
 module _ (s xs : List ℕ) (room : length xs ≡ mostLevels) where
-  pub first-else : (k : Kind) → Else k → NestsBehind s xs fresh k (Wrong NotPaired)
+  pub first-else : (k : LineKind) → OneOf (1 ∷ 2 ∷ 3 ∷ []) (tagOf the-type k) → NestsBehind s xs fresh k (Wrong NotPaired)
   unfolding nestOf nest lineTold
-  first-else (Opens n) f i = absurd f
-  first-else (Closes n) f i = record { is = refl; few = few 0 (omega arith); room = room }
-  first-else Plain f i = record { is = refl; few = few 0 (omega arith); room = room }
-  first-else Broken f i = record { is = refl; few = few 0 (omega arith); room = room }
+  first-else (Opens n) o i = absurd (miss (1 ∷ 2 ∷ 3 ∷ []) 0 tt o)
+  first-else (Closes n) o i = record { is = refl; few = few 0 (omega arith); room = room }
+  first-else Plain o i = record { is = refl; few = few 0 (omega arith); room = room }
+  first-else Broken o i = record { is = refl; few = few 0 (omega arith); room = room }
 
   module _ (at e : ℕ) (t : Named s at e) where
     vcalendar-is : (b : Bool) → sameName (take (e - at) (drop at s)) (octets "VCALENDAR") ≡ b → same (nameFrom s at) (octets "vcalendar") ≡ b
@@ -162,11 +157,11 @@ nest-fault k (ends m) = refl
 nest-fault k (carries a) = refl
 nest-fault k stray = refl
 
-pub complete-on : (s xs : List ℕ) → length xs ≡ mostLevels → (k : Kind) → NestsBehind s xs (nestOf s xs Complete) k (Wrong NotPaired)
+pub complete-on : (s xs : List ℕ) → length xs ≡ mostLevels → (k : LineKind) → NestsBehind s xs (nestOf s xs Complete) k (Wrong NotPaired)
 unfolding nestOf
 complete-on s xs room k i = record { is = sym (nest-closed (lineTold s i k)); few = few 0 (omega arith); room = room }
 
-pub wrong-on : (s xs : List ℕ) → length xs ≡ mostLevels → (r : Refusal) (k : Kind) → NestsBehind s xs (nestOf s xs (Wrong r)) k (Wrong r)
+pub wrong-on : (s xs : List ℕ) → length xs ≡ mostLevels → (r : Refusal) (k : LineKind) → NestsBehind s xs (nestOf s xs (Wrong r)) k (Wrong r)
 unfolding nestOf
 wrong-on s xs room r k i = record { is = sym (nest-fault (number r) (lineTold s i k)); few = few 0 (omega arith); room = room }
 
@@ -180,11 +175,11 @@ unfolding eventsIn
 events-none s i h = rw (lines-none s i h)
 
 -- the events at a line of which is told
-pub events-told : (s : List ℕ) (i e : ℕ) (k : Kind) → LineAt s i e → TellsLine s i e k → eventsIn (drop i s) ≡ lineTold s i k ∷ eventsIn (drop (e + 1) s)
+pub events-told : (s : List ℕ) (i e : ℕ) (k : LineKind) → LineAt s i e → TellsLine s i e k → eventsIn (drop i s) ≡ lineTold s i k ∷ eventsIn (drop (e + 1) s)
 events-told s i e k h t = rw (t .is) (events-here s i e h)
 
 -- one line more
-pub nests-on : (s xs ys : List ℕ) (i e : ℕ) (t u : Nesting) (k : Kind) → LineAt s i e → TellsLine s i e k → NestsBehind s ys (nestOf s xs t) k u
+pub nests-on : (s xs ys : List ℕ) (i e : ℕ) (t u : Nesting) (k : LineKind) → LineAt s i e → TellsLine s i e k → NestsBehind s ys (nestOf s xs t) k u
     → nestAfter (nestOf s xs t) (eventsIn (drop i s)) ≡ nestAfter (nestOf s ys u) (eventsIn (drop (e + 1) s))
 unfolding nestAfter
 nests-on s xs ys i e t u k h l n = rw (events-told s i e k h l, n i .is)
@@ -192,24 +187,6 @@ nests-on s xs ys i e t u k h l n = rw (events-told s i e k h l, n i .is)
 pub nests-end : (s xs : List ℕ) (i : ℕ) (t : Nesting) → length s ≤ i → nestAfter (nestOf s xs t) (eventsIn (drop i s)) ≡ nestOf s xs t
 unfolding nestAfter
 nests-end s xs i t h = rw (events-none s i h)
-
--- the answer behind the last line
-module _ (b : Bool) where
-  pub judged-unbegun : Judged Unbegun b (Failed NotPaired)
-  unfolding pairing nestOf verdict
-  judged-unbegun s xs = refl
-
-  pub judged-within : (d : ℕ) → Judged (Within d) b (Failed NotPaired)
-  unfolding pairing nestOf inner verdict
-  judged-within d s xs = refl
-
-  pub judged-complete : Judged Complete b (Paired b)
-  unfolding pairing nestOf verdict
-  judged-complete s xs = refl
-
-  pub judged-wrong : (r : Refusal) → Judged (Wrong r) b (Failed r)
-  unfolding pairing nestOf verdict
-  judged-wrong r s xs = refl
 
 -- a nesting under another name
 pub few-as : {t m : Nesting} → aroundOf t < mostLevels → t ≡ m → aroundOf m < mostLevels

@@ -6,6 +6,8 @@ use mathlib.Core.List.{List, [], _∷_}
 use native.Mathlib.Omega.{arith}
 use borrow.Author.Tests.{le-leb, lt-leb}
 use lib.ListN.{length, take, drop}
+use types.Run.{OneOf, miss}
+use denote.Enum.Declared.{tagOf}
 use Rattle.octets.specs.Basics.{all}
 use Rattle.octets.specs.Utf8.{clean}
 use Rattle.octets.specs.Limits.{mostText, mostLevels}
@@ -45,9 +47,11 @@ use Rattle.jcal.specs.Stages.{propertiesJcal, eventsJcal, linesJcal}
 use Rattle.jcal.specs.Nesting.{pairing}
 use Rattle.jcal.specs.declared.nesting.Structure.{Structure}
 use Rattle.jcal.specs.declared.nesting.Structure.the-variants.{Paired, Failed}
-use Rattle.jcal.specs.declared.events.Kind.the-variants.{Opens, Closes, Plain, Broken}
+use Rattle.jcal.specs.declared.events.LineKind.{LineKind}
+use Rattle.jcal.specs.declared.events.LineKind.the-variants.{Opens, Closes, Plain, Broken}
+use Rattle.jcal.proofs.events.LineKind.{the-type}
 use Rattle.jcal.proofs.Levels.{grown, tree-is}
-use Rattle.jcal.proofs.Depths.{Passes, passes}
+use Rattle.jcal.proofs.Depths.{not-fresh, Passes, passes}
 use Rattle.jcal.proofs.Stacks.{events-told}
 use Rattle.jcal.proofs.Turns.{turn-passed}
 
@@ -153,18 +157,9 @@ module _ (f : Line → Answer Property) where
     told-tested : linesTold after r ≡ tested (linesOf text)
     told-tested = rw (le-leb (length (laidOut (linesOf text))) (length b) (omega (arith, laid-short text))) at (k .told)
 
-    lines-failed : (n : ℕ) → linesTold after r ≡ refused n → refused n ≡ linesJcal f (linesOf text)
+    pub lines-failed : (n : ℕ) → linesTold after r ≡ refused n → refused n ≡ linesJcal f (linesOf text)
     unfolding linesJcal readLinesBy tested
     lines-failed n e = tested-refused (all clean (linesOf text)) (all formed (linesOf text)) (linesOf text) _ _ n (sym e ∙ told-tested)
-
-    pub lines-unclean : r ≡ NotClean → refused 3 ≡ linesJcal f (linesOf text)
-    lines-unclean q = lines-failed 3 (unfold linesTold in rw q)
-
-    pub lines-unformed : r ≡ NotFormed → refused 4 ≡ linesJcal f (linesOf text)
-    lines-unformed q = lines-failed 4 (unfold linesTold in rw q)
-
-    pub lines-roomless : r ≡ NoRoom → refused 10 ≡ linesJcal f (linesOf text)
-    lines-roomless q = lines-failed 10 (unfold linesTold in rw q)
 
     lines-accepted : (n : ℕ) → linesTold after r ≡ accepted (bufferLines (take n after)) → eventsJcal f (eventsIn (take (n - 0) (drop 0 after))) ≡ linesJcal f (linesOf text)
     unfolding linesJcal readLinesBy tested eventsJcal eventsIn
@@ -206,9 +201,6 @@ module _ (hex o b : List ℕ) (r : Converted) (h : roomForRows ≤ length o) (k 
     rows-malformed w q = let e = rows-refused hex o b h w (rw q at k) in rw (e .1) (rows-wrong hex text l 2 (e .0))
 
 -- the calendar
-not-fresh {ℓ} : {P : Type ℓ} → _≡_ {A = Nest} fresh closed → P
-not-fresh e = let z : _≡_ {A = ℕ} 0 1 = cc in absurd (omega arith)
-
 pub some-line : (s : List ℕ) → nestAfter fresh (eventsIn s) ≡ closed → 0 < length s
 unfolding eventsIn bufferLines nestAfter
 some-line [] h = not-fresh h
@@ -216,24 +208,18 @@ some-line (c ∷ s) h = omega arith
 
 -- the first line is a BEGIN
 module _ (s : List ℕ) (e : ℕ) (h : LineAt s 0 e) (p : nestAfter fresh (eventsIn s) ≡ closed) where
-  other-first {ℓ} : {P : Type ℓ} (v : Event Line) → eventsIn s ≡ v ∷ eventsIn (drop (e + 1) s) → ((n : List ℕ) → v ≡ begins n → P) → P
-  other-first v q k =
+  not-begins {ℓ} : {P : Type ℓ} (v : Event Line) → eventsIn s ≡ v ∷ eventsIn (drop (e + 1) s) → ((n : List ℕ) → v ≡ begins n → ⊥) → P
+  not-begins v q k =
       let g = passes (λ _. refused 0) (eventsIn s) p in
       let a : begins (g .name) ∷ g .body ≡ v ∷ eventsIn (drop (e + 1) s) = sym (g .begun) ∙ q in
-      let b : v ≡ begins (g .name) = cc in
-      k (g .name) b
+      absurd (k (g .name) (cc))
 
-  pub closes-first {ℓ} : {P : Type ℓ} (n : ℕ) → TellsLine s 0 e (Closes n) → P
+  pub first-not {ℓ} : {P : Type ℓ} (k : LineKind) → OneOf (1 ∷ 2 ∷ 3 ∷ []) (tagOf the-type k) → TellsLine s 0 e k → P
   unfolding lineTold
-  closes-first n t = other-first (ends (nameFrom s n)) (events-told s 0 e (Closes n) h t) (λ m q. let z : _≡_ {A = ℕ} 0 1 = cc in absurd (omega arith))
-
-  pub plain-first {ℓ} : {P : Type ℓ} → TellsLine s 0 e Plain → P
-  unfolding lineTold
-  plain-first t = other-first (carries (lineOf (lineFrom s 0))) (events-told s 0 e Plain h t) (λ m q. let z : _≡_ {A = ℕ} 0 1 = cc in absurd (omega arith))
-
-  pub broken-first {ℓ} : {P : Type ℓ} → TellsLine s 0 e Broken → P
-  unfolding lineTold
-  broken-first t = other-first stray (events-told s 0 e Broken h t) (λ m q. let z : _≡_ {A = ℕ} 0 1 = cc in absurd (omega arith))
+  first-not (Opens n) o t = absurd (miss (1 ∷ 2 ∷ 3 ∷ []) 0 tt o)
+  first-not (Closes n) o t = not-begins _ (events-told s 0 e (Closes n) h t) (λ m q. let z : _≡_ {A = ℕ} 0 1 = cc in omega arith)
+  first-not Plain o t = not-begins _ (events-told s 0 e Plain h t) (λ m q. let z : _≡_ {A = ℕ} 0 1 = cc in omega arith)
+  first-not Broken o t = not-begins _ (events-told s 0 e Broken h t) (λ m q. let z : _≡_ {A = ℕ} 0 1 = cc in omega arith)
 
 module _ (f : Line → Answer Property) (s : List ℕ) (e : ℕ) (h : LineAt s 0 e) (p : nestAfter fresh (eventsIn s) ≡ closed) where
   abbrev next : List (Event Line)

@@ -11,11 +11,11 @@ use Rattle.octets.specs.Classes.{sameName}
 use Rattle.content.specs.Line.{lineOf}
 use Rattle.content.specs.Scan.{until}
 use Rattle.content.specs.Buffer.{isLf}
-use Rattle.content.proofs.Scanning.{scan-is, scan-high}
+use Rattle.content.proofs.Scanning.{scan-is}
 use Rattle.conversion_theory.specs.Structure.{bounds, eventOf}
-use Rattle.jcal.specs.Events.{lineFrom, LineAt, nameFrom, lineTold, NameOf, TellsLine}
-use Rattle.jcal.specs.declared.events.Kind.{Kind}
-use Rattle.jcal.specs.declared.events.Kind.the-variants.{Opens, Closes, Plain, Broken}
+use Rattle.jcal.specs.Events.{lineFrom, LineAt, nameFrom, lineTold, Named, TellsLine}
+use Rattle.jcal.specs.declared.events.LineKind.{LineKind}
+use Rattle.jcal.specs.declared.events.LineKind.the-variants.{Opens, Closes, Plain, Broken}
 use Rattle.jcal.proofs.Heads.{alike-length, Bound, bound-at}
 
 -- the rest of a line
@@ -31,23 +31,13 @@ until-drop stop (suc v) [] h = refl
 until-drop stop (suc v) (c ∷ s) h = rest-by stop (stop c) v c s (until-drop stop v s) h
 
 -- a kind under another name
-pub told-as : {s : List ℕ} {i e : ℕ} {k m : Kind} → TellsLine s i e k → k ≡ m → TellsLine s i e m
+pub told-as : {s : List ℕ} {i e : ℕ} {k m : LineKind} → TellsLine s i e k → k ≡ m → TellsLine s i e m
 told-as t q = rw q at t
 
 module _ (s : List ℕ) (i e : ℕ) (h : LineAt s i e) where
   pub line-is : take (e - i) (drop i s) ≡ lineFrom s i
   unfolding lineFrom
   line-is = scan-is isLf s i e (h .ends)
-
-  pub line-high : e ≤ length s
-  line-high = scan-high isLf s i e (h .ends) (omega (arith, h .within))
-
-  -- the name in a line of which is told
-  pub name-of : (k : Kind) → TellsLine s i e k → NameOf s e k
-  name-of (Opens n) t = record { low = t .within; high = line-high; ends = t .ends }
-  name-of (Closes n) t = record { low = t .within; high = line-high; ends = t .ends }
-  name-of Plain t = tt
-  name-of Broken t = tt
 
   -- the component's name, behind a name of n octets and a colon
   module _ (n : ℕ) (b : Bound (lineFrom s i) n) where
@@ -58,12 +48,11 @@ module _ (s : List ℕ) (i e : ℕ) (h : LineAt s i e) where
     value-is : (lineOf (lineFrom s i)) .value ≡ lineFrom s (i + (n + 1))
     value-is = b .value ∙ sym (unfold lineFrom in rest-is)
 
-    rest-within : i + (n + 1) ≤ e
-    unfolding lineFrom
-    rest-within = omega (arith, b .within, h .ends)
-
     rest-ends : e ≡ i + (n + 1) + length (until isLf (drop (i + (n + 1)) s))
     rest-ends = rw (rest-is, length-drop (n + 1) (lineFrom s i)) (unfold lineFrom in omega (arith, b .within, h .ends))
+
+    rest-named : Named s (i + (n + 1)) e
+    rest-named = record { low = omega (arith, rest-ends); high = h .high; ends = rest-ends }
 
   -- what the tests of the line say
   abbrev named : List ℕ → Bool
@@ -87,13 +76,12 @@ module _ (s : List ℕ) (i e : ℕ) (h : LineAt s i e) where
       let k = bound-of (octets "BEGIN") q b in
       record {
         is = rw (named-is (octets "BEGIN") true q, bound-is true b, value-is 5 k);
-        within = rest-within 5 k;
-        ends = rest-ends 5 k;
+        names = rest-named 5 k;
       }
 
   pub tells-broken : named (octets "BEGIN") ≡ true → bound ≡ false → TellsLine s i e Broken
   unfolding lineTold eventOf
-  tells-broken q b = record { is = rw (named-is (octets "BEGIN") true q, bound-is false b); within = omega (arith, h .ends); ends = h .ends }
+  tells-broken q b = record { is = rw (named-is (octets "BEGIN") true q, bound-is false b); names = tt }
 
   module _ (n : named (octets "BEGIN") ≡ false) where
     pub tells-closes : named (octets "END") ≡ true → bound ≡ true → TellsLine s i e (Closes (i + 4))
@@ -102,15 +90,14 @@ module _ (s : List ℕ) (i e : ℕ) (h : LineAt s i e) where
         let k = bound-of (octets "END") q b in
         record {
           is = rw (named-is (octets "BEGIN") false n, named-is (octets "END") true q, bound-is true b, value-is 3 k);
-          within = rest-within 3 k;
-          ends = rest-ends 3 k;
+          names = rest-named 3 k;
         }
 
     pub tells-broken-end : named (octets "END") ≡ true → bound ≡ false → TellsLine s i e Broken
     unfolding lineTold eventOf
     tells-broken-end q b =
-        record { is = rw (named-is (octets "BEGIN") false n, named-is (octets "END") true q, bound-is false b); within = omega (arith, h .ends); ends = h .ends }
+        record { is = rw (named-is (octets "BEGIN") false n, named-is (octets "END") true q, bound-is false b); names = tt }
 
     pub tells-plain : named (octets "END") ≡ false → TellsLine s i e Plain
     unfolding lineTold eventOf
-    tells-plain q = record { is = rw (named-is (octets "BEGIN") false n, named-is (octets "END") false q); within = omega (arith, h .ends); ends = h .ends }
+    tells-plain q = record { is = rw (named-is (octets "BEGIN") false n, named-is (octets "END") false q); names = tt }

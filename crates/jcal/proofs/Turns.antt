@@ -1,8 +1,10 @@
 -- The tests of the properties, line by line.
 use Prim.Native.Nat.{ℕ, _+_, _≤_}
 use mathlib.Core.Path.{_≡_, refl, sym, ap, _∙_}
-use mathlib.Core.List.{List, _∷_}
+use mathlib.Core.List.{List, [], _∷_}
 use lib.ListN.{length, drop}
+use types.Run.{OneOf, miss}
+use denote.Enum.Declared.{tagOf}
 use Rattle.octets.specs.Answers.{Answer, refused, accepted, then, number}
 use Rattle.octets.specs.declared.Refusal.{Refusal}
 use Rattle.content.specs.Line.{Line, lineOf}
@@ -14,7 +16,9 @@ use Rattle.jcal_properties.specs.declared.Tested.{Tested}
 use Rattle.jcal_properties.specs.declared.Tested.the-variants.{Passed, Failed}
 use Rattle.jcal.specs.Events.{eventAt, eventsIn, lineFrom, LineAt, lineTold, TellsLine}
 use Rattle.jcal.specs.Walk.{eventTested, eachTested}
-use Rattle.jcal.specs.declared.events.Kind.the-variants.{Opens, Closes, Plain, Broken}
+use Rattle.jcal.specs.declared.events.LineKind.{LineKind}
+use Rattle.jcal.specs.declared.events.LineKind.the-variants.{Opens, Closes, Plain, Broken}
+use Rattle.jcal.proofs.events.LineKind.{the-type}
 use Rattle.jcal.proofs.Stacks.{events-here, events-none}
 
 -- what a returned `Tested` says, where it is known which
@@ -65,17 +69,12 @@ module _ (f : Line → Answer Property) where
 
 -- the test of a line of which is told
 module _ (f : Line → Answer Property) (s : List ℕ) (i e : ℕ) where
-  pub opens-tested : (n : ℕ) → TellsLine s i e (Opens n) → accepted tt ≡ eventTested f (eventAt (lineFrom s i))
+  pub other-tested : (k : LineKind) → OneOf (0 ∷ 1 ∷ 3 ∷ []) (tagOf the-type k) → TellsLine s i e k → accepted tt ≡ eventTested f (eventAt (lineFrom s i))
   unfolding lineTold eventTested
-  opens-tested n t = rw (← t .is)
-
-  pub closes-tested : (n : ℕ) → TellsLine s i e (Closes n) → accepted tt ≡ eventTested f (eventAt (lineFrom s i))
-  unfolding lineTold eventTested
-  closes-tested n t = rw (← t .is)
-
-  pub broken-tested : TellsLine s i e Broken → accepted tt ≡ eventTested f (eventAt (lineFrom s i))
-  unfolding lineTold eventTested
-  broken-tested t = rw (← t .is)
+  other-tested (Opens n) o t = rw (← t .is)
+  other-tested (Closes n) o t = rw (← t .is)
+  other-tested Plain o t = absurd (miss (0 ∷ 1 ∷ 3 ∷ []) 2 tt o)
+  other-tested Broken o t = rw (← t .is)
 
   pub plain-tested : TellsLine s i e Plain → then (f (lineOf (lineFrom s i))) (λ _. accepted (tt {0})) ≡ eventTested f (eventAt (lineFrom s i))
   unfolding lineTold eventTested

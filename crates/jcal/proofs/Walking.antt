@@ -24,9 +24,8 @@ use Rattle.jcal.specs.Walk.{propertyOr, isAccepted, reads, eventTested, 
 use Rattle.jcal.specs.Walked.{ready, ItemStands, PlacesItem, Behind, EndNext, Finds, placeOf, PartPlaced}
 use Rattle.jcal.specs.declared.components.Next.{Next}
 use Rattle.jcal.specs.declared.components.Next.the-variants.{Sub, End, Refused}
-use Rattle.jcal.specs.declared.events.Kind.{Kind}
-use Rattle.jcal.specs.declared.events.Kind.the-variants.{Opens, Closes, Plain, Broken}
-use Rattle.jcal.proofs.Telling.{name-of}
+use Rattle.jcal.specs.declared.events.LineKind.{LineKind}
+use Rattle.jcal.specs.declared.events.LineKind.the-variants.{Opens, Closes, Plain, Broken}
 use Rattle.jcal.proofs.Stacks.{events-none, events-told}
 use Rattle.jcal.proofs.Levels.{reads-behind, properties-none, properties-stray, properties-ends, properties-begins, properties-holds, not-refused}
 use Rattle.jcal.proofs.Order.{properties-end}
@@ -90,7 +89,7 @@ module _ (f : Line → Answer Property) (s : List ℕ) (from : ℕ) (b : Bool) (
     abbrev next : List (Event Line)
     next = eventsIn (drop (e + 1) s)
 
-    here : (k : Kind) → TellsLine s i e k → Held f b es p (lineTold s i k ∷ next) first q
+    here : (k : LineKind) → TellsLine s i e k → Held f b es p (lineTold s i k ∷ next) first q
     here k t = rw (events-told s i e k h t) at g
 
     -- a property
@@ -130,7 +129,7 @@ module _ (f : Line → Answer Property) (s : List ℕ) (from : ℕ) (b : Bool) (
       held-sub o l out at w =
           let x : Held f true es p (begins (nameFrom s n) ∷ next) first q = rw o at begins-here in
           record {
-            finds = record { is = x .passed refl .0; named = name-of s i e h (Opens n) t; further = omega (arith, h .ends) };
+            finds = record { is = x .passed refl .0; named = t .names; further = omega (arith, h .ends) };
             wrote = leads-last (x .leads) w (and-more (properties-end f first (nameFrom s n) next (x .fit)));
             tested = up-to true (begins (nameFrom s n) ∷ next) x (x .fit);
           }

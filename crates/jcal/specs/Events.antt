@@ -8,8 +8,8 @@ use Rattle.content.specs.Line.{Line, lineOf}
 use Rattle.content.specs.Scan.{until}
 use Rattle.content.specs.Buffer.{isLf, bufferLines}
 use Rattle.conversion_theory.specs.Structure.{Event, begins, ends, carries, stray, eventOf}
-use Rattle.jcal.specs.declared.events.Kind.{Kind}
-use Rattle.jcal.specs.declared.events.Kind.the-variants.{Opens, Closes, Plain, Broken}
+use Rattle.jcal.specs.declared.events.LineKind.{LineKind}
+use Rattle.jcal.specs.declared.events.LineKind.the-variants.{Opens, Closes, Plain, Broken}
 
 abbrev pub eventAt : List ℕ → Event Line
 eventAt l = eventOf (lineOf l)
@@ -25,13 +25,14 @@ lineFrom s i = until isLf (drop i s)
 pub record LineAt (s : List ℕ) (i e : ℕ) : Type 0 where
   pub within : i < length s
   pub ends : e ≡ i + length (until isLf (drop i s))
+  pub high : e ≤ length s
 
 -- the name of a component, where it begins at i
 unfoldable pub nameFrom : List ℕ → ℕ → List ℕ
 nameFrom s i = lower (lineFrom s i)
 
--- what a returned `Kind` says of the line at i
-unfoldable pub lineTold : List ℕ → ℕ → Kind → Event Line
+-- what a returned `LineKind` says of the line at i
+unfoldable pub lineTold : List ℕ → ℕ → LineKind → Event Line
 lineTold s i (Opens n) = begins (nameFrom s n)
 lineTold s i (Closes n) = ends (nameFrom s n)
 lineTold s i Plain = carries (lineOf (lineFrom s i))
@@ -44,23 +45,15 @@ pub record Named (s : List ℕ) (n e : ℕ) : Type 0 where
   pub ends : e ≡ n + length (until isLf (drop n s))
 
 -- the name in a line that is told of, up to its end
-abbrev pub NameOf : List ℕ → ℕ → Kind → Type 0
+abbrev pub NameOf : List ℕ → ℕ → LineKind → Type 0
 NameOf s e (Opens n) = Named s n e
 NameOf s e (Closes n) = Named s n e
 NameOf s e Plain = Unit {0}
 NameOf s e Broken = Unit {0}
 
--- where the line goes on that is told of
-abbrev pub restOf : ℕ → Kind → ℕ
-restOf i (Opens n) = n
-restOf i (Closes n) = n
-restOf i Plain = i
-restOf i Broken = i
-
-pub record TellsLine (s : List ℕ) (i e : ℕ) (k : Kind) : Type 0 where
+pub record TellsLine (s : List ℕ) (i e : ℕ) (k : LineKind) : Type 0 where
   pub is : lineTold s i k ≡ eventAt (lineFrom s i)
-  pub within : restOf i k ≤ e
-  pub ends : e ≡ restOf i k + length (until isLf (drop (restOf i k) s))
+  pub names : NameOf s e k
 
 -- the first line begins a component, whose name stands from n to e
 abbrev pub Outermost : List ℕ → ℕ → ℕ → Type 0

@@ -8,7 +8,7 @@ use Rattle.octets.specs.Limits.{mostLevels}
 use Rattle.octets.specs.Answers.{Answer, refused, accepted, number}
 use Rattle.conversion_theory.specs.Structure.{Nest, fresh, closed, inside, fault, nest, verdict}
 use Rattle.jcal.specs.Events.{nameFrom, lineTold}
-use Rattle.jcal.specs.declared.events.Kind.{Kind}
+use Rattle.jcal.specs.declared.events.LineKind.{LineKind}
 use Rattle.jcal.specs.declared.nesting.Nesting.{Nesting}
 use Rattle.jcal.specs.declared.nesting.Nesting.the-variants.{Unbegun, Within, Complete, Wrong}
 use Rattle.jcal.specs.declared.nesting.Structure.{Structure}
@@ -42,7 +42,7 @@ pub record Nests (s xs : List ℕ) (n : Nest) (t : Nesting) : Type 0 where
   pub room : length xs ≡ mostLevels
 
 -- behind a line that is told of, wherever it begins
-abbrev pub NestsBehind : List ℕ → List ℕ → Nest → Kind → Nesting → Type 0
+abbrev pub NestsBehind : List ℕ → List ℕ → Nest → LineKind → Nesting → Type 0
 NestsBehind s xs n k t = (i : ℕ) → Nests s xs (nest n (lineTold s i k)) t
 
 -- what is answered: whether the lines are in order, or a refusal

@@ -6,7 +6,7 @@ use mathlib.Core.List.{List, [], _∷_}
 use Rattle.octets.specs.Basics.{_and_}
 use Rattle.conversion_theory.specs.Structure.{Event, begins, ends, carries, stray}
 use Rattle.jcal.specs.Events.{lineTold}
-use Rattle.jcal.specs.declared.events.Kind.{Kind}
+use Rattle.jcal.specs.declared.events.LineKind.{LineKind}
 
 -- the line may stand here, directly behind an END line or not
 unfoldable pub mayStand : {A : Type 0} → Bool → Event A → Bool
@@ -30,8 +30,8 @@ unfoldable pub ordered : {A : Type 0} → List (Event A) → Bool
 ordered es = orderedFrom false es
 
 -- the two tests at a line that is told of
-abbrev pub OrderKept : Bool → Bool → Kind → Bool → Type 0
+abbrev pub OrderKept : Bool → Bool → LineKind → Bool → Type 0
 OrderKept kept behind k r = (s : List ℕ) (i : ℕ) → r ≡ (kept and mayStand behind (lineTold s i k))
 
-abbrev pub EndTold : Bool → Kind → Bool → Type 0
+abbrev pub EndTold : Bool → LineKind → Bool → Type 0
 EndTold behind k r = (s : List ℕ) (i : ℕ) → r ≡ endsHere behind (lineTold s i k)

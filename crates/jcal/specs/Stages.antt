@@ -10,6 +10,10 @@ use Rattle.conversion_theory.specs.Growth.{eachProperty, treeOf}
 use Rattle.conversion_theory.specs.Jcal.{jcalOf}
 use Rattle.conversion_theory.specs.ToJcal.{readLinesBy}
 
+-- the longest text for which a short buffer is lent
+abbrev pub shortText : ℕ
+shortText = 4096
+
 -- from 7, 8 and 9 on
 unfoldable pub propertiesJcal : (Line → Answer Property) → List (Event Line) → Answer (List ℕ)
 propertiesJcal f es = then (eachProperty f es) (λ ps. accepted (print (jcalOf (treeOf ps))))

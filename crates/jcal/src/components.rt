@@ -18,9 +18,9 @@ ghost use Rattle.jcal.specs.Events.{eventsIn, LineAt, nameFrom, Named, O
 ghost use Rattle.jcal.specs.Walk.{behindEnd, componentAt, comma, propertiesText, nameText};
 ghost use Rattle.jcal.specs.Walked.{ready, PlacesItem, Behind, EndNext, Found, Ended, PartPlaced};
 ghost use Rattle.jcal.specs.Stages.{propertiesJcal};
-use crate::events::Kind;
+use crate::events::LineKind;
+use crate::events::end_at;
 use crate::events::kind_at;
-use content::line_end;
 use jcal_properties::Placed;
 use jcal_properties::place_property;
 use jcal_properties::put_name;
@@ -65,21 +65,20 @@ fn behind_end(buf: &[u8], from: usize) -> usize
     let mut i = from;
     let mut within: usize = 0;
     while i < buf.len() {
-        let e = line_end(buf, i);
+        let e = end_at(buf, i);
         match kind_at(buf, i, e) {
-            Kind::Opens(_) => {
+            LineKind::Opens(_) => {
                 within += 1;
                 i = e + 1;
             }
-            Kind::Closes(_) => {
+            LineKind::Closes(_) => {
                 if within == 0 {
                     return e + 1;
                 }
                 within -= 1;
                 i = e + 1;
             }
-            Kind::Plain => i = e + 1,
-            Kind::Broken => i = e + 1,
+            LineKind::Plain | LineKind::Broken => i = e + 1,
         }
     }
     i
@@ -91,12 +90,11 @@ fn next_at(buf: &[u8], from: usize, at: usize) -> Next
 {
     let mut i = from;
     while i < buf.len() {
-        let e = line_end(buf, i);
+        let e = end_at(buf, i);
         match kind_at(buf, i, e) {
-            Kind::Opens(name) => return Next::Sub(name, e, at),
-            Kind::Closes(_) => return Next::End(e + 1, at),
-            Kind::Plain => i = e + 1,
-            Kind::Broken => i = e + 1,
+            LineKind::Opens(name) => return Next::Sub(name, e, at),
+            LineKind::Closes(_) => return Next::End(e + 1, at),
+            LineKind::Plain | LineKind::Broken => i = e + 1,
         }
     }
     Next::End(i, at)
@@ -149,9 +147,9 @@ fn place_properties(
     let mut i = from;
     let mut first = true;
     while i < buf.len() {
-        let e = line_end(&*buf, i);
+        let e = end_at(&*buf, i);
         match kind_at(&*buf, i, e) {
-            Kind::Plain => match place_item(&buf[i..e], &*rows, first, out, to) {
+            LineKind::Plain => match place_item(&buf[i..e], &*rows, first, out, to) {
                 Placed::At(q) => {
                     to = q;
                     first = false;
@@ -159,14 +157,14 @@ fn place_properties(
                 }
                 Placed::Failed(why) => return Next::Refused(why),
             },
-            Kind::Opens(name) => {
+            LineKind::Opens(name) => {
                 if in_order {
                     return Next::Sub(name, e, put_all(out, to, b"],["));
                 }
                 i = behind_end(&*buf, e + 1);
             }
-            Kind::Closes(_) => return end_properties(&*buf, from, in_order, e + 1, out, to),
-            Kind::Broken => i = e + 1,
+            LineKind::Closes(_) => return end_properties(&*buf, from, in_order, e + 1, out, to),
+            LineKind::Broken => i = e + 1,
         }
     }
     end_properties(&*buf, from, in_order, i, out, to)
@@ -215,10 +213,8 @@ fn outermost_name(lines: &[u8], e: usize) -> usize
     ensures { λ r. ⌜ Outermost (now (lines .entry)) e r ⌝ }
 {
     match kind_at(lines, 0, e) {
-        Kind::Opens(name) => name,
-        Kind::Closes(_) => 0,
-        Kind::Plain => 0,
-        Kind::Broken => 0,
+        LineKind::Opens(name) => name,
+        _ => 0,
     }
 }
 
@@ -228,7 +224,7 @@ pub(crate) fn place_calendar(lines: &[u8], rows: &[u8], in_order: bool, out: &mu
     requires { ⌜ ready (readProperty (tableIn (now rows))) in_order false (eventsIn (now lines)) ≡ true ⌝ }
     ensures { λ r. ⌜ outcome r (now (out .exit)) ≡ answer (propertiesJcal (readProperty (tableIn (now (rows .entry)))) (eventsIn (now (lines .entry)))) (now (out .entry)) ⌝ }
 {
-    let e = line_end(lines, 0);
+    let e = end_at(lines, 0);
     let name = outermost_name(lines, e);
     match place_component(lines, rows, name, e, in_order, MOST_LEVELS, out, 0) {
         Next::Sub(_, _, at) => finish(out, at),

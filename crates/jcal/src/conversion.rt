@@ -11,7 +11,7 @@ ghost use Rattle.conversion_theory.specs.Property.{readProperty};
 ghost use Rattle.conversion_theory.specs.ToJcal.{toJcal};
 ghost use Rattle.jcal.specs.Events.{eventsIn};
 ghost use Rattle.jcal.specs.Order.{ordered};
-ghost use Rattle.jcal.specs.Stages.{propertiesJcal, eventsJcal, linesJcal};
+ghost use Rattle.jcal.specs.Stages.{propertiesJcal, eventsJcal, linesJcal, shortText};
 use crate::components::place_calendar;
 use crate::nesting::Structure;
 use crate::nesting::test_structure;
@@ -25,6 +25,14 @@ use octets::Refusal;
 use octets::refuse;
 use types::ROOM_FOR_ROWS;
 use types::read_rows;
+
+// The longest text for which a short buffer is lent, the quicker to zero.
+const SHORT_TEXT: usize = 4096;
+
+// A buffer of lines has room for a text and an LF more.
+const ROOM_FOR_SHORT: usize = SHORT_TEXT + 1;
+
+const ROOM_FOR_LINES: usize = MOST_TEXT + 1;
 
 // Converts lines that pair: tests 7, 8 and 9. Lines that are not in order are tested before they are written.
 fn convert_paired(lines: &[u8], rows: &[u8], in_order: bool, out: &mut [u8]) -> Converted
@@ -76,13 +84,13 @@ fn convert(text: &[u8], hex: &[u8], rows: &mut [u8], buf: &mut [u8], out: &mut [
     }
 }
 
-// Converts a text of at most 4,096 octets.
+// Converts a text that is short.
 fn convert_short(text: &[u8], rows: &[u8], out: &mut [u8]) -> Converted
-    requires { ⌜ length (now text) ≤ 4096 ⌝ }
+    requires { ⌜ length (now text) ≤ shortText ⌝ }
     ensures { λ r. ⌜ outcome r (now (out .exit)) ≡ answer (toJcal (now (rows .entry)) (now (text .entry))) (now (out .entry)) ⌝ }
 {
     let mut table = [0u8; ROOM_FOR_ROWS];
-    let mut buf = [0u8; 4097];
+    let mut buf = [0u8; ROOM_FOR_SHORT];
     convert(text, rows, &mut table, &mut buf, out)
 }
 
@@ -92,7 +100,7 @@ fn convert_long(text: &[u8], rows: &[u8], out: &mut [u8]) -> Converted
     ensures { λ r. ⌜ outcome r (now (out .exit)) ≡ answer (toJcal (now (rows .entry)) (now (text .entry))) (now (out .entry)) ⌝ }
 {
     let mut table = [0u8; ROOM_FOR_ROWS];
-    let mut buf = [0u8; 65537];
+    let mut buf = [0u8; ROOM_FOR_LINES];
     convert(text, rows, &mut table, &mut buf, out)
 }
 
@@ -103,7 +111,7 @@ pub fn to_jcal(text: &[u8], rows: &[u8], out: &mut [u8]) -> Converted
     if MOST_TEXT < text.len() {
         return refuse(out, Refusal::TextTooLong);
     }
-    if text.len() <= 4096 {
+    if text.len() <= SHORT_TEXT {
         return convert_short(text, rows, out);
     }
     convert_long(text, rows, out)

@@ -2,6 +2,7 @@
 ghost use mathlib.Core.Path.{_≡_};
 ghost use mathlib.Core.Bool.{true, false, not};
 ghost use lib.Dec.{eqb};
+ghost use Prim.Native.Nat.{_<_};
 ghost use lib.ListN.{length, drop};
 ghost use Rattle.octets.specs.Basics.{_or_, filled};
 ghost use Rattle.octets.specs.Classes.{isName, sameName};
@@ -9,15 +10,24 @@ ghost use Rattle.content.specs.Line.{lineOf};
 ghost use Rattle.content.specs.Scan.{untilBare};
 ghost use Rattle.conversion_theory.specs.Structure.{bounds};
 ghost use Rattle.jcal.specs.Events.{LineAt, TellsLine};
+use content::line_end;
 use octets::is_name;
 use octets::same_name;
 
 // BEGIN or END with the place of the component's name, a property, or a BEGIN or END that is neither.
-pub(crate) enum Kind {
+pub(crate) enum LineKind {
     Opens(usize),
     Closes(usize),
     Plain,
     Broken,
+}
+
+// Where the line that begins at i ends.
+pub(crate) fn end_at(buf: &[u8], i: usize) -> usize
+    requires { ⌜ i < length (now buf) ⌝ }
+    ensures { λ r. ⌜ LineAt (now (buf .entry)) i r ⌝ }
+{
+    line_end(buf, i)
 }
 
 // A name can end at n: a colon or a semicolon stands there, or nothing.
@@ -62,22 +72,22 @@ fn has_bounds(line: &[u8], n: usize) -> bool
 }
 
 // What the line from i to e is.
-pub(crate) fn kind_at(buf: &[u8], i: usize, e: usize) -> Kind
+pub(crate) fn kind_at(buf: &[u8], i: usize, e: usize) -> LineKind
     requires { ⌜ LineAt (now buf) i e ⌝ }
     ensures { λ r. ⌜ TellsLine (now (buf .entry)) i e r ⌝ }
 {
     let line = &buf[i..e];
     if is_called(line, b"BEGIN") {
         if has_bounds(line, 5) {
-            return Kind::Opens(i + 6);
+            return LineKind::Opens(i + 6);
         }
-        return Kind::Broken;
+        return LineKind::Broken;
     }
     if is_called(line, b"END") {
         if has_bounds(line, 3) {
-            return Kind::Closes(i + 4);
+            return LineKind::Closes(i + 4);
         }
-        return Kind::Broken;
+        return LineKind::Broken;
     }
-    Kind::Plain
+    LineKind::Plain
 }

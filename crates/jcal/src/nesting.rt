@@ -9,9 +9,9 @@ ghost use Rattle.conversion_theory.specs.Structure.{fresh, nestAfter, verdict};
 ghost use Rattle.jcal.specs.Events.{eventsIn, nameFrom, NameOf};
 ghost use Rattle.jcal.specs.Nesting.{inner, nestOf, aroundOf, NestsBehind, pairing, Judged};
 ghost use Rattle.jcal.specs.Order.{ordered, OrderKept, EndTold};
-use crate::events::Kind;
+use crate::events::LineKind;
+use crate::events::end_at;
 use crate::events::kind_at;
-use content::line_end;
 use octets::MOST_LEVELS;
 use octets::Refusal;
 use octets::same_name;
@@ -37,39 +37,43 @@ fn is_named(buf: &[u8], at: usize, name: &[u8]) -> bool
     if buf.len() <= at {
         return name.len() == 0;
     }
-    let e = line_end(buf, at);
+    let e = end_at(buf, at);
     same_name(name, &buf[at..e])
 }
 
 // Behind a line where no component was begun before it.
-fn after_first(buf: &[u8], e: usize, kind: Kind, names: &mut [usize; 8]) -> Nesting
+fn after_first(buf: &[u8], e: usize, kind: LineKind, names: &mut [usize; MOST_LEVELS]) -> Nesting
     requires { ⌜ NameOf (now buf) e kind ⌝ }
     requires { ⌜ length (now names) ≡ mostLevels ⌝ }
     ensures { λ r. ⌜ NestsBehind (now (buf .entry)) (now (names .exit)) fresh kind r ⌝ }
 {
     match kind {
-        Kind::Opens(at) => {
+        LineKind::Opens(at) => {
             if same_name(&buf[at..e], b"VCALENDAR") {
                 names[0] = at;
                 return Nesting::Within(0);
             }
             Nesting::Wrong(Refusal::NotPaired)
         }
-        Kind::Closes(_) => Nesting::Wrong(Refusal::NotPaired),
-        Kind::Plain => Nesting::Wrong(Refusal::NotPaired),
-        Kind::Broken => Nesting::Wrong(Refusal::NotPaired),
+        _ => Nesting::Wrong(Refusal::NotPaired),
     }
 }
 
 // Behind a line in a component with so many around it.
-fn after_inner(buf: &[u8], e: usize, kind: Kind, around: usize, names: &mut [usize; 8]) -> Nesting
+fn after_inner(
+    buf: &[u8],
+    e: usize,
+    kind: LineKind,
+    around: usize,
+    names: &mut [usize; MOST_LEVELS],
+) -> Nesting
     requires { ⌜ NameOf (now buf) e kind ⌝ }
     requires { ⌜ around < mostLevels ⌝ }
     requires { ⌜ length (now names) ≡ mostLevels ⌝ }
     ensures { λ r. ⌜ NestsBehind (now (buf .entry)) (now (names .exit)) (inner (now (buf .entry)) (now (names .entry)) around) kind r ⌝ }
 {
     match kind {
-        Kind::Opens(at) => {
+        LineKind::Opens(at) => {
             let next = around + 1;
             if next < MOST_LEVELS {
                 names[next] = at;
@@ -77,7 +81,7 @@ fn after_inner(buf: &[u8], e: usize, kind: Kind, around: usize, names: &mut [usi
             }
             Nesting::Wrong(Refusal::TooDeep)
         }
-        Kind::Closes(at) => {
+        LineKind::Closes(at) => {
             let open = names[around];
             if !is_named(buf, open, &buf[at..e]) {
                 return Nesting::Wrong(Refusal::NotPaired);
@@ -87,13 +91,19 @@ fn after_inner(buf: &[u8], e: usize, kind: Kind, around: usize, names: &mut [usi
             }
             Nesting::Within(around - 1)
         }
-        Kind::Plain => Nesting::Within(around),
-        Kind::Broken => Nesting::Wrong(Refusal::NotPaired),
+        LineKind::Plain => Nesting::Within(around),
+        LineKind::Broken => Nesting::Wrong(Refusal::NotPaired),
     }
 }
 
 // Behind a line.
-fn after_line(buf: &[u8], e: usize, kind: Kind, nesting: Nesting, names: &mut [usize; 8]) -> Nesting
+fn after_line(
+    buf: &[u8],
+    e: usize,
+    kind: LineKind,
+    nesting: Nesting,
+    names: &mut [usize; MOST_LEVELS],
+) -> Nesting
     requires { ⌜ NameOf (now buf) e kind ⌝ }
     requires { ⌜ aroundOf nesting < mostLevels ⌝ }
     requires { ⌜ length (now names) ≡ mostLevels ⌝ }
@@ -108,26 +118,26 @@ fn after_line(buf: &[u8], e: usize, kind: Kind, nesting: Nesting, names: &mut [u
 }
 
 // Lines in order stay so, unless a property stands directly behind an END line.
-fn keeps_order(in_order: bool, behind: bool, kind: Kind) -> bool
+fn keeps_order(in_order: bool, behind: bool, kind: LineKind) -> bool
     ensures { λ r. ⌜ OrderKept in_order behind kind r ⌝ }
 {
     match kind {
-        Kind::Opens(_) => in_order,
-        Kind::Closes(_) => in_order,
-        Kind::Plain => if behind { false } else { in_order },
-        Kind::Broken => in_order,
+        LineKind::Opens(_) => in_order,
+        LineKind::Closes(_) => in_order,
+        LineKind::Plain => if behind { false } else { in_order },
+        LineKind::Broken => in_order,
     }
 }
 
 // The next line stands directly behind an END line.
-fn is_behind(behind: bool, kind: Kind) -> bool
+fn is_behind(behind: bool, kind: LineKind) -> bool
     ensures { λ r. ⌜ EndTold behind kind r ⌝ }
 {
     match kind {
-        Kind::Opens(_) => false,
-        Kind::Closes(_) => true,
-        Kind::Plain => false,
-        Kind::Broken => behind,
+        LineKind::Opens(_) => false,
+        LineKind::Closes(_) => true,
+        LineKind::Plain => false,
+        LineKind::Broken => behind,
     }
 }
 
@@ -147,13 +157,13 @@ fn at_end(nesting: Nesting, in_order: bool) -> Structure
 pub fn test_structure(buf: &[u8]) -> Structure
     ensures { λ r. ⌜ pairing r ≡ verdict (nestAfter fresh (eventsIn (now (buf .entry)))) (ordered (eventsIn (now (buf .entry)))) ⌝ }
 {
-    let mut names = [0usize; 8];
+    let mut names = [0usize; MOST_LEVELS];
     let mut nesting = Nesting::Unbegun;
     let mut in_order = true;
     let mut behind = false;
     let mut i = 0;
     while i < buf.len() {
-        let e = line_end(buf, i);
+        let e = end_at(buf, i);
         let kind = kind_at(buf, i, e);
         nesting = after_line(buf, e, kind, nesting, &mut names);
         in_order = keeps_order(in_order, behind, kind);

@@ -7,9 +7,9 @@ ghost use Rattle.conversion_theory.specs.Growth.{eachProperty};
 ghost use Rattle.jcal.specs.Events.{eventAt, eventsIn, lineFrom, LineAt};
 ghost use Rattle.jcal_properties.specs.Passed.{testSaid};
 ghost use Rattle.jcal.specs.Walk.{eventTested};
-use crate::events::Kind;
+use crate::events::LineKind;
+use crate::events::end_at;
 use crate::events::kind_at;
-use content::line_end;
 use jcal_properties::Tested;
 use jcal_properties::test_property;
 
@@ -19,10 +19,8 @@ fn test_line(buf: &[u8], i: usize, e: usize, rows: &[u8]) -> Tested
     ensures { λ r. ⌜ testSaid r ≡ eventTested (readProperty (tableIn (now (rows .entry)))) (eventAt (lineFrom (now (buf .entry)) i)) ⌝ }
 {
     match kind_at(buf, i, e) {
-        Kind::Opens(_) => Tested::Passed,
-        Kind::Closes(_) => Tested::Passed,
-        Kind::Plain => test_property(&buf[i..e], rows),
-        Kind::Broken => Tested::Passed,
+        LineKind::Plain => test_property(&buf[i..e], rows),
+        _ => Tested::Passed,
     }
 }
 
@@ -32,7 +30,7 @@ pub(crate) fn test_properties(buf: &[u8], rows: &[u8]) -> Tested
 {
     let mut i = 0;
     while i < buf.len() {
-        let e = line_end(buf, i);
+        let e = end_at(buf, i);
         match test_line(buf, i, e, rows) {
             Tested::Passed => {
                 i = e + 1;

@@ -7,8 +7,8 @@ use lib.ListN.{length, drop}
 use Rattle.octets.specs.Pen.{pen}
 use Rattle.types.specs.Laid.{tableIn}
 use Rattle.conversion_theory.specs.Property.{readProperty}
-use Rattle.jcal.specs.Events.{eventsIn, LineAt}
-use Rattle.jcal.proofs.Telling.{told-as, line-is, line-high}
+use Rattle.jcal.specs.Events.{eventsIn}
+use Rattle.jcal.proofs.Telling.{told-as, line-is}
 use Rattle.jcal.proofs.Walking.{Held, held-start, held-item, held-refused, held-sub, held-over, ends-next, held-ends, held-broken, none-next, held-none}
 use Rattle.jcal.proofs.components.place_properties.Statement.{statement}
 use Rattle.jcal.proofs.components.place_properties.Tie as tie
@@ -19,27 +19,8 @@ Inv-loop buf rows from in-order out₀ at to₀ i₀ first₀ t14 out to i first
 abbrev μ-loop : tie.MeasureT-loop
 μ-loop buf rows from in-order out₀ at to₀ i₀ first₀ t14 out to i first = length buf - i
 
-line : (k : tie.After-kind-at Inv-loop μ-loop) → LineAt (k .before .before .before .before .before .before .before .args .buf .now) (k .before .before .before .loop .i) (k .before .line-end .result)
-line k = record { within = k .before .before .loop-test .taken; ends = k .before .line-end .ensures }
-
 loop-holds : tie.Need-loop-holds Inv-loop μ-loop
 loop-holds c = (refl, omega arith, held-start _ _ _ _ (c .before .before .before .pre))
-
-kind-at-requires : tie.Need-kind-at-requires Inv-loop μ-loop
-kind-at-requires c κs = record { within = c .before .loop-test .taken; ends = c .line-end .ensures }
-
-part-place-item-end : tie.Need-part-place-item-end Inv-loop μ-loop
-part-place-item-end c = line-high _ _ _ (line (c .before .before))
-
-add-i : tie.Need-add-i Inv-loop μ-loop
-add-i c =
-    let at-kind-at = c .before .before .before .before .before .before .before .before .before .before in
-    omega (arith, line-high _ _ _ (line at-kind-at))
-
-loop-less : tie.Need-loop-less Inv-loop μ-loop
-loop-less c =
-    let at-kind-at = c .before .before .before .before .before .before .before .before .before .before in
-    omega (arith, line at-kind-at)
 
 loop-again : tie.Need-loop-again Inv-loop μ-loop
 loop-again c =
@@ -49,7 +30,7 @@ loop-again c =
     let at-kind-at = at-enum-told .before .before in
     let at-loop = at-kind-at .before .before .before in
     let at-start = at-loop .before .before .before .before in
-    (omega (arith, at-place-item .place-item .kept .1 .1 .1 .0, at-loop .loop .inv .0), omega (arith, line at-kind-at, at-loop .loop .inv .1), held-item _ _ (at-start .args .from) _ _ _ _ _ _ (at-loop .loop .inv .2) _ (line at-kind-at) (told-as (at-kind-at .kind-at .ensures) (at-enum-told .enum-told .given .1)) _ (rw (line-is _ _ _ (line at-kind-at), at-q .q .given .1) at (at-place-item .place-item .ensures)))
+    (omega (arith, at-place-item .place-item .kept .1 .1 .1 .0, at-loop .loop .inv .0), omega (arith, at-kind-at .before .end-at .ensures .ends, at-loop .loop .inv .1), held-item _ _ (at-start .args .from) _ _ _ _ _ _ (at-loop .loop .inv .2) _ (at-kind-at .before .end-at .ensures) (told-as (at-kind-at .kind-at .ensures) (at-enum-told .enum-told .given .1)) _ (rw (line-is _ _ _ (at-kind-at .before .end-at .ensures), at-q .q .given .1) at (at-place-item .place-item .ensures)))
 
 returns : tie.Need-returns Inv-loop μ-loop
 returns c =
@@ -59,7 +40,7 @@ returns c =
     let at-kind-at = at-enum-told .before .before in
     let at-loop = at-kind-at .before .before .before in
     let at-start = at-loop .before .before .before .before in
-    held-refused _ _ (at-start .args .from) _ _ _ _ _ _ (at-loop .loop .inv .2) _ (line at-kind-at) (told-as (at-kind-at .kind-at .ensures) (at-enum-told .enum-told .given .1)) _ (rw (line-is _ _ _ (line at-kind-at), at-why .why .given .1) at (at-place-item .place-item .ensures))
+    held-refused _ _ (at-start .args .from) _ _ _ _ _ _ (at-loop .loop .inv .2) _ (at-kind-at .before .end-at .ensures) (told-as (at-kind-at .kind-at .ensures) (at-enum-told .enum-told .given .1)) _ (rw (line-is _ _ _ (at-kind-at .before .end-at .ensures), at-why .why .given .1) at (at-place-item .place-item .ensures))
 
 returns-2 : tie.Need-returns-2 Inv-loop μ-loop
 returns-2 c =
@@ -68,17 +49,7 @@ returns-2 c =
     let at-name = at-if1 .before .before in
     let at-kind-at = at-name .before .before in
     let at-loop = at-kind-at .before .before .before in
-    held-sub _ _ _ _ _ _ _ _ _ (at-loop .loop .inv .2) _ (line at-kind-at) _ (told-as (at-kind-at .kind-at .ensures) (at-name .name .given .1)) (at-if1 .if1 .taken) (at-loop .loop .inv .1) _ _ (at-put-all .put-all .ensures)
-
-add-behind-end : tie.Need-add-behind-end Inv-loop μ-loop
-add-behind-end c =
-    let at-kind-at = c .before .before .before .before in
-    omega (arith, line-high _ _ _ (line at-kind-at))
-
-loop-less-2 : tie.Need-loop-less-2 Inv-loop μ-loop
-loop-less-2 c =
-    let at-kind-at = c .before .before .before .before .before in
-    omega (arith, line at-kind-at, c .behind-end .ensures .further)
+    held-sub _ _ _ _ _ _ _ _ _ (at-loop .loop .inv .2) _ (at-kind-at .before .end-at .ensures) _ (told-as (at-kind-at .kind-at .ensures) (at-name .name .given .1)) (at-if1 .if1 .taken) (at-loop .loop .inv .1) _ _ (at-put-all .put-all .ensures)
 
 loop-again-2 : tie.Need-loop-again-2 Inv-loop μ-loop
 loop-again-2 c =
@@ -87,17 +58,14 @@ loop-again-2 c =
     let at-kind-at = at-name .before .before in
     let at-loop = at-kind-at .before .before .before in
     let at-start = at-loop .before .before .before .before in
-    (at-loop .loop .inv .0, omega (arith, line at-kind-at, at-loop .loop .inv .1, c .behind-end .ensures .further), held-over _ _ (at-start .args .from) _ _ _ _ _ _ (at-loop .loop .inv .2) _ (line at-kind-at) _ (told-as (at-kind-at .kind-at .ensures) (at-name .name .given .1)) (at-if1 .if1 .left) _ (c .behind-end .ensures))
-
-add-end-properties : tie.Need-add-end-properties Inv-loop μ-loop
-add-end-properties c = omega (arith, line-high _ _ _ (line (c .before .before)))
+    (at-loop .loop .inv .0, omega (arith, at-kind-at .before .end-at .ensures .ends, at-loop .loop .inv .1, c .behind-end .ensures .further), held-over _ _ (at-start .args .from) _ _ _ _ _ _ (at-loop .loop .inv .2) _ (at-kind-at .before .end-at .ensures) _ (told-as (at-kind-at .kind-at .ensures) (at-name .name .given .1)) (at-if1 .if1 .left) _ (c .behind-end .ensures))
 
 end-properties-requires : tie.Need-end-properties-requires Inv-loop μ-loop
 end-properties-requires c κs =
     let at-enum-told2 = c .before in
     let at-kind-at = at-enum-told2 .before .before in
     let at-loop = at-kind-at .before .before .before in
-    λ o. ends-next _ _ _ _ _ _ _ _ _ (at-loop .loop .inv .2) _ (line at-kind-at) _ (told-as (at-kind-at .kind-at .ensures) (at-enum-told2 .enum-told2 .given .1)) o (at-loop .loop .inv .1)
+    λ o. ends-next _ _ _ _ _ _ _ _ _ (at-loop .loop .inv .2) _ (at-kind-at .before .end-at .ensures) _ (told-as (at-kind-at .kind-at .ensures) (at-enum-told2 .enum-told2 .given .1)) o (at-loop .loop .inv .1)
 
 returns-3 : tie.Need-returns-3 Inv-loop μ-loop
 returns-3 c =
@@ -105,17 +73,14 @@ returns-3 c =
     let at-enum-told2 = at-end-properties .before .before in
     let at-kind-at = at-enum-told2 .before .before in
     let at-loop = at-kind-at .before .before .before in
-    held-ends _ _ _ _ _ _ _ _ _ (at-loop .loop .inv .2) _ (line at-kind-at) _ (told-as (at-kind-at .kind-at .ensures) (at-enum-told2 .enum-told2 .given .1)) _ (at-end-properties .end-properties .result) (at-end-properties .end-properties .ensures .finds) (at-end-properties .end-properties .ensures .wrote)
-
-add-i-2 : tie.Need-add-i-2 Inv-loop μ-loop
-add-i-2 c = omega (arith, line-high _ _ _ (line (c .before .before)))
+    held-ends _ _ _ _ _ _ _ _ _ (at-loop .loop .inv .2) _ (at-kind-at .before .end-at .ensures) _ (told-as (at-kind-at .kind-at .ensures) (at-enum-told2 .enum-told2 .given .1)) _ (at-end-properties .end-properties .result) (at-end-properties .end-properties .ensures .finds) (at-end-properties .end-properties .ensures .wrote)
 
 loop-again-3 : tie.Need-loop-again-3 Inv-loop μ-loop
 loop-again-3 c =
     let at-kind-at = c .before .before in
     let at-loop = at-kind-at .before .before .before in
     let at-start = at-loop .before .before .before .before in
-    (at-loop .loop .inv .0, omega (arith, line at-kind-at, at-loop .loop .inv .1), held-broken _ _ (at-start .args .from) _ _ _ _ _ _ (at-loop .loop .inv .2) _ (line at-kind-at) (told-as (at-kind-at .kind-at .ensures) (c .enum-told3 .given .1)))
+    (at-loop .loop .inv .0, omega (arith, at-kind-at .before .end-at .ensures .ends, at-loop .loop .inv .1), held-broken _ _ (at-start .args .from) _ _ _ _ _ _ (at-loop .loop .inv .2) _ (at-kind-at .before .end-at .ensures) (told-as (at-kind-at .kind-at .ensures) (c .enum-told3 .given .1)))
 
 end-properties-requires-2 : tie.Need-end-properties-requires-2 Inv-loop μ-loop
 end-properties-requires-2 c κs =
@@ -138,15 +103,15 @@ place-properties-spec =
     μ-loop
     loop-holds
     (λ c κs. search needs)
-    kind-at-requires
-    (λ c. search needs)
-    (λ c. omega (arith, line (c .before .before)))
-    (λ c. omega (arith, line (c .before .before)))
-    part-place-item-end
     (λ c κs. search needs)
     (λ c. search needs)
-    add-i
-    loop-less
+    (λ c. omega arith)
+    (λ c. omega arith)
+    (λ c. omega arith)
+    (λ c κs. search needs)
+    (λ c. search needs)
+    (λ c. omega arith)
+    (λ c. omega arith)
     loop-again
     (λ c. search needs)
     (λ c. search needs)
@@ -156,18 +121,18 @@ place-properties-spec =
     (λ c κs. search needs)
     (λ c. search needs)
     returns-2
-    add-behind-end
+    (λ c. omega arith)
     (λ c κs. search needs)
-    loop-less-2
+    (λ c. omega arith)
     loop-again-2
     (λ c. search needs)
-    add-end-properties
+    (λ c. omega arith)
     end-properties-requires
     (λ c. search needs)
     returns-3
     (λ c. search needs)
-    add-i-2
-    (λ c. omega (arith, line (c .before .before)))
+    (λ c. omega arith)
+    (λ c. omega arith)
     loop-again-3
     end-properties-requires-2
     (λ c. search needs)

@@ -3,8 +3,8 @@ use Prim.Native.Nat.{ℕ}
 use mathlib.Core.List.{List}
 use mathlib.Core.Path.{ap, _∙_}
 use Rattle.octets.specs.Answers.{Answer, answer}
-use Rattle.jcal.proofs.Stages.{laid-within, lines-laid, lines-unclean, lines-unformed, lines-roomless}
--- `jcal::conversion::convert_text` meets its contract.
+use Rattle.content.specs.Reading.{linesTold}
+use Rattle.jcal.proofs.Stages.{laid-within, lines-laid, lines-failed}
 use borrow.Author.Needs.{needs}
 use Rattle.jcal.proofs.conversion.convert_text.Statement.{statement}
 use Rattle.jcal.proofs.conversion.convert_text.Tie as tie
@@ -29,7 +29,7 @@ returns-2 c =
     let at-enum-told = at-refuse .before .before in
     let at-read-lines = at-enum-told .before .before .before .before in
     let at-start = at-read-lines .before .before .before .before .before .before in
-    at-refuse .refuse .ensures ∙ ap (λ (a : Answer (List ℕ)). answer a (at-start .args .out .now)) (lines-unclean _ _ _ _ _ (at-start .pre) (at-read-lines .read-lines .ensures) (at-enum-told .enum-told .given .1))
+    at-refuse .refuse .ensures ∙ ap (λ (a : Answer (List ℕ)). answer a (at-start .args .out .now)) (lines-failed _ _ _ _ _ (at-start .pre) (at-read-lines .read-lines .ensures) 3 (unfold linesTold in rw (at-enum-told .enum-told .given .1)))
 
 returns-3 : tie.Need-returns-3
 returns-3 c =
@@ -37,7 +37,7 @@ returns-3 c =
     let at-enum-told2 = at-refuse2 .before .before in
     let at-read-lines = at-enum-told2 .before .before .before .before in
     let at-start = at-read-lines .before .before .before .before .before .before in
-    at-refuse2 .refuse2 .ensures ∙ ap (λ (a : Answer (List ℕ)). answer a (at-start .args .out .now)) (lines-unformed _ _ _ _ _ (at-start .pre) (at-read-lines .read-lines .ensures) (at-enum-told2 .enum-told2 .given .1))
+    at-refuse2 .refuse2 .ensures ∙ ap (λ (a : Answer (List ℕ)). answer a (at-start .args .out .now)) (lines-failed _ _ _ _ _ (at-start .pre) (at-read-lines .read-lines .ensures) 4 (unfold linesTold in rw (at-enum-told2 .enum-told2 .given .1)))
 
 returns-4 : tie.Need-returns-4
 returns-4 c =
@@ -45,7 +45,7 @@ returns-4 c =
     let at-enum-told3 = at-refuse3 .before .before in
     let at-read-lines = at-enum-told3 .before .before .before .before in
     let at-start = at-read-lines .before .before .before .before .before .before in
-    at-refuse3 .refuse3 .ensures ∙ ap (λ (a : Answer (List ℕ)). answer a (at-start .args .out .now)) (lines-roomless _ _ _ _ _ (at-start .pre) (at-read-lines .read-lines .ensures) (at-enum-told3 .enum-told3 .given .1))
+    at-refuse3 .refuse3 .ensures ∙ ap (λ (a : Answer (List ℕ)). answer a (at-start .args .out .now)) (lines-failed _ _ _ _ _ (at-start .pre) (at-read-lines .read-lines .ensures) 10 (unfold linesTold in rw (at-enum-told3 .enum-told3 .given .1)))
 
 pub convert-text-spec : {M : Type 1} → statement M
 convert-text-spec =

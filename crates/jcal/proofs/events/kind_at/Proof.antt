@@ -4,12 +4,9 @@ use borrow.Author.Needs.{needs}
 use Rattle.octets.specs.Basics.{all, filled}
 use Rattle.octets.specs.Classes.{between, isDigit, isUpper, isLower, isLetter, nameOctet, isName}
 use Rattle.jcal.proofs.Heads.{alike-length}
-use Rattle.jcal.proofs.Telling.{line-high, tells-opens, tells-broken, tells-closes, tells-broken-end, tells-plain}
+use Rattle.jcal.proofs.Telling.{tells-opens, tells-broken, tells-closes, tells-broken-end, tells-plain}
 use Rattle.jcal.proofs.events.kind_at.Statement.{statement}
 use Rattle.jcal.proofs.events.kind_at.Tie as tie
-
-part-line-end : tie.Need-part-line-end
-part-line-end c = line-high (c .before .args .buf .now) (c .before .args .i) (c .before .args .e) (c .before .pre)
 
 is-called-requires : tie.Need-is-called-requires
 unfolding isName filled all nameOctet isLetter isUpper isLower isDigit between
@@ -75,7 +72,7 @@ kind-at-spec =
     (tie.spec
     (λ c. search needs)
     (λ c. search needs)
-    part-line-end
+    (λ c. search needs)
     (λ c. search needs)
     is-called-requires
     has-bounds-requires

@@ -40,18 +40,8 @@ returns-2 c =
 
 returns-3 : tie.Need-returns-3
 returns-3 c =
-    let at-start = c .before .before .before in
-    rw (c .enum-told .given .1) (first-else (at-start .args .buf .now) (at-start .args .names .now) (at-start .pre .1) _ tt)
-
-returns-4 : tie.Need-returns-4
-returns-4 c =
-    let at-start = c .before .before .before in
-    rw (c .enum-told2 .given .1) (first-else (at-start .args .buf .now) (at-start .args .names .now) (at-start .pre .1) _ tt)
-
-returns-5 : tie.Need-returns-5
-returns-5 c =
-    let at-start = c .before .before .before in
-    rw (c .enum-told3 .given .1) (first-else (at-start .args .buf .now) (at-start .args .names .now) (at-start .pre .1) _ tt)
+    let at-start = c .before .before in
+    first-else (at-start .args .buf .now) (at-start .args .names .now) (at-start .pre .1) _ (c .match .keys2)
 
 pub after-first-spec : {M : Type 1} → statement M
 after-first-spec =
@@ -65,10 +55,5 @@ after-first-spec =
     (λ c κs. search needs)
     (λ c. search needs)
     returns
-    (λ c. search needs)
-    (λ c. search needs)
-    (λ c. search needs)
     returns-2
-    returns-3
-    returns-4
-    returns-5)
+    returns-3)

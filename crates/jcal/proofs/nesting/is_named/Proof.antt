@@ -2,8 +2,6 @@
 use mathlib.Core.Path.{sym, _∙_}
 use native.Mathlib.Omega.{arith}
 use borrow.Author.Needs.{needs}
-use Rattle.content.proofs.Scanning.{scan-high}
-use Rattle.content.specs.Buffer.{isLf}
 use Rattle.jcal.proofs.Stacks.{named-none, named-part, same-empty}
 use Rattle.jcal.proofs.nesting.is_named.Statement.{statement}
 use Rattle.jcal.proofs.nesting.is_named.Tie as tie
@@ -13,16 +11,11 @@ returns c =
     let at-start = c .before .before .before in
     sym (named-none (at-start .args .buf .now) (at-start .args .at) (at-start .args .name .now) (c .if1 .taken) ∙ same-empty (at-start .args .name .now))
 
-part-same-name-end : tie.Need-part-same-name-end
-part-same-name-end c =
-    let at-start = c .before .before .before .before in
-    scan-high isLf (at-start .args .buf .now) (at-start .args .at) _ (c .line-end .ensures) (omega arith)
-
 returns-2 : tie.Need-returns-2
 returns-2 c =
-    let at-line-end = c .before .before in
-    let at-start = at-line-end .before .before .before .before in
-    c .same-name .ensures ∙ named-part (at-start .args .buf .now) (at-start .args .at) (at-line-end .line-end .result) (at-start .args .name .now) (at-line-end .line-end .ensures)
+    let at-end-at = c .before .before in
+    let at-start = at-end-at .before .before .before .before in
+    c .same-name .ensures ∙ named-part (at-start .args .buf .now) (at-start .args .at) (at-end-at .end-at .result) (at-start .args .name .now) (at-end-at .end-at .ensures .ends)
 
 pub is-named-spec : {M : Type 1} → statement M
 is-named-spec =
@@ -30,8 +23,8 @@ is-named-spec =
     (tie.spec
     returns
     (λ c κs. search needs)
+    (λ c. omega arith)
+    (λ c. omega arith)
     (λ c. search needs)
-    (λ c. search needs)
-    part-same-name-end
     (λ c κs. search needs)
     returns-2)

@@ -7,15 +7,12 @@ use lib.ListN.{length, drop}
 use Rattle.octets.specs.Limits.{mostLevels}
 use Rattle.octets.specs.Basics.{_and_}
 use Rattle.octets.proofs.Limits.{most-levels}
-use Rattle.content.specs.Buffer.{isLf}
-use Rattle.content.proofs.Scanning.{scan-high}
 use Rattle.conversion_theory.specs.Structure.{fresh, nestAfter}
 use Rattle.jcal.specs.Order.{ordered, orderedFrom}
 use Rattle.jcal.specs.Nesting.{nestOf, aroundOf}
-use Rattle.jcal.specs.Events.{eventsIn, LineAt}
+use Rattle.jcal.specs.Events.{eventsIn}
 use Rattle.jcal.proofs.Order.{order-on, order-end}
 use Rattle.jcal.proofs.Stacks.{nests-on, nests-end}
-use Rattle.jcal.proofs.Telling.{name-of}
 use Rattle.jcal.proofs.nesting.test_structure.Statement.{statement}
 use Rattle.jcal.proofs.nesting.test_structure.Tie as tie
 
@@ -29,46 +26,23 @@ loop-holds : tie.Need-loop-holds Inv-loop μ-loop
 unfolding nestOf ordered
 loop-holds c = (refl, rw most-levels (omega arith), sym most-levels, refl)
 
-kind-at-requires : tie.Need-kind-at-requires Inv-loop μ-loop
-kind-at-requires c κs =
-    let at-loop-test = c .before in
-    record { within = at-loop-test .loop-test .taken; ends = c .line-end .ensures }
-
 after-line-requires : tie.Need-after-line-requires Inv-loop μ-loop
 after-line-requires c κs =
     let at-kind-at = c .before in
-    let at-line-end = at-kind-at .before in
-    let at-loop-test = at-line-end .before in
-    let at-loop = at-loop-test .before in
-    let at-start = at-loop .before .before in
-    (name-of (at-start .args .buf .now) (at-loop .loop .i) (at-line-end .line-end .result) (record { within = at-loop-test .loop-test .taken; ends = at-line-end .line-end .ensures }) _ (at-kind-at .kind-at .ensures), (at-loop .loop .inv .1, at-loop .loop .inv .2))
-
-add-i : tie.Need-add-i Inv-loop μ-loop
-add-i c =
-    let at-line-end = c .before .before .before .before .before in
-    let at-loop = at-line-end .before .before in
-    let at-start = at-loop .before .before in
-    omega (arith, scan-high isLf (at-start .args .buf .now) (at-loop .loop .i) _ (at-line-end .line-end .ensures) (omega arith))
-
-loop-less : tie.Need-loop-less Inv-loop μ-loop
-loop-less c =
-    let at-line-end = c .before .before .before .before .before in
-    let at-loop = at-line-end .before .before in
-    let at-start = at-loop .before .before in
-    omega (arith, scan-high isLf (at-start .args .buf .now) (at-loop .loop .i) _ (at-line-end .line-end .ensures) (omega arith))
+    let at-loop = at-kind-at .before .before .before in
+    (at-kind-at .kind-at .ensures .names, (at-loop .loop .inv .1, at-loop .loop .inv .2))
 
 loop-again : tie.Need-loop-again Inv-loop μ-loop
 loop-again c =
     let at-keeps-order = c .before in
     let at-after-line = at-keeps-order .before in
     let at-kind-at = at-after-line .before .before in
-    let at-line-end = at-kind-at .before in
-    let at-loop-test = at-line-end .before in
-    let at-loop = at-loop-test .before in
+    let at-end-at = at-kind-at .before in
+    let at-loop = at-end-at .before .before in
     let at-start = at-loop .before .before in
-    let at : LineAt (at-start .args .buf .now) (at-loop .loop .i) (at-line-end .line-end .result) = record { within = at-loop-test .loop-test .taken; ends = at-line-end .line-end .ensures } in
+    let at = at-end-at .end-at .ensures in
     let n = at-after-line .after-line .ensures 0 in
-    (at-loop .loop .inv .0 ∙ nests-on (at-start .args .buf .now) (at-loop .loop .names) _ (at-loop .loop .i) (at-line-end .line-end .result) (at-loop .loop .nesting) (at-after-line .after-line .result) _ at (at-kind-at .kind-at .ensures) (at-after-line .after-line .ensures), n .few, n .room, at-loop .loop .inv .3 ∙ order-on (at-start .args .buf .now) (at-loop .loop .i) (at-loop .loop .in-order) (at-loop .loop .behind) (at-line-end .line-end .result) (at-kind-at .kind-at .result) (at-keeps-order .keeps-order .result) (c .is-behind .result) at (at-kind-at .kind-at .ensures) (at-keeps-order .keeps-order .ensures) (c .is-behind .ensures))
+    (at-loop .loop .inv .0 ∙ nests-on (at-start .args .buf .now) (at-loop .loop .names) _ (at-loop .loop .i) (at-end-at .end-at .result) (at-loop .loop .nesting) (at-after-line .after-line .result) _ at (at-kind-at .kind-at .ensures) (at-after-line .after-line .ensures), n .few, n .room, at-loop .loop .inv .3 ∙ order-on (at-start .args .buf .now) (at-loop .loop .i) (at-loop .loop .in-order) (at-loop .loop .behind) (at-end-at .end-at .result) (at-kind-at .kind-at .result) (at-keeps-order .keeps-order .result) (c .is-behind .result) at (at-kind-at .kind-at .ensures) (at-keeps-order .keeps-order .ensures) (c .is-behind .ensures))
 
 returns : tie.Need-returns Inv-loop μ-loop
 returns c =
@@ -85,12 +59,12 @@ test-structure-spec =
     μ-loop
     loop-holds
     (λ c κs. search needs)
-    kind-at-requires
+    (λ c κs. search needs)
     after-line-requires
     (λ c κs. search needs)
     (λ c κs. search needs)
-    add-i
-    loop-less
+    (λ c. omega arith)
+    (λ c. omega arith)
     loop-again
     (λ c κs. search needs)
     returns)

@@ -5,8 +5,6 @@ use native.Mathlib.Omega.{arith}
 use borrow.Author.Needs.{needs}
 use lib.ListN.{length, drop}
 use Rattle.types.specs.Laid.{tableIn}
-use Rattle.content.proofs.Scanning.{scan-high}
-use Rattle.content.specs.Buffer.{isLf}
 use Rattle.conversion_theory.specs.Property.{readProperty}
 use Rattle.jcal_properties.specs.Passed.{testSaid}
 use Rattle.jcal.specs.Events.{eventsIn}
@@ -21,42 +19,23 @@ Inv-loop buf rows i₀ i = eachTested (readProperty (tableIn rows)) (eventsIn bu
 abbrev μ-loop : tie.MeasureT-loop
 μ-loop buf rows i₀ i = length buf - i
 
-test-line-requires : tie.Need-test-line-requires Inv-loop μ-loop
-test-line-requires c κs = record { within = c .before .loop-test .taken; ends = c .line-end .ensures }
-
-add-i : tie.Need-add-i Inv-loop μ-loop
-add-i c =
-    let at-line-end = c .before .before .before in
-    let at-loop = at-line-end .before .before in
-    let at-start = at-loop .before .before .before in
-    omega (arith, scan-high isLf (at-start .args .buf .now) (at-loop .loop .i) _ (at-line-end .line-end .ensures) (omega arith))
-
-loop-less : tie.Need-loop-less Inv-loop μ-loop
-loop-less c =
-    let at-line-end = c .before .before .before in
-    let at-loop = at-line-end .before .before in
-    let at-start = at-loop .before .before .before in
-    omega (arith, scan-high isLf (at-start .args .buf .now) (at-loop .loop .i) _ (at-line-end .line-end .ensures) (omega arith))
-
 loop-again : tie.Need-loop-again Inv-loop μ-loop
 loop-again c =
     let at-test-line = c .before .before in
-    let at-line-end = at-test-line .before in
-    let at-loop-test = at-line-end .before in
-    let at-loop = at-loop-test .before in
+    let at-end-at = at-test-line .before in
+    let at-loop = at-end-at .before .before in
     let at-start = at-loop .before .before .before in
-    at-loop .loop .inv ∙ turn-on _ (at-start .args .buf .now) (at-loop .loop .i) (at-line-end .line-end .result) (record { within = at-loop-test .loop-test .taken; ends = at-line-end .line-end .ensures }) (passed-as (at-test-line .test-line .ensures) (c .enum-told .given .1))
+    at-loop .loop .inv ∙ turn-on _ (at-start .args .buf .now) (at-loop .loop .i) (at-end-at .end-at .result) (at-end-at .end-at .ensures) (passed-as (at-test-line .test-line .ensures) (c .enum-told .given .1))
 
 returns : tie.Need-returns Inv-loop μ-loop
 unfolding testSaid
 returns c =
     let at-why = c .before in
     let at-test-line = at-why .before .before in
-    let at-line-end = at-test-line .before in
-    let at-loop-test = at-line-end .before in
-    let at-loop = at-loop-test .before in
+    let at-end-at = at-test-line .before in
+    let at-loop = at-end-at .before .before in
     let at-start = at-loop .before .before .before in
-    turn-off _ (at-start .args .buf .now) (at-loop .loop .i) (at-line-end .line-end .result) (record { within = at-loop-test .loop-test .taken; ends = at-line-end .line-end .ensures }) _ (failed-as (at-test-line .test-line .ensures) (at-why .why .given .1)) ∙ sym (at-loop .loop .inv)
+    turn-off _ (at-start .args .buf .now) (at-loop .loop .i) (at-end-at .end-at .result) (at-end-at .end-at .ensures) _ (failed-as (at-test-line .test-line .ensures) (at-why .why .given .1)) ∙ sym (at-loop .loop .inv)
 
 returns-2 : tie.Need-returns-2 Inv-loop μ-loop
 unfolding testSaid
@@ -73,10 +52,10 @@ test-properties-spec =
     μ-loop
     (λ c. refl)
     (λ c κs. search needs)
-    test-line-requires
+    (λ c κs. search needs)
     (λ c. search needs)
-    add-i
-    loop-less
+    (λ c. omega arith)
+    (λ c. omega arith)
     loop-again
     (λ c. search needs)
     returns
