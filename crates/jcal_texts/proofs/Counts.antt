@@ -17,7 +17,7 @@ use Rattle.json.specs.Tree.{Json, str, arr, itemsOf}
 use Rattle.json.specs.Print.{quoted, printString, print, firstItem, valuesJson}
 use Rattle.values.specs.Read.{twoOrThree, readStatus}
 use Rattle.values.specs.Texts.{texts, fields, textsFrom}
-pub use Rattle.values.proofs.Arrays.{items-json}
+use Rattle.values.proofs.Arrays.{items-json}
 use Rattle.jcal_texts.specs.Trying.{Tried, WroteTexts}
 use Rattle.jcal_texts.specs.declared.Attempt.the-variants.{Wrote as Done, Invalid}
 use Rattle.jcal_texts.specs.declared.Texts.the-variants.{Wrote as Counted, Invalid as NoTexts}

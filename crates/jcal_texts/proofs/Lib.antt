@@ -1,4 +1,4 @@
-pub mod Going
+pub mod Reading
 pub mod TextRuns
 pub mod Strings
 pub mod Blocks

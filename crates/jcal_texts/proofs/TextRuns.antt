@@ -25,7 +25,7 @@ use Rattle.values.specs.Texts.{Act, add, next, escape, stop, act, escapes, done
 use Rattle.jcal_texts.specs.Trying.{WroteTexts, StandsFor, StepsAt}
 use Rattle.jcal_texts.specs.declared.Texts.the-variants.{Wrote as Counted, Invalid as NoTexts}
 use Rattle.jcal_texts.specs.declared.Step.the-variants.{Octet, Separator, Invalid as Wrong}
-use Rattle.jcal_texts.proofs.Going.{Going, going-start, going-on}
+use Rattle.jcal_texts.proofs.Reading.{Going, going-start, going-on}
 
 -- an octet of a run is none that is written otherwise
 module _ (c : ℕ) (h : runOctet c ≡ true) where

@@ -1,9 +1,9 @@
 pub mod Quoting
-pub mod Lists
+pub mod PiecesShown
 pub mod OnesShown
 pub mod RecurShown
-pub mod Writing
+pub mod RecurParts
 pub mod FormStrings
-pub mod Sorted
-pub mod Listing
-pub mod Trying
+pub mod BySort
+pub mod ValueLists
+pub mod TestedValues

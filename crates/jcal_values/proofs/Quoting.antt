@@ -15,7 +15,6 @@ use Rattle.calendar.specs.declared.texts.Text.{Text}
 use Rattle.json.specs.Print.{escaped, quoted, printString}
 use Rattle.json.specs.Promise.{asIsOctet}
 use Rattle.values.specs.Shown.{stringShown}
-pub use Rattle.jcal_texts.proofs.Counts.{items-json}
 
 escaped-bare : (b : ℕ) → asIsOctet b ≡ true → escaped b ≡ b ∷ []
 unfolding escaped asIsOctet

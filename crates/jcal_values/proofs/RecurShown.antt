@@ -33,7 +33,7 @@ use Rattle.content.specs.Parameters.{plainOr}
 use Rattle.values.specs.Recur.{itemJson, partMembers, recurOf}
 use Rattle.values.specs.Shown.{stringShown, itemJsonShown, listShown, itemsShown, keyShown, partJsonShown, recurShown}
 use Rattle.jcal_values.proofs.Quoting.{quoted-bare, bare-class, end-moment}
-use Rattle.jcal_values.proofs.Lists.{listed-json, array-json}
+use Rattle.jcal_values.proofs.PiecesShown.{listed-json, array-json}
 
 -- a value of a part
 item-bare : (c : ℕ) → itemOctet c ≡ true → asIsOctet c ≡ true

@@ -19,20 +19,10 @@ abbrev μ-loop : tie.MeasureT-loop
 loop-again : tie.Need-loop-again Inv-loop μ-loop
 loop-again c = (omega arith, rw (c .both .ensures, c .before .is-run-octet .ensures) (all-more runOctet (c .before .before .before .before .before .before .args .s .now) (c .before .before .before .before .loop .i) (c .before .before .before .before .loop .so-far) (c .before .before .before .loop-test .taken) ∙ c .before .before .before .before .loop .inv .1))
 
-returns : tie.Need-returns Inv-loop μ-loop
-returns c = sym (all-done _ _ _ _ (c .loop-test .left)) ∙ c .before .loop .inv .1
-
 pub all-run-spec : {M : Type 1} → statement M
 all-run-spec =
     tie.close
     (tie.spec
-    Inv-loop
-    μ-loop
-    (λ c. (omega arith, refl))
-    (λ c. search needs)
-    (λ c κs. search needs)
-    (λ c κs. search needs)
-    (λ c. search needs)
-    (λ c. search needs)
-    loop-again
-    returns)
+    Inv-loop μ-loop (λ c. (omega arith, refl)) (λ c. search needs) (λ c κs. search needs) (λ c κs. search needs)
+    (λ c. search needs) (λ c. search needs) loop-again
+    (λ c. sym (all-done _ _ _ _ (c .loop-test .left)) ∙ c .before .loop .inv .1))

@@ -12,8 +12,5 @@ pub escape-of-spec : {M : Type 1} → statement M
 escape-of-spec =
     tie.close
     (tie.spec
-    (λ c. unfold escaped in rw (c .match .keys1))
-    (λ c. unfold escaped in rw (c .match .keys2))
-    (λ c. unfold escaped in rw (c .match .keys3))
-    (λ c. unfold escaped in rw (c .match .keys4))
-    returns-5)
+    (λ c. unfold escaped in rw (c .match .keys1)) (λ c. unfold escaped in rw (c .match .keys2))
+    (λ c. unfold escaped in rw (c .match .keys3)) (λ c. unfold escaped in rw (c .match .keys4)) returns-5)

@@ -16,26 +16,13 @@ Inv-loop s at i₀ i = Passed runOctet s at i
 abbrev μ-loop : tie.MeasureT-loop
 μ-loop s at i₀ i = length s - i
 
-returns : tie.Need-returns Inv-loop μ-loop
-returns c = run-over (c .before .before .before .before .loop .inv) (sym (c .before .is-run-octet .ensures) ∙ not-true _ (c .if1 .taken))
-
 loop-again : tie.Need-loop-again Inv-loop μ-loop
 loop-again c = passed-more (c .before .before .before .before .loop .inv) (c .before .before .before .loop-test .taken) (sym (c .before .is-run-octet .ensures) ∙ not-false _ (c .if1 .left))
-
-returns-2 : tie.Need-returns-2 Inv-loop μ-loop
-returns-2 c = run-end (c .before .loop .inv) (c .loop-test .left)
 
 pub past-octets-spec : {M : Type 1} → statement M
 past-octets-spec =
     tie.close
     (tie.spec
-    Inv-loop
-    μ-loop
-    (λ c. passed-none (c .before .pre))
-    (λ c. search needs)
-    (λ c κs. search needs)
-    returns
-    (λ c. search needs)
-    (λ c. search needs)
-    loop-again
-    returns-2)
+    Inv-loop μ-loop (λ c. passed-none (c .before .pre)) (λ c. search needs) (λ c κs. search needs)
+    (λ c. run-over (c .before .before .before .before .loop .inv) (sym (c .before .is-run-octet .ensures) ∙ not-true _ (c .if1 .taken)))
+    (λ c. search needs) (λ c. search needs) loop-again (λ c. run-end (c .before .loop .inv) (c .loop-test .left)))

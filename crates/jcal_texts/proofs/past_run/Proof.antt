@@ -18,36 +18,15 @@ Inv-loop s at n i₀ i = Passed runOctet s at i
 abbrev μ-loop : tie.MeasureT-loop
 μ-loop s at n i₀ i = length s - i
 
-returns : tie.Need-returns Inv-loop μ-loop
-returns c = run-on (c .before .before .before .loop .inv) (c .past-octets .ensures)
-
-returns-2 : tie.Need-returns-2 Inv-loop μ-loop
-returns-2 c = run-on (c .before .before .before .before .before .before .loop .inv) (c .past-octets2 .ensures)
-
 loop-again : tie.Need-loop-again Inv-loop μ-loop
 loop-again c = passed-part (c .before .before .before .before .before .loop .inv) (omega arith) (omega arith) (sym (c .before .all-run .ensures) ∙ not-false _ (c .if2 .left))
-
-returns-3 : tie.Need-returns-3 Inv-loop μ-loop
-returns-3 c = run-end (c .before .loop .inv) (c .loop-test .left)
 
 pub past-run-spec : {M : Type 1} → statement M
 past-run-spec =
     tie.close
     (tie.spec
-    Inv-loop
-    μ-loop
-    (λ c. passed-none (c .before .pre))
-    (λ c. search needs)
-    (λ c κs. search needs)
-    returns
-    (λ c. search needs)
-    (λ c. search needs)
-    (λ c. search needs)
-    (λ c. search needs)
-    (λ c κs. search needs)
-    (λ c κs. search needs)
-    returns-2
-    (λ c. search needs)
-    (λ c. search needs)
-    loop-again
-    returns-3)
+    Inv-loop μ-loop (λ c. passed-none (c .before .pre)) (λ c. search needs) (λ c κs. search needs)
+    (λ c. run-on (c .before .before .before .loop .inv) (c .past-octets .ensures)) (λ c. search needs)
+    (λ c. search needs) (λ c. search needs) (λ c. search needs) (λ c κs. search needs) (λ c κs. search needs)
+    (λ c. run-on (c .before .before .before .before .before .before .loop .inv) (c .past-octets2 .ensures))
+    (λ c. search needs) (λ c. search needs) loop-again (λ c. run-end (c .before .loop .inv) (c .loop-test .left)))

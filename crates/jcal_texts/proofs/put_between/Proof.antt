@@ -30,9 +30,6 @@ inside c = omega (arith, c .before .before .before .before .before .before .past
 octet : (c : tie.After-known-told Inv-loop μ-loop) → StepsAt (c .before .before .before .before .before .before .before .before .before .before .before .before .before .before .args .sep) (c .before .before .before .before .before .before .before .before .before .before .before .before .before .before .args .other) (c .before .before .before .before .before .before .before .before .before .before .before .before .before .before .args .s .now) (c .before .before .before .before .before .before .before .before .before .before .past-run .result) (Octet (c .before .c .given .0 .0) (c .before .c .given .0 .1 .0))
 octet c = rw (c .before .c .given .1) at (c .before .before .before .step-at .ensures)
 
-loop-holds : tie.Need-loop-holds Inv-loop μ-loop
-loop-holds c = (omega arith, omega arith, refl, refl, walked-start _ _ _)
-
 returns : tie.Need-returns Inv-loop μ-loop
 returns c = walked-end _ _ _ (passed (c .before .before .before .before .before)) _ _ (omega (arith, c .before .before .before .before .if1 .taken)) (c .before .before .put .ensures)
 
@@ -50,36 +47,13 @@ loop-less-2 c = omega (arith, inside (c .before .before .before .before .before 
 loop-again-2 : tie.Need-loop-again-2 Inv-loop μ-loop
 loop-again-2 c = (omega (arith, inside (c .before .before .before .before .before .before .before .before)), omega (arith, c .before .before .before .before .before .before .before .before .before .before .before .before .before .before .past-run .ensures .above), omega arith, c .before .before .before .before .before .before .before .before .before .before .before .before .before .before .before .loop .inv .3, walked-next _ _ _ (passed (c .before .before .before .before .before .before .before .before .before)) (rw (c .before .before .before .before .before .enum-told .given .1) at (c .before .before .before .before .before .before .before .step-at .ensures)) (c .before .before .put-all2 .ensures))
 
-returns-2 : tie.Need-returns-2 Inv-loop μ-loop
-returns-2 c = walked-wrong _ _ _ (passed (c .before .before .before .before)) (rw (c .enum-told2 .given .1) at (c .before .before .step-at .ensures))
-
 pub put-between-spec : {M : Type 1} → statement M
 put-between-spec =
     tie.close
     (tie.spec
-    Inv-loop
-    μ-loop
-    loop-holds
-    (λ c κs. search needs)
-    (λ c. search needs)
-    (λ c. search needs)
-    (λ c. search needs)
-    (λ c κs. search needs)
-    (λ c κs. search needs)
-    (λ c. search needs)
-    returns
-    (λ c κs. inside c)
-    (λ c. search needs)
-    (λ c κs. search needs)
-    loop-less
-    loop-again
-    (λ c. search needs)
-    (λ c. search needs)
-    (λ c κs. search needs)
-    (λ c. search needs)
-    (λ c. search needs)
-    loop-less-2
-    loop-again-2
-    (λ c. search needs)
-    (λ c. search needs)
-    returns-2)
+    Inv-loop μ-loop (λ c. (omega arith, omega arith, refl, refl, walked-start _ _ _)) (λ c κs. search needs)
+    (λ c. search needs) (λ c. search needs) (λ c. search needs) (λ c κs. search needs) (λ c κs. search needs)
+    (λ c. search needs) returns (λ c κs. inside c) (λ c. search needs) (λ c κs. search needs) loop-less loop-again
+    (λ c. search needs) (λ c. search needs) (λ c κs. search needs) (λ c. search needs) (λ c. search needs) loop-less-2
+    loop-again-2 (λ c. search needs) (λ c. search needs)
+    (λ c. walked-wrong _ _ _ (passed (c .before .before .before .before)) (rw (c .enum-told2 .given .1) at (c .before .before .step-at .ensures))))

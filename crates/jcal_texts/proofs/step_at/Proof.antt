@@ -12,12 +12,6 @@ returns c = step-wrong _ _ _ _ (c .before .before .before .before .before .befor
 returns-2 : tie.Need-returns-2
 returns-2 c = step-escape _ _ _ _ (c .before .before .before .before .before .before .pre) _ (c .before .before .before .if1 .taken) (rw (c .before .before .peek .ensures) at (c .before .unescaped .ensures)) (c .if2 .left)
 
-returns-3 : tie.Need-returns-3
-returns-3 c = step-separator _ _ _ _ (c .before .before .before .before .pre) (c .before .if1 .left) (c .if3 .taken)
-
-returns-4 : tie.Need-returns-4
-returns-4 c = step-other _ _ _ _ (c .before .before .before .before .before .pre) (c .before .before .if1 .left) (c .before .if3 .left) (c .if4 .taken)
-
 returns-5 : tie.Need-returns-5
 returns-5 c = step-control _ _ _ _ (c .before .before .before .before .before .before .before .pre) (c .before .before .before .before .if1 .left) (c .before .before .before .if3 .left) (c .before .before .if4 .left) (sym (c .before .is-plain-octet .ensures) ∙ not-true _ (c .if5 .taken))
 
@@ -28,16 +22,8 @@ pub step-at-spec : {M : Type 1} → statement M
 step-at-spec =
     tie.close
     (tie.spec
-    (λ c. search needs)
-    (λ c. search needs)
-    (λ c κs. search needs)
-    (λ c κs. search needs)
-    returns
-    (λ c. search needs)
+    (λ c. search needs) (λ c. search needs) (λ c κs. search needs) (λ c κs. search needs) returns (λ c. search needs)
     returns-2
-    returns-3
-    returns-4
-    (λ c κs. search needs)
-    returns-5
-    (λ c. search needs)
-    returns-6)
+    (λ c. step-separator _ _ _ _ (c .before .before .before .before .pre) (c .before .if1 .left) (c .if3 .taken))
+    (λ c. step-other _ _ _ _ (c .before .before .before .before .before .pre) (c .before .before .if1 .left) (c .before .if3 .left) (c .if4 .taken))
+    (λ c κs. search needs) returns-5 (λ c. search needs) returns-6)

@@ -12,29 +12,25 @@ returns : tie.Need-returns
 unfolding escaped
 returns c =
     let at-put-all = c .before .before in
-    let at-match = at-put-all .before .before .before in
-    as-text (at-put-all .put-all .ensures) (rw (at-match .match .keys1))
+    as-text (at-put-all .put-all .ensures) (rw (at-put-all .before .before .before .match .keys1))
 
 returns-2 : tie.Need-returns-2
 unfolding escaped
 returns-2 c =
     let at-put-all2 = c .before .before in
-    let at-match = at-put-all2 .before .before .before in
-    as-text (at-put-all2 .put-all2 .ensures) (rw (at-match .match .keys2))
+    as-text (at-put-all2 .put-all2 .ensures) (rw (at-put-all2 .before .before .before .match .keys2))
 
 returns-3 : tie.Need-returns-3
 unfolding escaped
 returns-3 c =
     let at-put-all3 = c .before .before in
-    let at-match = at-put-all3 .before .before .before in
-    as-text (at-put-all3 .put-all3 .ensures) (rw (at-match .match .keys3))
+    as-text (at-put-all3 .put-all3 .ensures) (rw (at-put-all3 .before .before .before .match .keys3))
 
 returns-4 : tie.Need-returns-4
 unfolding escaped
 returns-4 c =
     let at-put-all4 = c .before .before in
-    let at-match = at-put-all4 .before .before .before in
-    as-text (at-put-all4 .put-all4 .ensures) (rw (at-match .match .keys4))
+    as-text (at-put-all4 .put-all4 .ensures) (rw (at-put-all4 .before .before .before .match .keys4))
 
 returns-5 : tie.Need-returns-5
 unfolding escaped
@@ -49,22 +45,7 @@ pub put-escaped-spec : {M : Type 1} → statement M
 put-escaped-spec =
     tie.close
     (tie.spec
-    (λ c. search needs)
-    (λ c κs. search needs)
-    (λ c. search needs)
-    (λ c κs. search needs)
-    (λ c. search needs)
-    (λ c κs. search needs)
-    (λ c. search needs)
-    (λ c κs. search needs)
-    (λ c κs. search needs)
-    (λ c. search needs)
-    returns
-    (λ c. search needs)
-    returns-2
-    (λ c. search needs)
-    returns-3
-    (λ c. search needs)
-    returns-4
-    (λ c. search needs)
+    (λ c. search needs) (λ c κs. search needs) (λ c. search needs) (λ c κs. search needs) (λ c. search needs)
+    (λ c κs. search needs) (λ c. search needs) (λ c κs. search needs) (λ c κs. search needs) (λ c. search needs) returns
+    (λ c. search needs) returns-2 (λ c. search needs) returns-3 (λ c. search needs) returns-4 (λ c. search needs)
     returns-5)

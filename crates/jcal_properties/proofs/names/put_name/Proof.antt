@@ -2,7 +2,7 @@
 use mathlib.Core.Path.{sym, _∙_}
 use borrow.Author.Needs.{needs}
 use Rattle.octets.proofs.Pen.{then, as-text}
-use Rattle.jcal_properties.proofs.Typing.{name-string}
+use Rattle.jcal_properties.proofs.PropertyParts.{name-string}
 use Rattle.jcal_properties.proofs.names.put_name.Statement.{statement}
 use Rattle.jcal_properties.proofs.names.put_name.Tie as tie
 
@@ -12,24 +12,11 @@ returns c =
     let at-put-lower = at-put2 .before .before .before .before in
     let at-put = at-put-lower .before .before .before .before in
     let at-if1 = at-put .before .before in
-    let at-is-name = at-if1 .before in
-    as-text (then (then (at-put .put .ensures) (at-put-lower .put-lower .ensures)) (at-put2 .put2 .ensures)) (name-string _ (sym (at-is-name .is-name .ensures) ∙ at-if1 .if1 .taken))
-
-returns-2 : tie.Need-returns-2
-returns-2 c =
-    let at-put-quoted = c .before .before in
-    at-put-quoted .put-quoted .ensures
+    as-text (then (then (at-put .put .ensures) (at-put-lower .put-lower .ensures)) (at-put2 .put2 .ensures)) (name-string _ (sym (at-if1 .before .is-name .ensures) ∙ at-if1 .if1 .taken))
 
 pub put-name-spec : {M : Type 1} → statement M
 put-name-spec =
     tie.close
     (tie.spec
-    (λ c κs. search needs)
-    (λ c κs. search needs)
-    (λ c κs. search needs)
-    (λ c κs. search needs)
-    (λ c. search needs)
-    returns
-    (λ c κs. search needs)
-    (λ c. search needs)
-    returns-2)
+    (λ c κs. search needs) (λ c κs. search needs) (λ c κs. search needs) (λ c κs. search needs) (λ c. search needs)
+    returns (λ c κs. search needs) (λ c. search needs) (λ c. c .before .before .put-quoted .ensures))

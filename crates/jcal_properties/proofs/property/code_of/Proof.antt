@@ -5,7 +5,7 @@ use lib.ListN.{length}
 use Rattle.content.specs.Kinds.{valueTypeSaid}
 use Rattle.conversion_theory.specs.Property.{codeOf}
 use Rattle.jcal_properties.specs.Shown.{namedType}
-use Rattle.jcal_properties.proofs.Typing.{bounded-as}
+use Rattle.jcal_properties.proofs.PropertyParts.{bounded-as}
 use Rattle.jcal_properties.proofs.property.code_of.Statement.{statement}
 use Rattle.jcal_properties.proofs.property.code_of.Tie as tie
 
@@ -27,33 +27,12 @@ part-code-named-end c =
     let at-start = at-kind .before .before .before in
     bounded-as (length (at-start .args .params .now)) _ (at-start .pre) (at-kind .kind .given .1) .1
 
-returns : tie.Need-returns
-unfolding valueTypeSaid namedType
-returns c = c .default-code .ensures ∙ rw (c .before .enum-told .given .1)
-
-returns-2 : tie.Need-returns-2
-unfolding valueTypeSaid namedType codeOf
-returns-2 c =
-    let at-kind = c .before .before .before in
-    c .code-named .ensures ∙ rw (at-kind .kind .given .1)
-
-returns-3 : tie.Need-returns-3
-unfolding valueTypeSaid namedType
-returns-3 c = c .default-code2 .ensures ∙ rw (c .before .enum-told2 .given .1)
-
 pub code-of-spec : {M : Type 1} → statement M
 code-of-spec =
     tie.close
     (tie.spec
-    (λ c. search needs)
-    (λ c κs. search needs)
-    (λ c. search needs)
-    sub-code-named
-    part-code-named-start
-    part-code-named-end
-    (λ c κs. search needs)
-    (λ c. search needs)
-    (λ c κs. search needs)
-    returns
-    returns-2
-    returns-3)
+    (λ c. search needs) (λ c κs. search needs) (λ c. search needs) sub-code-named part-code-named-start
+    part-code-named-end (λ c κs. search needs) (λ c. search needs) (λ c κs. search needs)
+    (λ c. unfold valueTypeSaid namedType in c .default-code .ensures ∙ rw (c .before .enum-told .given .1))
+    (λ c. unfold valueTypeSaid namedType codeOf in c .code-named .ensures ∙ rw (c .before .before .before .kind .given .1))
+    (λ c. unfold valueTypeSaid namedType in c .default-code2 .ensures ∙ rw (c .before .enum-told2 .given .1)))

@@ -9,6 +9,5 @@ pub default-code-spec : {M : Type 1} → statement M
 default-code-spec =
     tie.close
     (tie.spec
-    (λ c. search needs) (λ c. search needs)
-    (λ c. unfold codeOf rowFound in rw (c .before .found .given .1))
+    (λ c. search needs) (λ c. search needs) (λ c. unfold codeOf rowFound in rw (c .before .found .given .1))
     (λ c. unfold codeOf rowFound in rw (c .enum-told .given .1)))

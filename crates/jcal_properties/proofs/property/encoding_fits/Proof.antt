@@ -4,13 +4,9 @@ use Rattle.conversion_theory.specs.Property.{encodingFits}
 use Rattle.jcal_properties.proofs.property.encoding_fits.Statement.{statement}
 use Rattle.jcal_properties.proofs.property.encoding_fits.Tie as tie
 
-returns-3 : tie.Need-returns-3
-unfolding encodingFits
-returns-3 c = rw (ne-eqb _ 0 (c .match .rest .0 .1), ne-eqb _ 1 (c .match .rest .1))
-
 pub encoding-fits-spec : {M : Type 1} → statement M
 encoding-fits-spec =
     tie.close
     (tie.spec
     (λ c. unfold encodingFits in rw (c .match .keys1))
-    (λ c. unfold encodingFits in rw (c .match .keys2)) returns-3)
+    (λ c. unfold encodingFits in rw (c .match .keys2)) (λ c. unfold encodingFits in rw (ne-eqb _ 0 (c .match .rest .0 .1), ne-eqb _ 1 (c .match .rest .1))))

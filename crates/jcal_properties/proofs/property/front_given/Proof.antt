@@ -2,7 +2,7 @@
 use borrow.Author.Needs.{needs}
 use Rattle.octets.proofs.Pen.{front-same}
 use Rattle.content.specs.Parts.{paramsIn}
-use Rattle.jcal_properties.proofs.Typing.{given-refused, given-read, eight-refused, front-stands}
+use Rattle.jcal_properties.proofs.PropertyParts.{given-refused, given-read, eight-refused, front-stands}
 use Rattle.jcal_properties.proofs.property.front_given.Statement.{statement}
 use Rattle.jcal_properties.proofs.property.front_given.Tie as tie
 
@@ -42,14 +42,5 @@ pub front-given-spec : {M : Type 1} → statement M
 front-given-spec =
     tie.close
     (tie.spec
-    (λ c κs. search needs)
-    (λ c κs. search needs)
-    returns
-    (λ c κs. search needs)
-    (λ c κs. search needs)
-    (λ c κs. search needs)
-    returns-2
-    (λ c κs. search needs)
-    (λ c κs. search needs)
-    (λ c. search needs)
-    returns-3)
+    (λ c κs. search needs) (λ c κs. search needs) returns (λ c κs. search needs) (λ c κs. search needs)
+    (λ c κs. search needs) returns-2 (λ c κs. search needs) (λ c κs. search needs) (λ c. search needs) returns-3)

@@ -7,7 +7,7 @@ use borrow.Author.Needs.{needs}
 use Rattle.octets.specs.Basics.{any}
 use Rattle.octets.proofs.Pen.{then, as-text, front-same}
 use Rattle.content.specs.Parameters.{isEncoded}
-use Rattle.jcal_properties.proofs.Typing.{plain-read, plain-front, eight-refused, front-stands}
+use Rattle.jcal_properties.proofs.PropertyParts.{plain-read, plain-front, eight-refused, front-stands}
 use Rattle.jcal_properties.proofs.property.front_plain.Statement.{statement}
 use Rattle.jcal_properties.proofs.property.front_plain.Tie as tie
 
@@ -36,13 +36,5 @@ pub front-plain-spec : {M : Type 1} → statement M
 front-plain-spec =
     tie.close
     (tie.spec
-    (λ c κs. search needs)
-    (λ c κs. search needs)
-    returns
-    (λ c κs. search needs)
-    (λ c κs. search needs)
-    (λ c. search needs)
-    (λ c κs. search needs)
-    (λ c κs. search needs)
-    (λ c. search needs)
-    returns-2)
+    (λ c κs. search needs) (λ c κs. search needs) returns (λ c κs. search needs) (λ c κs. search needs)
+    (λ c. search needs) (λ c κs. search needs) (λ c κs. search needs) (λ c. search needs) returns-2)

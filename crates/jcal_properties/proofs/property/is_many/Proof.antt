@@ -9,6 +9,5 @@ pub is-many-spec : {M : Type 1} → statement M
 is-many-spec =
     tie.close
     (tie.spec
-    (λ c. search needs) (λ c. search needs)
-    (λ c. unfold manyOf rowFound in rw (c .before .found .given .1))
+    (λ c. search needs) (λ c. search needs) (λ c. unfold manyOf rowFound in rw (c .before .found .given .1))
     (λ c. unfold manyOf rowFound in rw (c .enum-told .given .1)))

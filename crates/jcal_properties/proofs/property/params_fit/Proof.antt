@@ -1,40 +1,28 @@
 -- `jcal_properties::property::params_fit` meets its contract.
 use mathlib.Core.Path.{sym, _∙_}
-use Rattle.jcal_properties.proofs.Typing.{params-twice, params-absent, params-named, params-faulty}
+use Rattle.jcal_properties.proofs.PropertyParts.{params-twice, params-absent, params-named, params-faulty}
 use borrow.Author.Needs.{needs}
 use Rattle.jcal_properties.proofs.property.params_fit.Statement.{statement}
 use Rattle.jcal_properties.proofs.property.params_fit.Tie as tie
 
-returns : tie.Need-returns
-returns c = params-twice _ _ (sym (c .before .name-twice .ensures) ∙ c .if1 .taken)
-
 returns-2 : tie.Need-returns-2
 returns-2 c =
     let at-if1 = c .before .before in
-    let at-name-twice = at-if1 .before in
-    params-absent _ _ _ (sym (at-name-twice .name-twice .ensures) ∙ at-if1 .if1 .left) (c .enum-told .given .1)
+    params-absent _ _ _ (sym (at-if1 .before .name-twice .ensures) ∙ at-if1 .if1 .left) (c .enum-told .given .1)
 
 returns-3 : tie.Need-returns-3
 returns-3 c =
     let at-if1 = c .before .before in
-    let at-name-twice = at-if1 .before in
-    params-named _ _ _ (sym (at-name-twice .name-twice .ensures) ∙ at-if1 .if1 .left) _ _ (c .enum-told2 .given .1)
+    params-named _ _ _ (sym (at-if1 .before .name-twice .ensures) ∙ at-if1 .if1 .left) _ _ (c .enum-told2 .given .1)
 
 returns-4 : tie.Need-returns-4
 returns-4 c =
     let at-if1 = c .before .before in
-    let at-name-twice = at-if1 .before in
-    params-faulty _ _ _ (sym (at-name-twice .name-twice .ensures) ∙ at-if1 .if1 .left) (c .enum-told3 .given .1)
+    params-faulty _ _ _ (sym (at-if1 .before .name-twice .ensures) ∙ at-if1 .if1 .left) (c .enum-told3 .given .1)
 
 pub params-fit-spec : {M : Type 1} → statement M
 params-fit-spec =
     tie.close
     (tie.spec
-    (λ c κs. search needs)
-    returns
-    (λ c. search needs)
-    (λ c. search needs)
-    (λ c. search needs)
-    returns-2
-    returns-3
-    returns-4)
+    (λ c κs. search needs) (λ c. params-twice _ _ (sym (c .before .name-twice .ensures) ∙ c .if1 .taken))
+    (λ c. search needs) (λ c. search needs) (λ c. search needs) returns-2 returns-3 returns-4)

@@ -1,7 +1,7 @@
 -- `jcal_properties::property::place_property` meets its contract.
 use borrow.Author.Needs.{needs}
 use Rattle.types.specs.Laid.{tableIn}
-use Rattle.jcal_properties.proofs.Typing.{parts-line, nine-placed}
+use Rattle.jcal_properties.proofs.PropertyParts.{parts-line, nine-placed}
 use Rattle.jcal_properties.proofs.property.place_property.Statement.{statement}
 use Rattle.jcal_properties.proofs.property.place_property.Tie as tie
 
@@ -29,28 +29,8 @@ pub place-property-spec : {M : Type 1} → statement M
 place-property-spec =
     tie.close
     (tie.spec
-    (λ c κs. search needs)
-    (λ c. search needs)
-    (λ c. search needs)
-    (λ c. search needs)
-    (λ c κs. search needs)
-    (λ c. search needs)
-    (λ c. search needs)
-    (λ c. search needs)
-    (λ c. search needs)
-    (λ c. search needs)
-    (λ c. search needs)
-    (λ c κs. search needs)
-    (λ c. search needs)
-    (λ c. search needs)
-    (λ c. search needs)
-    (λ c. search needs)
-    (λ c. search needs)
-    (λ c. search needs)
-    (λ c. search needs)
-    (λ c κs. search needs)
-    (λ c. search needs)
-    (λ c. search needs)
-    returns
-    (λ c. search needs)
-    returns-2)
+    (λ c κs. search needs) (λ c. search needs) (λ c. search needs) (λ c. search needs) (λ c κs. search needs)
+    (λ c. search needs) (λ c. search needs) (λ c. search needs) (λ c. search needs) (λ c. search needs)
+    (λ c. search needs) (λ c κs. search needs) (λ c. search needs) (λ c. search needs) (λ c. search needs)
+    (λ c. search needs) (λ c. search needs) (λ c. search needs) (λ c. search needs) (λ c κs. search needs)
+    (λ c. search needs) (λ c. search needs) returns (λ c. search needs) returns-2)

@@ -5,14 +5,9 @@ use Rattle.jcal_values.proofs.Quoting.{short-shown}
 use Rattle.jcal_values.proofs.forms.put_form.Statement.{statement}
 use Rattle.jcal_values.proofs.forms.put_form.Tie as tie
 
-returns : tie.Need-returns
-returns c = as-text (c .before .before .put-short .ensures) (short-shown _ _ (c .before .before .before .extended .ensures))
-
 pub put-form-spec : {M : Type 1} → statement M
 put-form-spec =
     tie.close
     (tie.spec
-    (λ c κs. search needs)
-    (λ c κs. search needs)
-    (λ c. search needs)
-    returns)
+    (λ c κs. search needs) (λ c κs. search needs) (λ c. search needs)
+    (λ c. as-text (c .before .before .put-short .ensures) (short-shown _ _ (c .before .before .before .extended .ensures))))

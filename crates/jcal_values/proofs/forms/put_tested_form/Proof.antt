@@ -11,9 +11,6 @@ use Rattle.jcal_values.proofs.FormStrings.{form-none, form-written}
 use Rattle.jcal_values.proofs.forms.put_tested_form.Statement.{statement}
 use Rattle.jcal_values.proofs.forms.put_tested_form.Tie as tie
 
-returns : tie.Need-returns
-returns c = (form-none (c .before .before .before .before .before .args .form) _ _ (c .before .before .extended .ensures) (c .if1 .taken), front-same)
-
 returns-2 : tie.Need-returns-2
 returns-2 c =
     let t = c .before .before .before .before .before .before .before .before .before .before .before .before .before .before .before .before .extended .result in
@@ -25,12 +22,6 @@ put-tested-form-spec =
     tie.close
     (tie.spec
     (λ c κs. search needs)
-    returns
-    (λ c κs. search needs)
-    (λ c. search needs)
-    (λ c. search needs)
-    (λ c. search needs)
-    (λ c κs. search needs)
-    (λ c κs. search needs)
-    (λ c. search needs)
-    returns-2)
+    (λ c. (form-none (c .before .before .before .before .before .args .form) _ _ (c .before .before .extended .ensures) (c .if1 .taken), front-same))
+    (λ c κs. search needs) (λ c. search needs) (λ c. search needs) (λ c. search needs) (λ c κs. search needs)
+    (λ c κs. search needs) (λ c. search needs) returns-2)

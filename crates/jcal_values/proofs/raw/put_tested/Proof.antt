@@ -2,7 +2,7 @@
 use borrow.Author.Needs.{needs}
 use mathlib.Core.Path.{sym, _∙_}
 use Rattle.values.specs.Coded.{sortSaid}
-use Rattle.jcal_values.proofs.Sorted.{sorted}
+use Rattle.jcal_values.proofs.BySort.{sorted}
 use Rattle.jcal_values.proofs.raw.put_tested.Statement.{statement}
 use Rattle.jcal_values.proofs.raw.put_tested.Tie as tie
 
@@ -16,10 +16,5 @@ pub put-tested-spec : {M : Type 1} → statement M
 put-tested-spec =
     tie.close
     (tie.spec
-    (λ c κs. search needs)
-    (λ c κs. search needs)
-    (λ c. search needs)
-    returns
-    (λ c κs. search needs)
-    (λ c. search needs)
+    (λ c κs. search needs) (λ c κs. search needs) (λ c. search needs) returns (λ c κs. search needs) (λ c. search needs)
     returns-2)

@@ -13,7 +13,7 @@ use Rattle.values.specs.Coded.{sortSaid}
 use Rattle.values.specs.Single.{readOne}
 use Rattle.jcal_texts.specs.Trying.{Tried}
 use Rattle.jcal_texts.specs.declared.Attempt.the-variants.{Wrote as Done}
-use Rattle.jcal_values.proofs.Listing.{within, inside, Listed, listed-start, value-wrong, value-last, value-alone, value-on}
+use Rattle.jcal_values.proofs.ValueLists.{within, inside, Listed, listed-start, value-wrong, value-last, value-alone, value-on}
 use Rattle.jcal_values.proofs.raw.put_tested_list.Statement.{statement}
 use Rattle.jcal_values.proofs.raw.put_tested_list.Tie as tie
 
@@ -32,9 +32,6 @@ tried c = rw (c .before .q .given .1) at (c .before .before .before .before .bef
 -- a separator stands ahead
 ahead : (c : tie.Else2 Inv-loop μ-loop) → c .before .before .before .before .before .before .before .before .before .before .before .before .before .before .value-end .result < length (c .before .before .before .before .before .before .before .before .before .before .before .before .before .before .before .before .before .before .before .args .raw .now) - c .before .before .before .before .before .before .before .before .before .before .before .before .before .before .before .before .loop .i
 ahead c = inside (c .before .before .before .before .before .before .before .before .before .before .before .before .before .before .before .before .before .before .before .args .raw .now) (c .before .before .before .before .before .before .before .before .before .before .before .before .before .before .before .before .loop .i) (c .before .before .before .before .before .before .before .before .before .before .before .before .before .before .value-end .result) (c .before .if1 .left)
-
-loop-holds : tie.Need-loop-holds Inv-loop μ-loop
-loop-holds c = (omega arith, refl, listed-start _ _ _ _)
 
 part-put-tested-one-end : tie.Need-part-put-tested-one-end Inv-loop μ-loop
 part-put-tested-one-end c = within (c .before .before .before .before .before .before .before .before .before .before .args .raw .now) (c .before .before .before .before .before .before .before .loop .i) (c .before .before .before .before .before .value-end .result) _ (c .before .before .before .before .before .value-end .ensures)
@@ -61,27 +58,8 @@ pub put-tested-list-spec : {M : Type 1} → statement M
 put-tested-list-spec =
     tie.close
     (tie.spec
-    Inv-loop
-    μ-loop
-    loop-holds
-    (λ c. search needs)
-    (λ c. search needs)
-    (λ c. search needs)
-    (λ c κs. search needs)
-    (λ c κs. search needs)
-    (λ c. search needs)
-    (λ c. search needs)
-    part-put-tested-one-end
-    (λ c κs. search needs)
-    (λ c. search needs)
-    (λ c. search needs)
-    returns
-    (λ c. search needs)
-    (λ c. search needs)
-    returns-2
-    (λ c. search needs)
-    returns-3
-    (λ c. omega (arith, ahead c))
-    (λ c. omega (arith, ahead c))
-    (λ c. omega (arith, ahead c))
-    loop-again)
+    Inv-loop μ-loop (λ c. (omega arith, refl, listed-start _ _ _ _)) (λ c. search needs) (λ c. search needs)
+    (λ c. search needs) (λ c κs. search needs) (λ c κs. search needs) (λ c. search needs) (λ c. search needs)
+    part-put-tested-one-end (λ c κs. search needs) (λ c. search needs) (λ c. search needs) returns (λ c. search needs)
+    (λ c. search needs) returns-2 (λ c. search needs) returns-3 (λ c. omega (arith, ahead c))
+    (λ c. omega (arith, ahead c)) (λ c. omega (arith, ahead c)) loop-again)

@@ -5,19 +5,10 @@ use Rattle.jcal_values.specs.Parts.{firstEnd}
 use Rattle.jcal_values.proofs.raw.value_end.Statement.{statement}
 use Rattle.jcal_values.proofs.raw.value_end.Tie as tie
 
-returns : tie.Need-returns
-unfolding firstEnd
-returns c = rw (sym (c .before .before .splits .ensures) ∙ c .before .if1 .taken) (c .find .ensures)
-
-returns-2 : tie.Need-returns-2
-unfolding firstEnd
-returns-2 c = rw (sym (c .before .splits .ensures) ∙ c .if1 .left)
-
 pub value-end-spec : {M : Type 1} → statement M
 value-end-spec =
     tie.close
     (tie.spec
-    (λ c κs. search needs)
-    (λ c κs. search needs)
-    returns
-    returns-2)
+    (λ c κs. search needs) (λ c κs. search needs)
+    (λ c. unfold firstEnd in rw (sym (c .before .before .splits .ensures) ∙ c .before .if1 .taken) (c .find .ensures))
+    (λ c. unfold firstEnd in rw (sym (c .before .splits .ensures) ∙ c .if1 .left)))

@@ -8,58 +8,23 @@ use borrow.Author.Needs.{needs}
 use Rattle.jcal_values.proofs.recur.put_item_json.Statement.{statement}
 use Rattle.jcal_values.proofs.recur.put_item_json.Tie as tie
 
-returns : tie.Need-returns
-unfolding partSortSaid itemJsonShown
-returns c = as-text (c .before .before .put-quoted .ensures) (rw (c .before .before .before .before .enum-told .given .1))
-
 returns-2 : tie.Need-returns-2
 unfolding partSortSaid itemJsonShown
-returns-2 c =
-    let enum-told2 = c .before .before .before .before .before .enum-told2 in
-    as-text (c .before .before .put-short .ensures) (short-shown _ _ (c .before .before .before .extended-moment .ensures) ∙ rw (enum-told2 .given .1))
-
-returns-3 : tie.Need-returns-3
-unfolding partSortSaid itemJsonShown
-returns-3 c = as-text (c .before .before .put-item .ensures) (rw (c .before .before .before .before .enum-told3 .given .1))
-
-returns-4 : tie.Need-returns-4
-unfolding partSortSaid itemJsonShown
-returns-4 c = as-text (c .before .before .put-quoted2 .ensures) (rw (c .before .before .before .before .enum-told4 .given .1))
-
-returns-5 : tie.Need-returns-5
-unfolding partSortSaid itemJsonShown
-returns-5 c = as-text (c .before .before .put-quoted3 .ensures) (rw (c .before .before .before .before .enum-told5 .given .1))
-
-returns-6 : tie.Need-returns-6
-unfolding partSortSaid itemJsonShown
-returns-6 c = as-text (c .before .before .put-item2 .ensures) (rw (c .before .before .before .before .enum-told6 .given .1))
+returns-2 c = as-text (c .before .before .put-short .ensures) (short-shown _ _ (c .before .before .before .extended-moment .ensures) ∙ rw (c .before .before .before .before .before .enum-told2 .given .1))
 
 pub put-item-json-spec : {M : Type 1} → statement M
 put-item-json-spec =
     tie.close
     (tie.spec
+    (λ c. search needs) (λ c κs. search needs) (λ c. search needs) (λ c κs. search needs) (λ c κs. search needs)
+    (λ c. search needs) (λ c κs. search needs) (λ c. search needs) (λ c κs. search needs) (λ c. search needs)
+    (λ c κs. search needs) (λ c. search needs) (λ c κs. search needs) (λ c. search needs)
+    (λ c. unfold partSortSaid itemJsonShown in as-text (c .before .before .put-quoted .ensures) (rw (c .before .before .before .before .enum-told .given .1)))
+    (λ c. search needs) returns-2 (λ c. search needs)
+    (λ c. unfold partSortSaid itemJsonShown in as-text (c .before .before .put-item .ensures) (rw (c .before .before .before .before .enum-told3 .given .1)))
     (λ c. search needs)
-    (λ c κs. search needs)
+    (λ c. unfold partSortSaid itemJsonShown in as-text (c .before .before .put-quoted2 .ensures) (rw (c .before .before .before .before .enum-told4 .given .1)))
     (λ c. search needs)
-    (λ c κs. search needs)
-    (λ c κs. search needs)
+    (λ c. unfold partSortSaid itemJsonShown in as-text (c .before .before .put-quoted3 .ensures) (rw (c .before .before .before .before .enum-told5 .given .1)))
     (λ c. search needs)
-    (λ c κs. search needs)
-    (λ c. search needs)
-    (λ c κs. search needs)
-    (λ c. search needs)
-    (λ c κs. search needs)
-    (λ c. search needs)
-    (λ c κs. search needs)
-    (λ c. search needs)
-    returns
-    (λ c. search needs)
-    returns-2
-    (λ c. search needs)
-    returns-3
-    (λ c. search needs)
-    returns-4
-    (λ c. search needs)
-    returns-5
-    (λ c. search needs)
-    returns-6)
+    (λ c. unfold partSortSaid itemJsonShown in as-text (c .before .before .put-item2 .ensures) (rw (c .before .before .before .before .enum-told6 .given .1))))

@@ -7,18 +7,11 @@ use Rattle.jcal_values.proofs.recur.put_key.Tie as tie
 
 returns : tie.Need-returns
 unfolding keyShown
-returns c =
-    let put = c .before .before .before .before .before .before .before .before .before .before .before .put in
-    let put-lower = c .before .before .before .before .before .before .before .put-lower in
-    wrapped _ _ (put .ensures) (put-lower .ensures) (c .before .before .put-all .ensures)
+returns c = wrapped _ _ (c .before .before .before .before .before .before .before .before .before .before .before .put .ensures) (c .before .before .before .before .before .before .before .put-lower .ensures) (c .before .before .put-all .ensures)
 
 pub put-key-spec : {M : Type 1} → statement M
 put-key-spec =
     tie.close
     (tie.spec
-    (λ c κs. search needs)
-    (λ c κs. search needs)
-    (λ c. search needs)
-    (λ c κs. search needs)
-    (λ c. search needs)
+    (λ c κs. search needs) (λ c κs. search needs) (λ c. search needs) (λ c κs. search needs) (λ c. search needs)
     returns)

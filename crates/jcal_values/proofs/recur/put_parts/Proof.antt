@@ -9,14 +9,13 @@ use Rattle.octets.proofs.Pen.{then, Leads, leads-start, leads-on, leads-last}
 use Rattle.calendar.proofs.Pieces.{scanned-le, scanned-in}
 use Rattle.values.specs.Shown.{partJsonShown}
 use Rattle.jcal_values.specs.Parts.{semicolonList}
-use Rattle.jcal_values.proofs.Lists.{list-more, list-last}
+use Rattle.jcal_values.proofs.PiecesShown.{list-more, list-last}
 use borrow.Author.Needs.{needs}
 use Rattle.jcal_values.proofs.recur.put_parts.Statement.{statement}
 use Rattle.jcal_values.proofs.recur.put_parts.Tie as tie
 
 abbrev Inv-loop : tie.InvT-loop
-Inv-loop out₀ at s p₀ i₀ out p i =
-    (i ≤ length s) × (length out ≡ length out₀) × Leads (pen out₀ at) (semicolonList partJsonShown s) (pen out p) (semicolonList partJsonShown (drop i s))
+Inv-loop out₀ at s p₀ i₀ out p i = (i ≤ length s) × (length out ≡ length out₀) × Leads (pen out₀ at) (semicolonList partJsonShown s) (pen out p) (semicolonList partJsonShown (drop i s))
 
 abbrev μ-loop : tie.MeasureT-loop
 μ-loop out₀ at s p₀ i₀ out p i = length s - i
@@ -24,54 +23,34 @@ abbrev μ-loop : tie.MeasureT-loop
 -- a separator stands ahead
 ahead : (c : tie.After-slice-known3 Inv-loop μ-loop) → c .before .before .before .before .before .before .before .before .before .before .find .result < length (c .before .before .before .before .before .before .before .before .before .before .before .before .before .before .before .args .s .now) - c .before .before .before .before .before .before .before .before .before .before .before .before .loop .i
 ahead c =
-    let args = c .before .before .before .before .before .before .before .before .before .before .before .before .before .before .before .args in
-    let loop = c .before .before .before .before .before .before .before .before .before .before .before .before .loop in
     let find = c .before .before .before .before .before .before .before .before .before .before .find in
-    scanned-in (code ";") (args .s .now) (loop .i) (find .result) (find .ensures) (c .before .before .before .before .if1 .left)
+    scanned-in (code ";") (c .before .before .before .before .before .before .before .before .before .before .before .before .before .before .before .args .s .now) (c .before .before .before .before .before .before .before .before .before .before .before .before .loop .i) (find .result) (find .ensures) (c .before .before .before .before .if1 .left)
 
 part-put-part-end : tie.Need-part-put-part-end Inv-loop μ-loop
 part-put-part-end c =
-    let args = c .before .before .before .before .before .before .args in
     let find = c .before .find in
-    let e = scanned-le (code ";") (args .s .now) (c .before .before .before .loop .i) (find .result) (find .ensures) in
+    let e = scanned-le (code ";") (c .before .before .before .before .before .before .args .s .now) (c .before .before .before .loop .i) (find .result) (find .ensures) in
     rw (length-take, length-drop) (omega arith)
 
 returns : tie.Need-returns Inv-loop μ-loop
 returns c =
     let loop = c .before .before .before .before .before .before .before .before .loop in
-    let args = c .before .before .before .before .before .before .before .before .before .before .before .args in
     let find = c .before .before .before .before .before .before .find in
-    leads-last (loop .inv .2) (c .before .before .before .put-part .ensures) (list-last (code ";") (args .s .now) (loop .i) (find .result) (find .ensures) partJsonShown (c .if1 .taken))
+    leads-last (loop .inv .2) (c .before .before .before .put-part .ensures) (list-last (code ";") (c .before .before .before .before .before .before .before .before .before .before .before .args .s .now) (loop .i) (find .result) (find .ensures) partJsonShown (c .if1 .taken))
 
 loop-again : tie.Need-loop-again Inv-loop μ-loop
 loop-again c =
-    let args = c .before .before .before .before .before .before .before .before .before .before .before .before .before .before .before .args in
     let loop = c .before .before .before .before .before .before .before .before .before .before .before .before .loop in
     let find = c .before .before .before .before .before .before .before .before .before .before .find in
-    let put-part = c .before .before .before .before .before .before .before .put-part in
     let e = ahead c in
-    let m = list-more (code ";") (args .s .now) (loop .i) (find .result) (find .ensures) partJsonShown (c .before .before .before .before .if1 .left) in
-    (omega arith, omega arith, leads-on (loop .inv .2) (then (put-part .ensures) (c .before .before .put .ensures)) m)
+    let m = list-more (code ";") (c .before .before .before .before .before .before .before .before .before .before .before .before .before .before .before .args .s .now) (loop .i) (find .result) (find .ensures) partJsonShown (c .before .before .before .before .if1 .left) in
+    (omega arith, omega arith, leads-on (loop .inv .2) (then (c .before .before .before .before .before .before .before .put-part .ensures) (c .before .before .put .ensures)) m)
 
 pub put-parts-spec : {M : Type 1} → statement M
 put-parts-spec =
     tie.close
     (tie.spec
-    Inv-loop
-    μ-loop
-    (λ c. (omega arith, refl, leads-start))
-    (λ c. search needs)
-    (λ c. search needs)
-    (λ c. search needs)
-    (λ c κs. search needs)
-    (λ c. search needs)
-    (λ c. search needs)
-    part-put-part-end
-    (λ c κs. search needs)
-    (λ c. search needs)
-    returns
-    (λ c κs. search needs)
-    (λ c. omega (arith, ahead c))
-    (λ c. omega (arith, ahead c))
-    (λ c. omega (arith, ahead c))
-    loop-again)
+    Inv-loop μ-loop (λ c. (omega arith, refl, leads-start)) (λ c. search needs) (λ c. search needs) (λ c. search needs)
+    (λ c κs. search needs) (λ c. search needs) (λ c. search needs) part-put-part-end (λ c κs. search needs)
+    (λ c. search needs) returns (λ c κs. search needs) (λ c. omega (arith, ahead c)) (λ c. omega (arith, ahead c))
+    (λ c. omega (arith, ahead c)) loop-again)

@@ -7,17 +7,10 @@ use Rattle.jcal_values.proofs.recur.put_recur.Tie as tie
 
 returns : tie.Need-returns
 unfolding recurShown
-returns c =
-    let put = c .before .before .before .before .before .before .before .before .before .before .put in
-    let put-parts = c .before .before .before .before .before .before .put-parts in
-    wrapped _ _ (put .ensures) (put-parts .ensures) (c .before .before .put2 .ensures)
+returns c = wrapped _ _ (c .before .before .before .before .before .before .before .before .before .before .put .ensures) (c .before .before .before .before .before .before .put-parts .ensures) (c .before .before .put2 .ensures)
 
 pub put-recur-spec : {M : Type 1} → statement M
 put-recur-spec =
     tie.close
     (tie.spec
-    (λ c κs. search needs)
-    (λ c κs. search needs)
-    (λ c κs. search needs)
-    (λ c. search needs)
-    returns)
+    (λ c κs. search needs) (λ c κs. search needs) (λ c κs. search needs) (λ c. search needs) returns)

@@ -10,13 +10,9 @@ use Rattle.values.specs.Recur.{recurOf}
 use Rattle.values.specs.Single.{readOne}
 use Rattle.jcal_values.proofs.OnesShown.{binary-shown, boolean-shown, duration-shown, float-shown, integer-shown, geo-shown, period-shown}
 use Rattle.jcal_values.proofs.RecurShown.{recur-shown}
-use Rattle.jcal_values.proofs.Trying.{tested}
+use Rattle.jcal_values.proofs.TestedValues.{tested}
 use Rattle.jcal_values.proofs.single.put_tested_one.Statement.{statement}
 use Rattle.jcal_values.proofs.single.put_tested_one.Tie as tie
-
-returns : tie.Need-returns
-unfolding sortSaid readOne
-returns c = rw (c .before .before .before .before .enum-told .given .1) (c .before .before .put-tested-plain .ensures)
 
 returns-2 : tie.Need-returns-2
 unfolding sortSaid readOne readBinary
@@ -25,14 +21,6 @@ returns-2 c = rw (c .before .before .before .before .before .before .enum-told2 
 returns-3 : tie.Need-returns-3
 unfolding sortSaid readOne
 returns-3 c = rw (c .before .before .before .before .before .before .enum-told3 .given .1) (tested _ _ _ _ _ (c .before .before .before .before .before .is-boolean .ensures) (boolean-shown (c .before .before .before .before .before .before .before .before .before .before .args .s .now)) (c .before .before .before .put-boolean .ensures) (c .attempt2 .ensures))
-
-returns-4 : tie.Need-returns-4
-unfolding sortSaid readOne asString
-returns-4 c = rw (c .before .before .before .before .enum-told4 .given .1) (c .before .before .put-tested-form .ensures)
-
-returns-5 : tie.Need-returns-5
-unfolding sortSaid readOne asString
-returns-5 c = rw (c .before .before .before .before .enum-told5 .given .1) (c .before .before .put-tested-form2 .ensures)
 
 returns-6 : tie.Need-returns-6
 unfolding sortSaid readOne asString durationOf
@@ -58,97 +46,30 @@ returns-11 : tie.Need-returns-11
 unfolding sortSaid readOne recurOf
 returns-11 c = rw (c .before .before .before .before .before .before .enum-told11 .given .1) (tested _ _ _ _ _ (c .before .before .before .before .before .is-rule .ensures ∙ sym (some-map _ _)) (recur-shown (c .before .before .before .before .before .before .before .before .before .before .args .s .now)) (c .before .before .before .put-recur .ensures) (c .attempt8 .ensures))
 
-returns-12 : tie.Need-returns-12
-unfolding sortSaid readOne
-returns-12 c = rw (c .enum-told12 .given .1) (refl, front-same)
-
-returns-13 : tie.Need-returns-13
-unfolding sortSaid readOne
-returns-13 c = rw (c .before .before .before .before .enum-told13 .given .1) (c .before .before .put-tested-status .ensures)
-
-returns-14 : tie.Need-returns-14
-unfolding sortSaid readOne asString
-returns-14 c = rw (c .before .before .before .before .enum-told14 .given .1) (c .before .before .put-tested-form3 .ensures)
-
-returns-15 : tie.Need-returns-15
-unfolding sortSaid readOne asString
-returns-15 c = rw (c .before .before .before .before .enum-told15 .given .1) (c .before .before .put-tested-form4 .ensures)
-
 pub put-tested-one-spec : {M : Type 1} → statement M
 put-tested-one-spec =
     tie.close
     (tie.spec
+    (λ c. search needs) (λ c κs. search needs) (λ c. search needs) (λ c κs. search needs) (λ c κs. search needs)
+    (λ c κs. search needs) (λ c. search needs) (λ c κs. search needs) (λ c κs. search needs) (λ c κs. search needs)
+    (λ c. search needs) (λ c κs. search needs) (λ c. search needs) (λ c κs. search needs) (λ c. search needs)
+    (λ c κs. search needs) (λ c κs. search needs) (λ c κs. search needs) (λ c. search needs) (λ c κs. search needs)
+    (λ c κs. search needs) (λ c κs. search needs) (λ c. search needs) (λ c κs. search needs) (λ c κs. search needs)
+    (λ c κs. search needs) (λ c. search needs) (λ c κs. search needs) (λ c κs. search needs) (λ c κs. search needs)
+    (λ c. search needs) (λ c κs. search needs) (λ c κs. search needs) (λ c κs. search needs) (λ c. search needs)
+    (λ c κs. search needs) (λ c κs. search needs) (λ c κs. search needs) (λ c. search needs) (λ c. search needs)
+    (λ c κs. search needs) (λ c. search needs) (λ c κs. search needs) (λ c. search needs) (λ c κs. search needs)
     (λ c. search needs)
-    (λ c κs. search needs)
+    (λ c. unfold sortSaid readOne in rw (c .before .before .before .before .enum-told .given .1) (c .before .before .put-tested-plain .ensures))
+    (λ c. search needs) returns-2 (λ c. search needs) returns-3 (λ c. search needs)
+    (λ c. unfold sortSaid readOne asString in rw (c .before .before .before .before .enum-told4 .given .1) (c .before .before .put-tested-form .ensures))
     (λ c. search needs)
-    (λ c κs. search needs)
-    (λ c κs. search needs)
-    (λ c κs. search needs)
+    (λ c. unfold sortSaid readOne asString in rw (c .before .before .before .before .enum-told5 .given .1) (c .before .before .put-tested-form2 .ensures))
+    (λ c. search needs) returns-6 (λ c. search needs) returns-7 (λ c. search needs) returns-8 (λ c. search needs)
+    returns-9 (λ c. search needs) returns-10 (λ c. search needs) returns-11
+    (λ c. unfold sortSaid readOne in rw (c .enum-told12 .given .1) (refl, front-same)) (λ c. search needs)
+    (λ c. unfold sortSaid readOne in rw (c .before .before .before .before .enum-told13 .given .1) (c .before .before .put-tested-status .ensures))
     (λ c. search needs)
-    (λ c κs. search needs)
-    (λ c κs. search needs)
-    (λ c κs. search needs)
+    (λ c. unfold sortSaid readOne asString in rw (c .before .before .before .before .enum-told14 .given .1) (c .before .before .put-tested-form3 .ensures))
     (λ c. search needs)
-    (λ c κs. search needs)
-    (λ c. search needs)
-    (λ c κs. search needs)
-    (λ c. search needs)
-    (λ c κs. search needs)
-    (λ c κs. search needs)
-    (λ c κs. search needs)
-    (λ c. search needs)
-    (λ c κs. search needs)
-    (λ c κs. search needs)
-    (λ c κs. search needs)
-    (λ c. search needs)
-    (λ c κs. search needs)
-    (λ c κs. search needs)
-    (λ c κs. search needs)
-    (λ c. search needs)
-    (λ c κs. search needs)
-    (λ c κs. search needs)
-    (λ c κs. search needs)
-    (λ c. search needs)
-    (λ c κs. search needs)
-    (λ c κs. search needs)
-    (λ c κs. search needs)
-    (λ c. search needs)
-    (λ c κs. search needs)
-    (λ c κs. search needs)
-    (λ c κs. search needs)
-    (λ c. search needs)
-    (λ c. search needs)
-    (λ c κs. search needs)
-    (λ c. search needs)
-    (λ c κs. search needs)
-    (λ c. search needs)
-    (λ c κs. search needs)
-    (λ c. search needs)
-    returns
-    (λ c. search needs)
-    returns-2
-    (λ c. search needs)
-    returns-3
-    (λ c. search needs)
-    returns-4
-    (λ c. search needs)
-    returns-5
-    (λ c. search needs)
-    returns-6
-    (λ c. search needs)
-    returns-7
-    (λ c. search needs)
-    returns-8
-    (λ c. search needs)
-    returns-9
-    (λ c. search needs)
-    returns-10
-    (λ c. search needs)
-    returns-11
-    returns-12
-    (λ c. search needs)
-    returns-13
-    (λ c. search needs)
-    returns-14
-    (λ c. search needs)
-    returns-15)
+    (λ c. unfold sortSaid readOne asString in rw (c .before .before .before .before .enum-told15 .given .1) (c .before .before .put-tested-form4 .ensures)))

@@ -23,9 +23,9 @@ use Rattle.json.specs.Tree.{Json}
 use Rattle.json.specs.Print.{print, valuesJson}
 use Rattle.jcal_texts.specs.Trying.{Tried}
 use Rattle.jcal_texts.specs.declared.Attempt.the-variants.{Invalid}
-use Rattle.jcal_texts.proofs.Going.{Going, going-start, going-on}
+use Rattle.jcal_texts.proofs.Reading.{Going, going-start, going-on}
 use Rattle.jcal_values.specs.Parts.{firstEnd, valuePieces}
-use Rattle.jcal_values.proofs.Lists.{pieces-more, pieces-last}
+use Rattle.jcal_values.proofs.PiecesShown.{pieces-more, pieces-last}
 
 each-filled : (f : List ℕ → Option Json) (ls : List (List ℕ)) → (ls ≡ [] → ⊥) → each f ls ≡ some [] → ⊥
 each-filled f [] n e = n refl

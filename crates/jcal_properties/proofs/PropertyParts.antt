@@ -14,13 +14,14 @@ use Rattle.octets.specs.Optional.{map?}
 use Rattle.octets.specs.Classes.{isName, lower, lowerNameOctet, isLowerName, isLower, isDigit, between}
 use Rattle.octets.specs.Answers.{Answer, refused, accepted, then, orElse, unless}
 use Rattle.octets.specs.Pen.{Pen, pen, Wrote}
-use Rattle.octets.proofs.Cases.{cases, both, apart}
+use Rattle.octets.proofs.Cases.{cases, both, all-weaker}
 use Rattle.octets.proofs.Classes.{same-is, name-lower as name-lowers}
 use Rattle.octets.proofs.Answers.{not-accepted}
 use Rattle.octets.proofs.Pen.{then as behind, as-text, front-behind as kept-behind}
 use Rattle.octets.proofs.Positions.{upto, from}
 use Rattle.json.specs.Tree.{Json, obj}
-use Rattle.json.specs.Print.{escaped, quoted, printString, print, firstItem, moreItems, firstMember, valuesJson}
+use Rattle.json.specs.Print.{quoted, printString, print, firstItem, moreItems, firstMember, valuesJson}
+use Rattle.json.specs.Promise.{asIsOctet}
 use Rattle.types.specs.Codes.{typeName}
 use Rattle.types.specs.Table.{Row, Table, find}
 use Rattle.types.proofs.Types.{name-lower, nameless}
@@ -32,7 +33,8 @@ use Rattle.content.specs.declared.params.ValueType.{ValueType}
 use Rattle.content.specs.declared.params.ValueType.the-variants.{Absent, Named, Faulty}
 use Rattle.content.specs.Parameters.{called, nameTwice, valueType, withoutValue, encodes, isEncoded, membersOf}
 use Rattle.values.specs.Read.{valuesOf}
-use Rattle.jcal_values.proofs.Quoting.{items-json}
+use Rattle.values.proofs.Arrays.{items-json}
+use Rattle.jcal_values.proofs.Quoting.{quoted-bare, bare-class}
 use Rattle.conversion_theory.specs.Tree.{Property, property}
 use Rattle.conversion_theory.specs.Property.{typeOf, codeOf, manyOf, encodingFits, readAs, readProperty}
 use Rattle.conversion_theory.specs.Jcal.{propertyJson}
@@ -55,16 +57,9 @@ encoded-without (p ∷ ps) = cases (called (octets "value") p)
     (λ h. rw h (ap (λ (b : Bool). encodes p or b) (encoded-without ps)))
 
 -- a name in lowercase stands in a string as it is
-not-escaped : (c : ℕ) → lowerNameOctet c ≡ true → escaped c ≡ c ∷ []
-unfolding escaped lowerNameOctet isLower isDigit between
-not-escaped c h = rw (apart lowerNameOctet c (code "\"") h refl, apart lowerNameOctet c (code "\\") h refl, apart lowerNameOctet c (code "\n") h refl, apart lowerNameOctet c (code "\t") h refl)
-
 name-quoted : (n : List ℕ) → all lowerNameOctet n ≡ true → n ++ octets "\"" ≡ quoted n
-unfolding quoted all
-name-quoted [] h = refl
-name-quoted (c ∷ n) h =
-    let b = both (lowerNameOctet c) (all lowerNameOctet n) h in
-    rw (not-escaped c (b .0)) (ap (λ (r : List ℕ). c ∷ r) (name-quoted n (b .1)))
+unfolding lowerNameOctet isLower isDigit between
+name-quoted n h = sym (quoted-bare n (all-weaker lowerNameOctet asIsOctet (bare-class lowerNameOctet refl refl refl refl) n h))
 
 type-octets : (c : ℕ) → all lowerNameOctet (typeName c) ≡ true
 type-octets zero = unfold typeName all in refl

@@ -17,7 +17,7 @@ use Rattle.calendar.proofs.Pieces.{before-take, split-more, split-last, scanned
 use Rattle.json.specs.Tree.{Json, arr, itemsOf}
 use Rattle.json.specs.Print.{print, firstItem, valuesJson}
 use Rattle.values.specs.Shown.{listShown}
-use Rattle.jcal_values.proofs.Quoting.{items-json}
+use Rattle.values.proofs.Arrays.{items-json}
 
 -- a turn, which passes the piece at i
 module _ (sep : ℕ) (s : List ℕ) (i e : ℕ) (is : e ≡ length (beforeFirst sep (take (length s - i) (drop i s)))) where
