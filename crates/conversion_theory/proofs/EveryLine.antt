@@ -24,7 +24,7 @@ use Rattle.content.specs.Lines.{linesOf as unfolded}
 use Rattle.content.specs.Parameters.{called, isEncoded, mayReturn}
 use Rattle.content.specs.Fold.{textOf}
 use Rattle.content.specs.Physical.{Physical}
-use Rattle.content.proofs.Names.{lower-name}
+use Rattle.octets.proofs.Classes.{lower-name}
 use Rattle.content.proofs.WrittenClean.{Texts, line-clean}
 use Rattle.content.proofs.Unfolded.{Upright, line-upright, clean-lines-back}
 use Rattle.content.proofs.Physical.{text-physical}

@@ -17,12 +17,11 @@ use Rattle.octets.proofs.Answers.{accepted-same, then-accepted, unless-accepted
 use Rattle.types.specs.Table.{Table}
 use Rattle.types.specs.Rows.{tableOf}
 use Rattle.content.specs.Lines.{linesOf}
-use Rattle.content.specs.Form.{formed}
+use Rattle.content.specs.Form.{formed, contentLines}
 use Rattle.content.specs.Line.{Line, lineOf}
 use Rattle.conversion_theory.specs.Tree.{Property, Component}
 use Rattle.conversion_theory.specs.Structure.{Event, bounds, eventOf, fresh, closed, nestAfter, structured}
 use Rattle.conversion_theory.specs.Growth.{eachProperty, treeOf}
-use Rattle.content.specs.Reading.{tested}
 use Rattle.conversion_theory.specs.ToJcal.{readLinesBy, readLines, reading}
 use Rattle.conversion_theory.proofs.Carried.{LineFine, LineLaw}
 use Rattle.conversion_theory.proofs.Nesting.{structured-is, is-structured, Known}
@@ -40,10 +39,10 @@ pub record Taken (f : Line → Answer Property) (ls : List (List ℕ)) (c : Comp
   pub grown : treeOf found ≡ c
 
 pub lines-taken : (f : Line → Answer Property) (ls : List (List ℕ)) (c : Component) → readLinesBy f ls ≡ accepted c → Taken f ls c
-unfolding readLinesBy tested
+unfolding readLinesBy contentLines
 lines-taken f ls c h =
     let last : List (Event Line) → Answer Component = λ es. then (eachProperty f es) (λ ps. accepted (treeOf ps)) in
-    then-accepted (tested ls) (λ ks. then (structured (eventsAt ks)) last) c h (λ ks t k.
+    then-accepted (contentLines ls) (λ ks. then (structured (eventsAt ks)) last) c h (λ ks t k.
     let a = unless-accepted 3 (all clean ls) (λ _. unless 4 (all formed ls) (λ _. accepted ls)) ks t in
     let b = unless-accepted 4 (all formed ls) (λ _. accepted ls) ks (a .1) in
     then-accepted (structured (eventsAt ls)) last c (rw (← accepted-same (b .1)) at k) (λ es d r.
@@ -52,7 +51,7 @@ lines-taken f ls c h =
     record { are-clean = a .0; are-formed = b .0; close = w .close; found = ps; read = ap (eachProperty f) (w .stay) ∙ e; grown = accepted-same g })))
 
 pub taken-lines : (f : Line → Answer Property) (ls : List (List ℕ)) (c : Component) → Taken f ls c → readLinesBy f ls ≡ accepted c
-unfolding readLinesBy tested unless then
+unfolding readLinesBy contentLines unless then
 taken-lines f ls c t = rw (t .are-clean, t .are-formed, is-structured (eventsAt ls) (t .close), t .read, t .grown)
 
 -- a text under the table of a file

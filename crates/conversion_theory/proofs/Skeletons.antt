@@ -19,7 +19,7 @@ use Rattle.json.specs.Reads.{ok}
 use Rattle.json.specs.Reader.{parseText}
 use Rattle.json.specs.Print.{print}
 use Rattle.json.proofs.Printing.{parse-print}
-use Rattle.content.proofs.Names.{lower-name}
+use Rattle.octets.proofs.Classes.{lower-name}
 use Rattle.values.proofs.Neat.{Neat, n-str, n-arr, NeatItems, n-none, n-item, neat-more, neat-items, neat-printable, neat-depth, neat-sound, neat-utf8}
 use Rattle.values.proofs.TextLaws.{list-items}
 use Rattle.conversion_theory.specs.Tree.{Property, Component, component, Forest, forestOf, levels, levelsIn}

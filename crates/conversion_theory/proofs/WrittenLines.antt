@@ -14,7 +14,8 @@ use Rattle.content.specs.Form.{formed}
 use Rattle.content.specs.Lines.{linesOf as unfolded}
 use Rattle.content.specs.Fold.{textOf}
 use Rattle.content.specs.Write.{paramsText, lineText}
-use Rattle.content.proofs.Names.{lower-name, upper-name, lower-upper}
+use Rattle.octets.proofs.Classes.{lower-name, name-upper}
+use Rattle.content.proofs.Names.{lower-upper}
 use Rattle.content.proofs.Written.{line-back}
 use Rattle.content.proofs.WrittenForm.{line-formed}
 use Rattle.content.proofs.WrittenClean.{name-clean, line-clean}
@@ -56,11 +57,11 @@ end-name = refl
 
 begin-event : (n : List ℕ) → isLowerName n ≡ true → eventOf (lineOf (lineText (octets "BEGIN") [] (upper n))) ≡ begins n
 unfolding eventOf bounds filled sameName same upper upperOctet isLower between
-begin-event n h = rw (line-back (octets "BEGIN") [] (upper n) begin-name tt, upper-name n (lower-name n h), lower-upper n h)
+begin-event n h = rw (line-back (octets "BEGIN") [] (upper n) begin-name tt, name-upper n (lower-name n h), lower-upper n h)
 
 end-event : (n : List ℕ) → isLowerName n ≡ true → eventOf (lineOf (lineText (octets "END") [] (upper n))) ≡ ends n
 unfolding eventOf bounds filled sameName same upper upperOctet isLower between
-end-event n h = rw (line-back (octets "END") [] (upper n) end-name tt, upper-name n (lower-name n h), lower-upper n h)
+end-event n h = rw (line-back (octets "END") [] (upper n) end-name tt, name-upper n (lower-name n h), lower-upper n h)
 
 -- a line without parameters under a name that the table does not see
 module _ (t : Table) (name n : List ℕ) (k : isName name ≡ true) (h : isLowerName n ≡ true) where

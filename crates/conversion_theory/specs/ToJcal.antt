@@ -9,7 +9,7 @@ use Rattle.types.specs.Table.{Table}
 use Rattle.types.specs.Rows.{tableOf}
 use Rattle.json.specs.Print.{print}
 use Rattle.content.specs.Lines.{linesOf}
-use Rattle.content.specs.Reading.{tested}
+use Rattle.content.specs.Form.{contentLines}
 use Rattle.content.specs.Line.{Line, lineOf}
 use Rattle.conversion_theory.specs.Tree.{Property, Component}
 use Rattle.conversion_theory.specs.Structure.{eventOf, structured}
@@ -20,7 +20,7 @@ use Rattle.conversion_theory.specs.Jcal.{jcalOf}
 -- numbers 3, 4, then 5 or 6, then what f refuses at the first property in fault
 unfoldable pub readLinesBy : (Line → Answer Property) → List (List ℕ) → Answer Component
 readLinesBy f ls =
-    then (tested ls) (λ ks.
+    then (contentLines ls) (λ ks.
     then (structured (map (λ l. eventOf (lineOf l)) ks)) (λ es.
     then (eachProperty f es) (λ ps. accepted (treeOf ps))))
 

@@ -20,11 +20,11 @@ use Rattle.octets.specs.declared.Refusal.the-variants.{NotPaired, TooDeep}
 use Rattle.octets.proofs.Limits.{most-levels}
 use Rattle.octets.proofs.Positions.{ended}
 use Rattle.content.specs.Line.{Line}
-use Rattle.content.specs.Scan.{until}
-use Rattle.content.specs.Buffer.{isLf}
-use Rattle.content.proofs.Scanning.{scan-is}
+use Rattle.octets.specs.Search.{until}
+use Rattle.content.specs.Lines.{isLf}
+use Rattle.octets.proofs.Search.{scan-is}
 use Rattle.content.proofs.Buffer.{line-here, lines-none}
-use Rattle.content.proofs.Walking.{same-lower}
+use Rattle.content.proofs.Names.{same-lower}
 use Rattle.conversion_theory.specs.Structure.{Event, begins, ends, carries, stray, fresh, closed, inside, fault, left, nest, nestAfter}
 use Rattle.jcal.specs.Events.{eventAt, eventsIn, lineFrom, LineAt, nameFrom, lineTold, Named, TellsLine}
 use Rattle.jcal.specs.Nesting.{stack, inner, nestOf, aroundOf, NestsBehind}

@@ -25,13 +25,13 @@ use Rattle.types.specs.Table.{Table}
 use Rattle.types.specs.Laid.{tableIn, laidOf, roomForRows}
 use Rattle.types.proofs.Reading.{Read-table, rows-written, rows-refused}
 use Rattle.content.specs.Line.{Line, lineOf}
-use Rattle.content.specs.Lines.{linesOf, laidOut}
-use Rattle.content.specs.Form.{formed}
-use Rattle.content.specs.Buffer.{bufferLines}
-use Rattle.content.specs.Reading.{tested, linesTold, LaidWithin, ReadLines}
+use Rattle.content.specs.Buffer.{laidOut}
+use Rattle.content.specs.Lines.{linesOf, cutLines}
+use Rattle.content.specs.Form.{formed, contentLines}
+use Rattle.content.specs.Reading.{linesTold, LaidWithin, ReadLines}
 use Rattle.content.specs.declared.reading.Lines.{Lines}
 use Rattle.content.specs.declared.reading.Lines.the-variants.{Laid, NotClean, NotFormed, NoRoom}
-use Rattle.content.proofs.Unfolding.{laid-short}
+use Rattle.content.proofs.LineRuns.{laid-short}
 use Rattle.conversion_theory.specs.Tree.{Property, Component, levels}
 use Rattle.conversion_theory.specs.Structure.{Event, begins, ends, carries, stray, Nest, fresh, closed, inside, fault, nestAfter, verdict, structured}
 use Rattle.conversion_theory.specs.Growth.{behindEvent, eachProperty, treeOf}
@@ -154,17 +154,17 @@ module _ (f : Line → Answer Property) where
   events-tree (accepted es) = properties-tree (eachProperty f es)
 
   module _ (text b after : List ℕ) (r : Lines) (l : length text < length b) (k : ReadLines text b after r) where
-    told-tested : linesTold after r ≡ tested (linesOf text)
+    told-tested : linesTold after r ≡ contentLines (linesOf text)
     told-tested = rw (le-leb (length (laidOut (linesOf text))) (length b) (omega (arith, laid-short text))) at (k .told)
 
     pub lines-failed : (n : ℕ) → linesTold after r ≡ refused n → refused n ≡ linesJcal f (linesOf text)
-    unfolding linesJcal readLinesBy tested
+    unfolding linesJcal readLinesBy contentLines
     lines-failed n e = tested-refused (all clean (linesOf text)) (all formed (linesOf text)) (linesOf text) _ _ n (sym e ∙ told-tested)
 
-    lines-accepted : (n : ℕ) → linesTold after r ≡ accepted (bufferLines (take n after)) → eventsJcal f (eventsIn (take (n - 0) (drop 0 after))) ≡ linesJcal f (linesOf text)
-    unfolding linesJcal readLinesBy tested eventsJcal eventsIn
+    lines-accepted : (n : ℕ) → linesTold after r ≡ accepted (cutLines (take n after)) → eventsJcal f (eventsIn (take (n - 0) (drop 0 after))) ≡ linesJcal f (linesOf text)
+    unfolding linesJcal readLinesBy contentLines eventsJcal eventsIn
     lines-accepted n e =
-        let t = tested-accepted (all clean (linesOf text)) (all formed (linesOf text)) (linesOf text) (bufferLines (take n after)) _ (λ c. accepted (print (jcalOf c))) (sym e ∙ told-tested) in
+        let t = tested-accepted (all clean (linesOf text)) (all formed (linesOf text)) (linesOf text) (cutLines (take n after)) _ (λ c. accepted (print (jcalOf c))) (sym e ∙ told-tested) in
         sym (t .1 ∙ events-tree _ ∙ rw (upto after n, t .0))
 
     pub lines-laid : (n : ℕ) → r ≡ Laid n → eventsJcal f (eventsIn (take (n - 0) (drop 0 after))) ≡ linesJcal f (linesOf text)
@@ -202,7 +202,7 @@ module _ (hex o b : List ℕ) (r : Converted) (h : roomForRows ≤ length o) (k 
 
 -- the calendar
 pub some-line : (s : List ℕ) → nestAfter fresh (eventsIn s) ≡ closed → 0 < length s
-unfolding eventsIn bufferLines nestAfter
+unfolding eventsIn cutLines nestAfter
 some-line [] h = not-fresh h
 some-line (c ∷ s) h = omega arith
 

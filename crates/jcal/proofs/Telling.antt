@@ -9,9 +9,9 @@ use lib.Seq.{drop-drop}
 use Rattle.octets.specs.Basics.{octets, pick}
 use Rattle.octets.specs.Classes.{sameName}
 use Rattle.content.specs.Line.{lineOf}
-use Rattle.content.specs.Scan.{until}
-use Rattle.content.specs.Buffer.{isLf}
-use Rattle.content.proofs.Scanning.{scan-is}
+use Rattle.octets.specs.Search.{until}
+use Rattle.content.specs.Lines.{isLf}
+use Rattle.octets.proofs.Search.{scan-is}
 use Rattle.conversion_theory.specs.Structure.{bounds, eventOf}
 use Rattle.jcal.specs.Events.{lineFrom, LineAt, nameFrom, lineTold, Named, TellsLine}
 use Rattle.jcal.specs.declared.events.LineKind.{LineKind}

@@ -5,8 +5,8 @@ use mathlib.Core.List.{List, map}
 use lib.ListN.{length, drop}
 use Rattle.octets.specs.Classes.{lower}
 use Rattle.content.specs.Line.{Line, lineOf}
-use Rattle.content.specs.Scan.{until}
-use Rattle.content.specs.Buffer.{isLf, bufferLines}
+use Rattle.octets.specs.Search.{until}
+use Rattle.content.specs.Lines.{isLf, cutLines}
 use Rattle.conversion_theory.specs.Structure.{Event, begins, ends, carries, stray, eventOf}
 use Rattle.jcal.specs.declared.events.LineKind.{LineKind}
 use Rattle.jcal.specs.declared.events.LineKind.the-variants.{Opens, Closes, Plain, Broken}
@@ -15,7 +15,7 @@ abbrev pub eventAt : List ℕ → Event Line
 eventAt l = eventOf (lineOf l)
 
 unfoldable pub eventsIn : List ℕ → List (Event Line)
-eventsIn s = map eventAt (bufferLines s)
+eventsIn s = map eventAt (cutLines s)
 
 -- the line of a buffer that begins at i, or the rest of one from there on
 unfoldable pub lineFrom : List ℕ → ℕ → List ℕ

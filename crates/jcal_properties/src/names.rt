@@ -1,25 +1,12 @@
 // Names in lowercase as JSON strings.
 ghost use Rattle.octets.specs.Classes.{lower};
 ghost use Rattle.octets.specs.Pen.{pen, Wrote};
-ghost use Rattle.json.specs.Print.{escaped, printString};
+ghost use Rattle.json.specs.Print.{printString};
+use json::put_escaped;
 use octets::is_name;
 use octets::lower_octet;
 use octets::put;
-use octets::put_all;
 use octets::put_lower;
-
-// Writes one octet of a string.
-fn put_escaped(out: &mut [u8], at: usize, c: u8) -> usize
-    ensures { λ r. ⌜ Wrote (pen (now (out .entry)) at) (escaped c) (pen (now (out .exit)) r) ⌝ }
-{
-    match c {
-        b'"' => put_all(out, at, b"\\\""),
-        b'\\' => put_all(out, at, b"\\\\"),
-        b'\n' => put_all(out, at, b"\\n"),
-        b'\t' => put_all(out, at, b"\\t"),
-        _ => put(out, at, c),
-    }
-}
 
 // Writes a text in lowercase as a string, octet by octet.
 fn put_quoted(out: &mut [u8], at: usize, name: &[u8]) -> usize

@@ -1,5 +1,4 @@
 -- What writers that test promise.
-use Prim.Native.Char.{code}
 use Prim.Native.Nat.{ℕ, _+_, _≤_, _<_}
 use mathlib.Core.Path.{_≡_}
 use mathlib.Core.Bool.{true, false}
@@ -12,7 +11,7 @@ use Rattle.octets.specs.Optional.{map?}
 use Rattle.octets.specs.Pen.{Pen, pen, Wrote, FrontKept}
 use Rattle.octets.specs.Pieces.{onto}
 use Rattle.json.specs.Tree.{str}
-use Rattle.json.specs.Print.{escaped, quoted, valuesJson}
+use Rattle.json.specs.Print.{quoted, valuesJson}
 use Rattle.values.specs.Texts.{add, stop, act, textsFrom}
 use Rattle.jcal_texts.specs.declared.Attempt.{Attempt}
 use Rattle.jcal_texts.specs.declared.Attempt.the-variants.{Wrote as Done, Invalid}
@@ -31,10 +30,6 @@ abbrev pub WroteTexts : Option (List (List ℕ)) → Pen → List ℕ → Texts 
 WroteTexts read p out (Counted q n) =
     (t : List ℕ) × (ts : List (List ℕ)) × (read ≡ some (t ∷ ts)) × (length ts + 1 ≡ n) × Wrote p (quoted t ++ valuesJson (map str ts)) (pen out q)
 WroteTexts read p out NoTexts = (read ≡ none) × FrontKept p out
-
--- a string has r behind a backslash for c; 0, where c stands as it is
-abbrev pub WrittenAs : ℕ → ℕ → Type 0
-WrittenAs c r = escaped c ≡ pick (eqb r 0) (c ∷ []) (code "\\" ∷ r ∷ [])
 
 -- behind a backslash c stands for r; 0, where it may not stand there
 abbrev pub StandsFor : ℕ → ℕ → Type 0

@@ -9,12 +9,13 @@ ghost use Rattle.octets.specs.Classes.{upper};
 ghost use Rattle.octets.specs.Optional.{map?, guard};
 ghost use Rattle.octets.specs.Pen.{pen, Wrote};
 ghost use Rattle.json.specs.Tree.{str};
-ghost use Rattle.json.specs.Print.{escaped, printString, print, valuesJson};
+ghost use Rattle.json.specs.Print.{printString, print, valuesJson};
 ghost use Rattle.json.specs.Promise.{Run};
 ghost use Rattle.values.specs.Read.{readPlain, readStatus};
 ghost use Rattle.values.specs.Shown.{runOctet};
 ghost use Rattle.values.specs.Texts.{textsFrom, texts};
-ghost use Rattle.jcal_texts.specs.Trying.{Tried, WroteTexts, WrittenAs, StandsFor, StepsAt};
+ghost use Rattle.jcal_texts.specs.Trying.{Tried, WroteTexts, StandsFor, StepsAt};
+use json::put_escaped;
 use octets::is_plain_octet;
 use octets::peek;
 use octets::put;
@@ -145,31 +146,6 @@ fn step_at(s: &[u8], i: usize, sep: u8, other: u8) -> Step
         return Step::Invalid;
     }
     Step::Octet(c, i + 1)
-}
-
-// What stands behind a backslash for c in a string; 0 where c stands as it is.
-fn escape_of(c: u8) -> u8
-    ensures { λ r. ⌜ WrittenAs c r ⌝ }
-{
-    match c {
-        b'"' => c,
-        b'\\' => c,
-        b'\n' => b'n',
-        b'\t' => b't',
-        _ => 0,
-    }
-}
-
-// Writes one octet of a string.
-fn put_escaped(out: &mut [u8], at: usize, c: u8) -> usize
-    ensures { λ r. ⌜ Wrote (pen (now (out .entry)) at) (escaped c) (pen (now (out .exit)) r) ⌝ }
-{
-    let e = escape_of(c);
-    if e == 0 {
-        return put(out, at, c);
-    }
-    let q = put(out, at, b'\\');
-    put(out, q, e)
 }
 
 // Tests the texts between bare separators, writes them behind their first quote, as strings with a comma between them, and counts them.

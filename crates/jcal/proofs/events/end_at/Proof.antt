@@ -1,8 +1,8 @@
 -- `jcal::events::end_at` meets its contract.
 use native.Mathlib.Omega.{arith}
 use borrow.Author.Needs.{needs}
-use Rattle.content.specs.Buffer.{isLf}
-use Rattle.content.proofs.Scanning.{scan-high}
+use Rattle.content.specs.Lines.{isLf}
+use Rattle.octets.proofs.Search.{scan-high}
 use Rattle.jcal.proofs.events.end_at.Statement.{statement}
 use Rattle.jcal.proofs.events.end_at.Tie as tie
 
