@@ -13,11 +13,12 @@ use Rattle.octets.specs.Basics.{octets, _or_, filled, single}
 use Rattle.octets.specs.Optional.{map?, when, guard}
 use Rattle.octets.specs.Pen.{Pen, pen, Wrote}
 use Rattle.octets.proofs.Pen.{then, as-text, front-behind, front-wrote}
+use Rattle.values.specs.TextWalk.{texts, textsFrom}
 use Rattle.json.specs.Tree.{Json, str, arr, itemsOf}
 use Rattle.json.specs.Print.{quoted, printString, print, firstItem, valuesJson}
 use Rattle.values.specs.Read.{twoOrThree, readStatus}
-use Rattle.values.specs.Texts.{texts, fields, textsFrom}
 use Rattle.values.proofs.Arrays.{items-json}
+use Rattle.values.proofs.TextWalk.{fields-walked}
 use Rattle.jcal_texts.specs.Trying.{Tried, WroteTexts}
 use Rattle.jcal_texts.specs.declared.Attempt.the-variants.{Wrote as Done, Invalid}
 use Rattle.jcal_texts.specs.declared.Texts.the-variants.{Wrote as Counted, Invalid as NoTexts}
@@ -70,8 +71,8 @@ array t ts = rw (items-json (map str ts)) (ap (λ (l : List ℕ). octets "[\"" +
 
 module _ {p q : Pen} (s out : List ℕ) (e n : ℕ) (w : WroteTexts (textsFrom (code ";") (code ",") false s) q out (Counted e n)) (u : Wrote p (octets "[\"") q) where
   status-none : twoOrThree (w .0 ∷ w .1) ≡ false → Tried (readStatus s) print p out Invalid
-  unfolding readStatus fields map? guard when
-  status-none h = (rw (w .2, h), front-wrote (then u (w .4)))
+  unfolding readStatus map? guard when
+  status-none h = (rw (fields-walked s, w .2, h), front-wrote (then u (w .4)))
 
   pub status-few : n < 2 → Tried (readStatus s) print p out Invalid
   status-few h = status-none (few (w .0) (w .1) (rw (w .3) h))
@@ -80,9 +81,9 @@ module _ {p q : Pen} (s out : List ℕ) (e n : ℕ) (w : WroteTexts (textsFrom (
   status-many h = status-none (many (w .0) (w .1) (rw (w .3) h))
 
   pub status-stands : {r : Pen} → 2 ≤ n → n ≤ 3 → Wrote (pen out e) (octets "]") r → (j : Json) × (readStatus s ≡ some j) × Wrote p (print j) r
-  unfolding readStatus fields map? guard when
-  status-stands h l v = (arr (itemsOf (map str (w .0 ∷ w .1))), rw (w .2, two-or-three (w .0) (w .1) (rw (w .3) h) (rw (w .3) l)), as-text (then (then u (w .4)) v) (array (w .0) (w .1)))
+  unfolding readStatus map? guard when
+  status-stands h l v = (arr (itemsOf (map str (w .0 ∷ w .1))), rw (fields-walked s, w .2, two-or-three (w .0) (w .1) (rw (w .3) h) (rw (w .3) l)), as-text (then (then u (w .4)) v) (array (w .0) (w .1)))
 
 pub no-fields : {p q : Pen} (s out : List ℕ) → WroteTexts (textsFrom (code ";") (code ",") false s) q out NoTexts → Wrote p (octets "[\"") q → Tried (readStatus s) print p out Invalid
-unfolding readStatus fields map? guard
-no-fields s out w u = (rw (w .0), front-behind u (w .1))
+unfolding readStatus map? guard
+no-fields s out w u = (rw (fields-walked s, w .0), front-behind u (w .1))

@@ -17,11 +17,11 @@ use Rattle.octets.specs.Pieces.{onto}
 use Rattle.octets.proofs.Cases.{cases, apart, both}
 use Rattle.octets.proofs.Pen.{nothing, then, Leads, leads-start, leads-on, leads-last, front-wrote}
 use Rattle.octets.proofs.Positions.{here, ended, part-rest, past-end}
+use Rattle.values.specs.TextWalk.{Act, add, next, escape, stop, act, escapes, done, textsFrom}
 use Rattle.json.specs.Tree.{str}
 use Rattle.json.specs.Print.{escaped, quoted, printString, print, valuesJson}
 use Rattle.json.specs.Promise.{Run}
 use Rattle.values.specs.Shown.{runOctet}
-use Rattle.values.specs.Texts.{Act, add, next, escape, stop, act, escapes, done, textsFrom}
 use Rattle.jcal_texts.specs.Trying.{WroteTexts, StandsFor, StepsAt}
 use Rattle.jcal_texts.specs.declared.Texts.the-variants.{Wrote as Counted, Invalid as NoTexts}
 use Rattle.jcal_texts.specs.declared.Step.the-variants.{Octet, Separator, Invalid as Wrong}

@@ -10,9 +10,9 @@ use Rattle.octets.specs.Basics.{pick}
 use Rattle.octets.specs.Optional.{map?}
 use Rattle.octets.specs.Pen.{Pen, pen, Wrote, FrontKept}
 use Rattle.octets.specs.Pieces.{onto}
+use Rattle.values.specs.TextWalk.{add, stop, act, textsFrom}
 use Rattle.json.specs.Tree.{str}
 use Rattle.json.specs.Print.{quoted, valuesJson}
-use Rattle.values.specs.Texts.{add, stop, act, textsFrom}
 use Rattle.jcal_texts.specs.declared.Attempt.{Attempt}
 use Rattle.jcal_texts.specs.declared.Attempt.the-variants.{Wrote as Done, Invalid}
 use Rattle.jcal_texts.specs.declared.Texts.{Texts}

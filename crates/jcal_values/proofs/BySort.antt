@@ -7,32 +7,27 @@ use Rattle.octets.specs.Basics.{pick}
 use Rattle.octets.specs.Optional.{map?, both?, each}
 use Rattle.octets.specs.Classes.{between}
 use Rattle.types.specs.Codes as typed
+use Rattle.values.specs.TextWalk.{texts}
 use Rattle.json.specs.Tree.{Json, str}
-use Rattle.values.specs.Sorts.{Sort, plain, binary, boolean, date, dateTime, duration, float, geo, integer, period, recur, text, status, time, utcOffset, sortSplits}
-use Rattle.values.specs.Texts.{texts}
-use Rattle.values.specs.Read.{alone, listed, readValues}
-use Rattle.values.specs.Single.{readOne, isText}
-use Rattle.jcal_values.specs.Parts.{valuePieces}
+use Rattle.values.specs.Sorts.{Sort, plain, binary, boolean, date, dateTime, duration, float, geo, integer, period, recur, text, status, time, utcOffset, sortSplits, isText}
+use Rattle.values.specs.Read.{readOne, valuesIn, readValues}
+use Rattle.values.proofs.TextWalk.{texts-read}
+use Rattle.jcal_values.specs.Parts.{readAlone, valuePieces}
 
-alone-each : (o : Option Json) → alone o ≡ both? _∷_ o (some [])
-unfolding alone map? both?
-alone-each none = refl
-alone-each (some j) = refl
-
-pub sorted : (sort : Sort) (s : List ℕ) → readValues sort s ≡ pick (isText sort) (map? (map str) (texts s)) (each (readOne sort) (valuePieces (sortSplits sort) s))
-unfolding readValues listed readOne isText sortSplits typed.typeSplits between valuePieces each
-sorted plain s = alone-each _
-sorted binary s = alone-each _
+pub sorted : (sort : Sort) (s : List ℕ) → readValues sort s ≡ pick (isText sort) (map? (map str) (texts s)) (each (readAlone sort) (valuePieces (sortSplits sort) s))
+unfolding readValues valuesIn readAlone readOne isText sortSplits typed.typeSplits between valuePieces
+sorted plain s = refl
+sorted binary s = refl
 sorted boolean s = refl
 sorted date s = refl
 sorted dateTime s = refl
 sorted duration s = refl
 sorted float s = refl
-sorted geo s = alone-each _
+sorted geo s = refl
 sorted integer s = refl
 sorted period s = refl
-sorted recur s = alone-each _
-sorted text s = refl
-sorted status s = alone-each _
+sorted recur s = refl
+sorted text s = texts-read s
+sorted status s = refl
 sorted time s = refl
 sorted utcOffset s = refl

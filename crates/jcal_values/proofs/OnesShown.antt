@@ -20,8 +20,7 @@ use Rattle.json.specs.Tree.{Json, num, str, arr, truth, falsity, noItems, item}
 use Rattle.json.specs.Print.{printString, print, firstItem, moreItems}
 use Rattle.values.specs.Simple.{binaryIs, booleanOf, floatOf, integerOf}
 use Rattle.values.specs.Read.{readBinary, asString, asNumber, geoOf, readGeo, periodOf, readPeriod}
-use Rattle.values.specs.Single.{isPair}
-use Rattle.values.specs.Shown.{behindFirst, stringShown, booleanShown, floatShown, arrayShown, geoShown, endShown, periodShown}
+use Rattle.values.specs.Shown.{behindFirst, stringShown, booleanShown, floatShown, arrayShown, geoShown, endShown, periodShown, isPair}
 use Rattle.values.proofs.Halves.{pair-split, geo-none, period-none, slash-uncased}
 
 pub binary-shown : (s : List ℕ) (j : Json) → readBinary s ≡ some j → printString s ≡ print j

@@ -3,12 +3,20 @@ use Prim.Native.Nat.{ℕ}
 use Prim.Native.Char.{code}
 use mathlib.Core.Bool.{Bool, true, false}
 use mathlib.Core.List.{List, [], _∷_, _++_}
+use mathlib.Core.Option.{Option, none}
 use lib.ListN.{length}
-use Rattle.octets.specs.Basics.{octets}
+use Rattle.octets.specs.Basics.{octets, pick}
 use Rattle.octets.specs.Pieces.{split}
 use Rattle.calendar.specs.Recurrence.{PartSort as Kind}
 use Rattle.calendar.specs.Walk.{beforeFirst, itemShown}
+use Rattle.json.specs.Tree.{Json}
+use Rattle.values.specs.Sorts.{Sort, isText}
+use Rattle.values.specs.Read.{readOne}
 use Rattle.values.specs.Shown.{listShown}
+
+-- one value by itself; texts are read together
+unfoldable pub readAlone : Sort → List ℕ → Option Json
+readAlone k s = pick (isText k) none (readOne k s)
 
 -- the values between commas, or one alone; and where the first ends
 unfoldable pub valuePieces : Bool → List ℕ → List (List ℕ)

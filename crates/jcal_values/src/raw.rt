@@ -6,11 +6,10 @@ ghost use Rattle.octets.specs.Pen.{pen};
 ghost use Rattle.json.specs.Print.{valuesJson};
 ghost use Rattle.values.specs.Sorts.{sortSplits};
 ghost use Rattle.values.specs.Read.{readValues};
-ghost use Rattle.values.specs.Single.{readOne};
 ghost use Rattle.values.specs.Coded.{sortSaid};
 ghost use Rattle.jcal_texts.specs.Trying.{Tried};
 ghost use Rattle.jcal_values.specs.Attempts.{Attempted};
-ghost use Rattle.jcal_values.specs.Parts.{firstEnd, valuePieces};
+ghost use Rattle.jcal_values.specs.Parts.{readAlone, firstEnd, valuePieces};
 use crate::single::put_tested_one;
 use calendar::parts::find;
 use jcal_texts::Attempt;
@@ -30,7 +29,7 @@ fn value_end(sort: Sort, s: &[u8]) -> usize
 
 // Tests values that are read one by one, one only where there may not be many, and writes each with a comma before it.
 fn put_tested_list(out: &mut [u8], at: usize, sort: Sort, many: bool, raw: &[u8]) -> Attempt
-    ensures { λ r. ⌜ Tried (guard (λ vs. many or single vs) (each (readOne (sortSaid sort)) (valuePieces (sortSplits (sortSaid sort)) (now (raw .entry))))) valuesJson (pen (now (out .entry)) at) (now (out .exit)) r ⌝ }
+    ensures { λ r. ⌜ Tried (guard (λ vs. many or single vs) (each (readAlone (sortSaid sort)) (valuePieces (sortSplits (sortSaid sort)) (now (raw .entry))))) valuesJson (pen (now (out .entry)) at) (now (out .exit)) r ⌝ }
 {
     let mut p = at;
     let mut i = 0;

@@ -2,8 +2,8 @@
 ghost use mathlib.Core.Path.{_≡_};
 ghost use Rattle.octets.specs.Pen.{pen};
 ghost use Rattle.json.specs.Print.{print};
-ghost use Rattle.values.specs.Single.{readOne};
 ghost use Rattle.values.specs.Coded.{sortSaid};
+ghost use Rattle.jcal_values.specs.Parts.{readAlone};
 ghost use Rattle.jcal_texts.specs.Trying.{Tried};
 ghost use Rattle.jcal_values.specs.Attempts.{answered};
 use crate::forms::put_period;
@@ -41,7 +41,7 @@ fn attempt(stands: bool, q: usize) -> Attempt
 
 // Tests the value and writes it.
 pub(crate) fn put_tested_one(out: &mut [u8], at: usize, sort: Sort, s: &[u8]) -> Attempt
-    ensures { λ r. ⌜ Tried (readOne (sortSaid sort) (now (s .entry))) print (pen (now (out .entry)) at) (now (out .exit)) r ⌝ }
+    ensures { λ r. ⌜ Tried (readAlone (sortSaid sort) (now (s .entry))) print (pen (now (out .entry)) at) (now (out .exit)) r ⌝ }
 {
     match sort {
         Sort::Plain => put_tested_plain(out, at, &*s),

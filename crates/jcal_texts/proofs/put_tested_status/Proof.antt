@@ -4,8 +4,8 @@ use Prim.Native.Char.{code}
 use mathlib.Core.Bool.{false}
 use mathlib.Core.Path.{refl}
 use Rattle.octets.specs.Pen.{pen}
+use Rattle.values.specs.TextWalk.{textsFrom}
 use Rattle.values.specs.Shown.{runOctet}
-use Rattle.values.specs.Texts.{textsFrom}
 use Rattle.jcal_texts.specs.Trying.{WroteTexts}
 use Rattle.jcal_texts.specs.declared.Texts.the-variants.{Wrote as Counted}
 use Rattle.jcal_texts.proofs.Counts.{status-few, status-many, status-stands, no-fields}

@@ -6,8 +6,8 @@ use mathlib.Core.Path.{refl}
 use borrow.Author.Tests.{eq-eqb, ne-eqb}
 use Rattle.octets.specs.Pen.{pen}
 use Rattle.octets.proofs.Cases.{or-first, or-second, or-false}
+use Rattle.values.specs.TextWalk.{textsFrom}
 use Rattle.values.specs.Shown.{runOctet}
-use Rattle.values.specs.Texts.{textsFrom}
 use Rattle.jcal_texts.specs.Trying.{WroteTexts}
 use Rattle.jcal_texts.specs.declared.Texts.the-variants.{Wrote as Counted}
 use Rattle.jcal_texts.proofs.Counts.{texts-stand, texts-differ, no-texts}

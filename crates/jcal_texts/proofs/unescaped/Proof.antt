@@ -1,6 +1,6 @@
 -- `jcal_texts::unescaped` meets its contract.
 use borrow.Author.Tests.{ne-eqb}
-use Rattle.values.specs.Texts.{act}
+use Rattle.values.specs.TextWalk.{act}
 use Rattle.jcal_texts.proofs.unescaped.Statement.{statement}
 use Rattle.jcal_texts.proofs.unescaped.Tie as tie
 
