@@ -9,14 +9,14 @@ use lib.Dec.{eqb, leb, ltb}
 use lib.ListN.{length, take, drop, length-append}
 use lib.Seq.{take-append-seam, take-length}
 use Rattle.octets.specs.Basics.{octets, all, All}
-use Rattle.octets.specs.Classes.{between, isDigit, hexDigit}
+use Rattle.octets.specs.Classes.{between, isDigit, hexDigit, isSpace}
 use Rattle.octets.specs.Limits.{mostOpen}
 use Rattle.octets.specs.Utf8.{Due, start, lead, due, dueAfter, isStart, utf8}
 use Rattle.octets.proofs.Cases.{cases, never, both, either, and-true}
 use Rattle.octets.proofs.Classes.{between-true, above-between}
 use Rattle.octets.proofs.Utf8.{ascii, ascii-low, ascii-high, broken-stays, start-is, due-ascii, utf8-ascii, utf8-append, ascii-utf8}
 use Rattle.json.specs.Tree.{Json, null, falsity, truth, num, str, arr, obj, Items, noItems, item, Members, noMembers, member, itemsOf}
-use Rattle.json.specs.Reads.{Out, ok, deep, fmap, andThen, isSpace, skipSpace, literal}
+use Rattle.json.specs.Reads.{Out, ok, deep, fmap, andThen, skipSpace, literal}
 use Rattle.json.specs.Numbers.{NumberPlace, start as startPlace, isExponent, advance, isBeyond, numberEnds, scan, numberRead}
 use Rattle.json.specs.Strings.{escapeOf, digit, hex4, lowOf, lowSurrogate, partner, unit, unicode, escape, piece, stringPieces, string}
 use Rattle.json.specs.Reader.{Opening, bracket, brace, quote, numeral, nullWord, falseWord, trueWord, other, openingOf, Separator, comma, close, odd, separatorOf, colon, memberKey, Pair, pair, membersFrom, afterElement, onMark, elementsUpTo, elementsFrom, bracketed, valueBy, valueWith, valueWithin, nothingBehind, parseText}

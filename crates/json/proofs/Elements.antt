@@ -13,8 +13,9 @@ use Rattle.octets.specs.Pen.{Pen, pen}
 use Rattle.octets.proofs.Cases.{cases}
 use Rattle.octets.proofs.Pen as pens
 use Rattle.octets.proofs.Positions.{here, ended}
+use Rattle.octets.specs.Classes.{isSpace}
 use Rattle.json.specs.Tree.{Json}
-use Rattle.json.specs.Reads.{Out, bad, fmap, andThen, isSpace, skipSpace, literal}
+use Rattle.json.specs.Reads.{Out, bad, fmap, andThen, skipSpace, literal}
 use Rattle.json.specs.Reader.{Separator, comma, close, odd, separatorOf, memberKey, pair, afterElement, onMark, elementsUpTo, elementsFrom, bracketed}
 use Rattle.json.specs.Tape.{tagEnd, serString, ser}
 use Rattle.json.specs.Promise.{Run, Agrees}

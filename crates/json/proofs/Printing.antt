@@ -10,11 +10,11 @@ use lib.Dec.{eqb, leb, ltb}
 use lib.ListN.{length, take, length-append}
 use lib.Seq.{take-append-seam}
 use Rattle.octets.specs.Basics.{_or_, all, All}
-use Rattle.octets.specs.Classes.{isDigit, between, isControl, plainOctet, textOctet}
+use Rattle.octets.specs.Classes.{isDigit, between, isControl, plainOctet, textOctet, isSpace}
 use Rattle.octets.specs.Limits.{mostOpen}
 use Rattle.octets.proofs.Cases.{cases, same?, never, both, neither, either, or-first, or-second, apart, apart-not}
 use Rattle.json.specs.Tree.{Json, null, falsity, truth, num, str, arr, obj, Items, noItems, item, Members, noMembers, member, itemsOf, listOfItems}
-use Rattle.json.specs.Reads.{Out, ok, deep, bad, fmap, andThen, isSpace, skipSpace, literal}
+use Rattle.json.specs.Reads.{Out, ok, deep, bad, fmap, andThen, skipSpace, literal}
 use Rattle.json.specs.Numbers.{NumberPlace, start, minus, zero as zeroPlace, int, point, frac, e, sign, exp, beyond, isExponent, isPlusMinus, behindInt, firstDigit, advance, isBeyond, numberEnds, scan, numberRead}
 use Rattle.json.specs.Strings.{escapeOf, escape, piece, stringPieces, string}
 use Rattle.json.specs.Reader.{numeral, openingOf, separatorOf, colon, memberKey, Pair, pair, membersFrom, afterElement, onMark, elementsUpTo, elementsFrom, bracketed, valueBy, valueWith, valueWithin, nothingBehind, parseText}

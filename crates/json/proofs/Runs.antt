@@ -1,31 +1,18 @@
 -- Runs of octets of a class: what a loop that looks for a run's end keeps, and what a run tells.
 use Prim.Native.Nat.{ℕ, zero, suc, _+_, _-_, _≤_, _<_}
 use mathlib.Core.Path.{_≡_, refl, ap, _∙_}
-use mathlib.Core.Bool.{Bool, true, false}
+use mathlib.Core.Bool.{Bool, true, false, not}
 use mathlib.Core.List.{List, [], _∷_, _++_}
 use native.Mathlib.Omega.{arith}
 use lib.ListN.{length, take, drop, getD}
-use lib.Seq.{drop-drop}
 use Rattle.octets.specs.Basics.{all}
+use Rattle.octets.specs.Search.{until}
 use lib.Dec.{eqb, ltb}
-use borrow.Author.Tests.{ltb-true, ltb-false, eq-eqb, ne-eqb}
-use Rattle.octets.proofs.Cases.{cases, never, both, and-true, all-append}
+use borrow.Author.Tests.{ltb-true, ltb-false, eq-eqb, ne-eqb, not-true, not-false}
+use Rattle.octets.proofs.Cases.{cases, never, both, and-true, all-append, All-weaker, All-all}
 use Rattle.octets.proofs.Positions.{here, ended, part-rest, part-more, past-end}
+use Rattle.octets.proofs.Search.{until-free, scan-low, scan-high, scan-is, scan-stop}
 use Rattle.json.specs.Promise.{Passed, Run}
-
--- a part is two, one behind the other
-take-both : (a b : ℕ) (s : List ℕ) → take (a + b) s ≡ take a s ++ take b (drop a s)
-take-both zero b s = let e : 0 + b ≡ b = omega arith in rw e
-take-both (suc a) zero [] = let e : suc a + 0 ≡ suc (a + 0) = omega arith in rw e
-take-both (suc a) (suc b) [] = let e : suc a + suc b ≡ suc (a + suc b) = omega arith in rw e
-take-both (suc a) b (x ∷ s) = let e : suc a + b ≡ suc (a + b) = omega arith in rw e (ap (λ (r : List ℕ). x ∷ r) (take-both a b s))
-
-two-parts : (s : List ℕ) (at i e : ℕ) → at ≤ i → i ≤ e → take (e - at) (drop at s) ≡ take (i - at) (drop at s) ++ take (e - i) (drop i s)
-two-parts s at i e h l =
-    let q : e - at ≡ i - at + (e - i) = omega arith in
-    let k : at + (i - at) ≡ i = omega arith in
-    let d : drop (i - at) (drop at s) ≡ drop i s = drop-drop (i - at) at s ∙ ap (λ (n : ℕ). drop n s) k in
-    rw q (take-both (i - at) (e - i) (drop at s) ∙ rw d)
 
 module _ {class : ℕ → Bool} {text : List ℕ} {at : ℕ} where
   pub passed-none : at ≤ length text → Passed class text at at
@@ -42,19 +29,22 @@ module _ {class : ℕ → Bool} {text : List ℕ} {at : ℕ} where
     inside = ap (all class) (part-more text at i (p .above) h) ∙ all-append class (take (i - at) (drop at text)) (getD text i 0 ∷ []) ∙ and-true (p .inside) (rw e);
   }
 
-  -- a part all of whose octets are of the class
-  pub passed-part : {i : ℕ} (e : ℕ) → Passed class text at i → i ≤ e → e ≤ length text → all class (take (e - i) (drop i text)) ≡ true → Passed class text at e
-  passed-part {i} e p l m h = record {
-    above = omega (arith, p .above);
-    below = m;
-    inside = ap (all class) (two-parts text at i e (p .above) l) ∙ all-append class (take (i - at) (drop at text)) (take (e - i) (drop i text)) ∙ and-true (p .inside) h;
-  }
-
   pub run-over : {i : ℕ} → Passed class text at i → class (getD text i 0) ≡ false → Run class text at i
   run-over p e = record { above = p .above; below = p .below; inside = p .inside; over = λ h. e }
 
   pub run-end : {i : ℕ} → Passed class text at i → length text ≤ i → Run class text at i
   run-end p h = record { above = p .above; below = p .below; inside = p .inside; over = λ l. absurd (omega arith) }
+
+-- what the search for a run's end answers
+pub run-found : {class : ℕ → Bool} (text : List ℕ) (at r : ℕ) → at ≤ length text → r ≡ at + length (until (λ c. not (class c)) (drop at text)) → Run class text at r
+run-found {class} text at r h q =
+    let off : ℕ → Bool = λ c. not (class c) in
+    record {
+      above = scan-low off text at r q;
+      below = scan-high off text at r q h;
+      inside = rw (scan-is off text at r q) (All-all class (until off (drop at text)) (All-weaker (λ c e. not-false (class c) e) (until off (drop at text)) (until-free off (drop at text))));
+      over = λ l. not-true _ (scan-stop off text at r q l);
+    }
 
 -- a place of the text: an octet stands there, or it is the end
 pub at-place : {P : Type 0} (text : List ℕ) (i : ℕ) → i ≤ length text → (i < length text → P) → (drop i text ≡ [] → P) → P

@@ -8,8 +8,9 @@ use lib.Dec.{eqb}
 use lib.ListN.{length, take, length-append, length-take}
 use Rattle.octets.specs.Basics.{octets}
 use Rattle.octets.specs.Limits.{mostOpen}
+use Rattle.octets.specs.Classes.{isSpace}
 use Rattle.json.specs.Tree.{Json, null, falsity, truth, num, str, arr, obj, itemsOf}
-use Rattle.json.specs.Reads.{Out, ok, deep, isSpace, skipSpace, literal}
+use Rattle.json.specs.Reads.{Out, ok, deep, skipSpace, literal}
 use Rattle.json.specs.Numbers.{NumberPlace, start, advance, isBeyond, numberEnds, scan, numberRead}
 use Rattle.json.specs.Strings.{piece, stringPieces, string}
 use Rattle.json.specs.Reader.{Opening, bracket, brace, quote, numeral, nullWord, falseWord, trueWord, other, openingOf, Separator, comma, close, odd, separatorOf, colon, memberKey, Pair, pair, membersFrom, afterElement, onMark, elementsUpTo, elementsFrom, bracketed, valueBy, valueWith, valueWithin, nothingBehind, parseText}

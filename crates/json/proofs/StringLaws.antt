@@ -7,16 +7,16 @@ use native.Mathlib.Omega.{arith}
 use lib.Dec.{eqb, leb, ltb}
 use lib.ListN.{length, take, drop, getD, length-drop}
 use lib.Seq.{drop-drop}
-use borrow.Author.Tests.{ne-eqb, eq-eqb, ltb-true, ltb-false, lt-ltb, le-ltb, le-leb, lt-leb, eqb-false, not-true}
+use borrow.Author.Tests.{ne-eqb, eq-eqb, ltb-true, ltb-false, lt-ltb, le-ltb, leb-true, leb-false, eqb-false, not-true}
 use Rattle.octets.specs.Basics.{pick, _and_, _or_, all}
-use Rattle.octets.specs.Classes.{between, isDigit, hexDigit}
+use Rattle.octets.specs.Classes.{between, isDigit, hexDigit, unescaped}
 use Rattle.octets.specs.Pen.{Pen, Wrote}
-use Rattle.octets.proofs.Cases.{cases, never, both, neither, or-false, pick-same}
+use Rattle.octets.proofs.Cases.{cases, never, both, and-true-right, pick-same}
 use Rattle.octets.proofs.Classes.{between-true}
 use Rattle.octets.proofs.Positions.{here, ended, past-end, part-rest}
 use Rattle.json.specs.Reads.{Out, ok, deep, bad, fmap, andThen}
 use Rattle.json.specs.Strings.{escapeOf, digit, hex4, utf8Of, lowOf, lowSurrogate, partner, unit, unicode, escape, piece, stringPieces, string}
-use Rattle.json.specs.Promise.{Run, hexCode, unescaped}
+use Rattle.json.specs.Promise.{Run, hexCode}
 use Rattle.json.proofs.Outs.{Gives, gives-weaker, by, then-alike, map-map, map-same}
 use Rattle.json.proofs.Runs.{inside, inside-is}
 
@@ -211,13 +211,13 @@ string-nil = refl
 plain-is : (b : ℕ) → unescaped b ≡ true → (ltb b 32 ≡ false) × (eqb b 34 ≡ false) × (eqb b 92 ≡ false)
 unfolding unescaped
 plain-is b e =
-    let w = neither (ltb b 32) (eqb b 34 or eqb b 92) (not-true _ e) in
-    let v = neither (eqb b 34) (eqb b 92) (w .1) in
-    (w .0, v .0, v .1)
+    let w = both (leb 32 b) (not (eqb b 34) and not (eqb b 92)) e in
+    let v = both (not (eqb b 34)) (not (eqb b 92)) (w .1) in
+    (le-ltb b 32 (leb-true 32 b (w .0)), not-true _ (v .0), not-true _ (v .1))
 
 plain-not : (b : ℕ) → unescaped b ≡ false → eqb b 34 ≡ false → eqb b 92 ≡ false → ltb b 32 ≡ true
 unfolding unescaped
-plain-not b e x y = cases (ltb b 32) (λ h. h) (λ h. never (ap not (or-false h (or-false x y))) e)
+plain-not b e x y = lt-ltb b 32 (leb-false 32 b (sym (and-true-right (leb 32 b)) ∙ rw (x, y) at e))
 
 string-plain : (b : ℕ) (s : List ℕ) → unescaped b ≡ true → string (b ∷ s) ≡ fmap (λ ys. b ∷ ys) (string s)
 unfolding piece
@@ -322,16 +322,3 @@ module _ (text : List ℕ) (i : ℕ) where
     pub escape-one : ((x ≡ 0) → ⊥) → escape (drop i text) ≡ ok (x ∷ []) (drop (i + 1) text)
     unfolding escape
     escape-one z = rw (here text i (escape-inside z), ne-eqb _ 117 n, ← e, ne-eqb x 0 z)
-
--- an octet above the backslash stands for itself
-pub high-unescaped : (b : ℕ) → 92 < b → true ≡ unescaped b
-unfolding unescaped
-high-unescaped b h = rw (le-ltb b 32 (omega arith), ne-eqb b 34 (λ z. omega arith), ne-eqb b 92 (λ z. omega arith))
-
--- the three tests of an octet, one behind the other
-pub by-tests : (f : Bool) (b : ℕ) → (((f and leb 32 b) and not (eqb b 34)) and not (eqb b 92)) ≡ (f and unescaped b)
-unfolding unescaped
-by-tests false b = refl
-by-tests true b = cases (ltb b 32)
-    (λ e. rw (e, lt-leb 32 b (ltb-true b 32 e)))
-    (λ e. cases (eqb b 34) (λ q. rw (e, le-leb 32 b (ltb-false b 32 e), q)) (λ q. rw (e, le-leb 32 b (ltb-false b 32 e), q)))

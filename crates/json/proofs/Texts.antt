@@ -9,10 +9,11 @@ use types.Run.{OneOf}
 use denote.Enum.Declared.{tagOf}
 use lib.ListN.{take, drop, getD}
 use Rattle.octets.specs.Pen.{Pen, pen, Wrote}
+use Rattle.octets.specs.Classes.{unescaped}
 use Rattle.json.specs.Reads.{fmap, andThen}
 use Rattle.json.specs.Strings.{escape, string}
 use Rattle.json.specs.Tape.{tagEnd, serText}
-use Rattle.json.specs.Promise.{Run, Agrees, read, not-json, unescaped}
+use Rattle.json.specs.Promise.{Run, Agrees, read, not-json}
 use Rattle.json.specs.declared.Step.{Step}
 use Rattle.json.specs.declared.Step.the-variants.{Read, NotJson}
 use Rattle.json.proofs.Step.{the-type}

@@ -12,16 +12,16 @@ use lib.Dec.{eqb, ltb}
 use lib.ListN.{length, take, drop, getD, length-drop}
 use borrow.Author.Tests.{ne-eqb, ltb-true, ltb-false}
 use Rattle.octets.specs.Basics.{octets, pick, _or_}
-use Rattle.octets.specs.Classes.{isDigit, between}
+use Rattle.octets.specs.Classes.{isDigit, between, isSpace}
 use Rattle.octets.specs.Limits.{mostOpen}
 use Rattle.octets.specs.Pen.{Pen, Wrote}
 use Rattle.octets.proofs.Cases.{cases, neither, apart-not}
 use Rattle.octets.proofs.Positions.{here, ended, past-end}
 use Rattle.json.specs.Tree.{Json, null, falsity, truth, num, str, arr, obj, itemsOf}
-use Rattle.json.specs.Reads.{Out, ok, deep, bad, fmap, andThen, isSpace, skipSpace, literal}
+use Rattle.json.specs.Reads.{Out, ok, deep, bad, fmap, andThen, skipSpace, literal}
 use Rattle.json.specs.Numbers.{start, firstDigit, advance, numberEnds, scan, numberRead}
 use Rattle.json.specs.Strings.{string}
-use Rattle.json.specs.Reader.{Opening, bracket, brace, quote, numeral, nullWord, falseWord, trueWord, other, openingOf, colon, memberKey, Pair, pair, membersFrom, bracketed, valueBy, valueWith, valueWithin, nothingBehind as endedOf, parseText}
+use Rattle.json.specs.Reader.{Opening, bracket, brace, quote, numeral, nullWord, falseWord, trueWord, other, openingOf, colon, memberKey, Pair, pair, membersFrom, bracketed, valueBy, valueWith, valueWithin, nothingBehind, parseText}
 use Rattle.json.specs.Tape.{tagNull, tagFalse, tagTrue, tagNumber, tagArray, tagObject, serText, serString, ser}
 use Rattle.json.specs.Promise.{Run, Agrees}
 use Rattle.json.specs.declared.Step.{Step}
@@ -199,7 +199,7 @@ module _ (text : List ℕ) (i d : ℕ) (a : (getD text i 0 ≡ 91) → ⊥) (o :
 
 -- a whole text: white space up to i, a value up to e, white space up to n
 module _ (text : List ℕ) {i : ℕ} (blank : Run isSpace text 0 i) where
-  text-at : parseText text ≡ andThen (valueWithin mostOpen (drop i text)) (λ j s. endedOf j (skipSpace s))
+  text-at : parseText text ≡ andThen (valueWithin mostOpen (drop i text)) (λ j s. nothingBehind j (skipSpace s))
   unfolding parseText
   text-at = rw (skip-run text blank)
 
@@ -207,13 +207,13 @@ module _ (text : List ℕ) {i : ℕ} (blank : Run isSpace text 0 i) where
   text-fails {low} {low′} n x = agrees-by text-at (le-refl low′) (agrees-fails _ n x)
 
   module _ {low e n to : ℕ} {p : Pen} {t : List ℕ} (x : HasRead ser text low p t (valueWithin mostOpen (drop i text)) e to) (behind : Run isSpace text e n) where
-    text-ended : parseText text ≡ endedOf (x .it) (drop n text)
+    text-ended : parseText text ≡ nothingBehind (x .it) (drop n text)
     text-ended = text-at ∙ rw (x .is, ← (skip-run text behind))
 
     pub text-more : n < length text → parseText text ≡ bad
-    unfolding endedOf
+    unfolding nothingBehind
     text-more h = text-ended ∙ rw (here text n h)
 
     pub text-whole : length text ≤ n → parseText text ≡ ok (x .it) (drop n text)
-    unfolding endedOf
+    unfolding nothingBehind
     text-whole h = text-ended ∙ rw (ended text n h)

@@ -6,7 +6,8 @@ use mathlib.Core.List.{List, [], _∷_}
 use borrow.Author.Tests.{eq-eqb, ne-eqb}
 use lib.ListN.{length, drop, getD}
 use Rattle.octets.proofs.Positions.{here, ended}
-use Rattle.json.specs.Reads.{ok, bad, isSpace, skipSpace, literal}
+use Rattle.octets.specs.Classes.{isSpace}
+use Rattle.json.specs.Reads.{ok, bad, skipSpace, literal}
 use Rattle.json.specs.Promise.{Run}
 use Rattle.json.proofs.Runs.{at-place, run-passes}
 

@@ -1,12 +1,10 @@
 -- What the crate's own readers promise each other; `parse` promises what Parse says.
 use Prim.Native.Nat.{ℕ, _-_, _≤_, _<_}
 use mathlib.Core.Path.{_≡_}
-use Prim.Native.Char.{code}
-use mathlib.Core.Bool.{Bool, true, false, not}
-use lib.Dec.{eqb, ltb}
+use mathlib.Core.Bool.{Bool, true, false}
 use mathlib.Core.List.{List}
 use lib.ListN.{length, take, drop, getD}
-use Rattle.octets.specs.Basics.{_or_, all}
+use Rattle.octets.specs.Basics.{all}
 use Rattle.octets.specs.Pen.{Pen, pen, Wrote}
 use Rattle.json.specs.Reads.{Out, ok, deep, bad}
 use Rattle.json.specs.declared.Step.{Step}
@@ -43,11 +41,3 @@ unfoldable pub hexCode : Out ℕ → ℕ
 hexCode (ok n s) = n
 hexCode deep = 65536
 hexCode bad = 65536
-
--- an octet that stands for itself in a string (RFC 8259 7, unescaped)
-unfoldable pub unescaped : ℕ → Bool
-unescaped b = not (ltb b 32 or eqb b (code "\"") or eqb b (code "\\"))
-
--- an octet that is written as it is
-unfoldable pub asIsOctet : ℕ → Bool
-asIsOctet b = not (eqb b (code "\"") or eqb b (code "\\") or eqb b (code "\n") or eqb b (code "\t"))

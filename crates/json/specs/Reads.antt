@@ -1,10 +1,9 @@
 -- What reading gives, and the reading of white space and of literal names (RFC 8259 2, 3).
 use Prim.Native.Nat.{ℕ}
-use Prim.Native.Char.{code}
-use mathlib.Core.Bool.{Bool}
 use mathlib.Core.List.{List, [], _∷_}
 use lib.Dec.{eqb}
-use Rattle.octets.specs.Basics.{pick, _or_}
+use Rattle.octets.specs.Basics.{pick}
+use Rattle.octets.specs.Classes.{isSpace}
 
 -- a reader takes the octets from its place on: it gives what it read with the octets behind it;
 -- or that a 33rd array or object is opened (01, number 6); or that this is no JSON (number 11)
@@ -23,9 +22,6 @@ andThen deep k = deep
 andThen bad k = bad
 
 -- ws
-unfoldable pub isSpace : ℕ → Bool
-isSpace b = eqb b (code " ") or eqb b (code "\n") or eqb b (code "\r") or eqb b (code "\t")
-
 unfoldable pub skipSpace : List ℕ → List ℕ
 skipSpace [] = []
 skipSpace (b ∷ s) = pick (isSpace b) (skipSpace s) (b ∷ s)

@@ -12,14 +12,7 @@ fn past_digits(text: &[u8], at: usize) -> usize
     requires { ⌜ at ≤ length (now text) ⌝ }
     ensures { λ r. ⌜ Run isDigit (now (text .entry)) at r ⌝ }
 {
-    let mut i = at;
-    while i < text.len() {
-        if !octets::is_digit(text[i]) {
-            return i;
-        }
-        i += 1;
-    }
-    i
+    octets::run_end(text, at, octets::Class::Digit)
 }
 
 // One digit or more, to the end of a number.

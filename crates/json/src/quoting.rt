@@ -3,34 +3,17 @@ ghost use mathlib.Core.Path.{_≡_};
 ghost use Prim.Native.Nat.{_≤_};
 ghost use lib.ListN.{length};
 ghost use Rattle.octets.specs.Pen.{pen, Wrote};
+ghost use Rattle.octets.specs.Classes.{asIsOctet};
 ghost use Rattle.json.specs.Print.{escaped, printString};
-ghost use Rattle.json.specs.Promise.{Run, asIsOctet};
-
-fn is_bare(b: u8) -> bool
-    ensures { λ r. ⌜ r ≡ asIsOctet b ⌝ }
-{
-    match b {
-        b'"' => false,
-        b'\\' => false,
-        b'\n' => false,
-        b'\t' => false,
-        _ => true,
-    }
-}
+ghost use Rattle.json.specs.Promise.{Run};
+use octets::Class;
 
 // The place behind the octets at `at` that are written as they are.
 fn past_bare(s: &[u8], at: usize) -> usize
     requires { ⌜ at ≤ length (now s) ⌝ }
     ensures { λ r. ⌜ Run asIsOctet (now (s .entry)) at r ⌝ }
 {
-    let mut i = at;
-    while i < s.len() {
-        if !is_bare(s[i]) {
-            return i;
-        }
-        i += 1;
-    }
-    i
+    octets::run_end(s, at, Class::AsIs)
 }
 
 // Writes one octet of a string.

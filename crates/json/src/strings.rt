@@ -3,21 +3,18 @@ ghost use mathlib.Core.Path.{_≡_};
 ghost use mathlib.Core.List.{List};
 ghost use Prim.Native.Nat.{ℕ, _+_, _≤_, _<_};
 ghost use lib.ListN.{length, drop, getD};
-ghost use Rattle.octets.specs.Basics.{_and_, all};
-ghost use Rattle.octets.specs.Classes.{hexDigit};
+ghost use Rattle.octets.specs.Classes.{hexDigit, unescaped};
 ghost use Rattle.octets.specs.Pen.{pen, Wrote};
-ghost use Rattle.json.specs.Strings.{escapeOf, hex4 as hex4Of, utf8Of, lowSurrogate as lowOf, partner as partnerOf, unicode as unicodeOf, escape as escapeText, string as stringOf};
+ghost use Rattle.json.specs.Strings.{escapeOf, hex4 as hex4Of, utf8Of, lowSurrogate, partner as partnerOf, unicode as unicodeOf, escape as escapeText, string as stringOf};
 ghost use Rattle.json.specs.Tape.{serString};
-ghost use Rattle.json.specs.Promise.{Passed, Run, Agrees, hexCode, unescaped};
+ghost use Rattle.json.specs.Promise.{Run, Agrees, hexCode};
 use crate::END;
 use crate::STRING;
 use crate::Step;
+use octets::Class;
 
 // More than four hexadecimal digits can say.
 const NONE: usize = 65536;
-
-// Octets that are looked at together.
-const BLOCK: usize = 16;
 
 fn digit(text: &[u8], at: usize) -> usize
     ensures { λ r. ⌜ r ≡ hexDigit (getD (now (text .entry)) at 0) ⌝ }
@@ -52,7 +49,7 @@ fn hex4(text: &[u8], at: usize) -> usize
 // The low surrogate that stands next as an escape, or 0.
 fn low(text: &[u8], at: usize) -> usize
     requires { ⌜ at ≤ length (now text) ⌝ }
-    ensures { λ r. ⌜ r ≡ lowOf (drop at (now (text .entry))) ⌝ }
+    ensures { λ r. ⌜ r ≡ lowSurrogate (drop at (now (text .entry))) ⌝ }
 {
     if octets::peek(text, at) != b'\\' {
         return 0;
@@ -170,83 +167,12 @@ fn escape(text: &[u8], at: usize, tape: &mut [u8], to: usize) -> Step
     Step::Read(at + 1, octets::put(tape, to, x))
 }
 
-fn is_unescaped(b: u8) -> bool
-    ensures { λ r. ⌜ r ≡ unescaped b ⌝ }
-{
-    if b'\\' < b {
-        return true;
-    }
-    if b < 32 {
-        return false;
-    }
-    if b == b'"' {
-        return false;
-    }
-    b != b'\\'
-}
-
-// Both, with no branch.
-fn both(a: bool, b: bool) -> bool
-    ensures { λ r. ⌜ r ≡ (a and b) ⌝ }
-{
-    if a { b } else { false }
-}
-
-// Whether all octets stood for themselves, and b does; with no branch.
-fn still_unescaped(good: bool, b: u8) -> bool
-    ensures { λ r. ⌜ r ≡ (good and unescaped b) ⌝ }
-{
-    let high = both(good, 32 <= b);
-    let bare = both(high, b != b'"');
-    both(bare, b != b'\\')
-}
-
-// Whether all octets stand for themselves. The loop has no way out on the way, so that many octets are looked at together.
-fn all_unescaped(s: &[u8]) -> bool
-    ensures { λ r. ⌜ r ≡ all unescaped (now (s .entry)) ⌝ }
-{
-    let mut good = true;
-    let mut i = 0;
-    while i < s.len() {
-        good = still_unescaped(good, s[i]);
-        i += 1;
-    }
-    good
-}
-
-// A place up to which the octets from `at` on stand for themselves, block by block.
-fn past_blocks(text: &[u8], at: usize) -> usize
-    requires { ⌜ at ≤ length (now text) ⌝ }
-    ensures { λ r. ⌜ Passed unescaped (now (text .entry)) at r ⌝ }
-{
-    let n = text.len();
-    let mut i = at;
-    while i < n {
-        if n - i < BLOCK {
-            return i;
-        }
-        if all_unescaped(&text[i..i + BLOCK]) {
-            i += BLOCK;
-        } else {
-            return i;
-        }
-    }
-    i
-}
-
 // The place behind the octets at `at` that stand for themselves.
 fn past_unescaped(text: &[u8], at: usize) -> usize
     requires { ⌜ at ≤ length (now text) ⌝ }
     ensures { λ r. ⌜ Run unescaped (now (text .entry)) at r ⌝ }
 {
-    let mut i = past_blocks(text, at);
-    while i < text.len() {
-        if !is_unescaped(text[i]) {
-            return i;
-        }
-        i += 1;
-    }
-    i
+    octets::long_run_end(text, at, Class::Unescaped)
 }
 
 // Reads what follows an opening quote; octets that stand for themselves are copied run by run.

@@ -5,8 +5,8 @@ ghost use Prim.Native.Nat.{ℕ, _+_, _≤_};
 ghost use lib.ListN.{length, drop, getD};
 ghost use Rattle.octets.specs.Pen.{pen};
 ghost use Rattle.json.specs.Reads.{literal as wordOf};
-ghost use Rattle.json.specs.Numbers.{numberRead as numberOf};
-ghost use Rattle.json.specs.Reader.{bracket, brace, openingOf, memberKey as keyOf, valueWithin as valueOf, parseText};
+ghost use Rattle.json.specs.Numbers.{numberRead};
+ghost use Rattle.json.specs.Reader.{bracket, brace, openingOf, memberKey, valueWithin, parseText};
 ghost use Rattle.json.specs.Tape.{tagNumber, tagEnd, serText, serString, ser};
 ghost use Rattle.json.specs.Parse.{taped, parsedOnto};
 ghost use Rattle.json.specs.Promise.{Agrees};
@@ -40,7 +40,7 @@ fn literal(text: &[u8], at: usize, word: &[u8], tape: &mut [u8], to: usize, tag:
 // Reads a number, kept as its text.
 fn number(text: &[u8], at: usize, tape: &mut [u8], to: usize) -> Step
     requires { ⌜ at ≤ length (now text) ⌝ }
-    ensures { λ r. ⌜ Agrees (λ (t : List ℕ). tagNumber ∷ serText t) (now (text .entry)) (at + 1) (pen (now (tape .entry)) to) (now (tape .exit)) (numberOf (drop at (now (text .entry)))) r ⌝ }
+    ensures { λ r. ⌜ Agrees (λ (t : List ℕ). tagNumber ∷ serText t) (now (text .entry)) (at + 1) (pen (now (tape .entry)) to) (now (tape .exit)) (numberRead (drop at (now (text .entry)))) r ⌝ }
 {
     let f = past_number(text, at);
     match f {
@@ -56,7 +56,7 @@ fn number(text: &[u8], at: usize, tape: &mut [u8], to: usize) -> Step
 // Reads a key, up to its value.
 fn key(text: &[u8], at: usize, tape: &mut [u8], to: usize) -> Step
     requires { ⌜ at ≤ length (now text) ⌝ }
-    ensures { λ r. ⌜ Agrees serString (now (text .entry)) (at + 1) (pen (now (tape .entry)) to) (now (tape .exit)) (keyOf (drop at (now (text .entry)))) r ⌝ }
+    ensures { λ r. ⌜ Agrees serString (now (text .entry)) (at + 1) (pen (now (tape .entry)) to) (now (tape .exit)) (memberKey (drop at (now (text .entry)))) r ⌝ }
 {
     if octets::peek(text, at) != b'"' {
         return Step::NotJson;
@@ -89,7 +89,7 @@ fn close(text: &[u8], at: usize, end: u8, tape: &mut [u8], to: usize) -> Step
 // Reads a value in which at most `left` arrays and objects are open at once.
 fn value(text: &[u8], at: usize, left: usize, tape: &mut [u8], to: usize) -> Step
     requires { ⌜ at ≤ length (now text) ⌝ }
-    ensures { λ r. ⌜ Agrees ser (now (text .entry)) (at + 1) (pen (now (tape .entry)) to) (now (tape .exit)) (valueOf left (drop at (now (text .entry)))) r ⌝ }
+    ensures { λ r. ⌜ Agrees ser (now (text .entry)) (at + 1) (pen (now (tape .entry)) to) (now (tape .exit)) (valueWithin left (drop at (now (text .entry)))) r ⌝ }
 {
     match octets::peek(&*text, at) {
         b'[' => array(&*text, at, left, tape, to),
@@ -105,7 +105,7 @@ fn value(text: &[u8], at: usize, left: usize, tape: &mut [u8], to: usize) -> Ste
 // Reads a value: a string at once, and any other by `value`.
 fn element(text: &[u8], at: usize, left: usize, tape: &mut [u8], to: usize) -> Step
     requires { ⌜ at ≤ length (now text) ⌝ }
-    ensures { λ r. ⌜ Agrees ser (now (text .entry)) (at + 1) (pen (now (tape .entry)) to) (now (tape .exit)) (valueOf left (drop at (now (text .entry)))) r ⌝ }
+    ensures { λ r. ⌜ Agrees ser (now (text .entry)) (at + 1) (pen (now (tape .entry)) to) (now (tape .exit)) (valueWithin left (drop at (now (text .entry)))) r ⌝ }
 {
     if octets::peek(&*text, at) == b'"' {
         return string(&*text, at + 1, tape, to);
@@ -116,7 +116,7 @@ fn element(text: &[u8], at: usize, left: usize, tape: &mut [u8], to: usize) -> S
 // Reads a value whose first octet, at `at`, is `[`.
 fn array(text: &[u8], at: usize, left: usize, tape: &mut [u8], to: usize) -> Step
     requires { ⌜ openingOf (getD (now text) at 0) ≡ bracket ⌝ }
-    ensures { λ r. ⌜ Agrees ser (now (text .entry)) (at + 1) (pen (now (tape .entry)) to) (now (tape .exit)) (valueOf left (drop at (now (text .entry)))) r ⌝ }
+    ensures { λ r. ⌜ Agrees ser (now (text .entry)) (at + 1) (pen (now (tape .entry)) to) (now (tape .exit)) (valueWithin left (drop at (now (text .entry)))) r ⌝ }
 {
     if left == 0 {
         return Step::TooDeep;
@@ -143,7 +143,7 @@ fn array(text: &[u8], at: usize, left: usize, tape: &mut [u8], to: usize) -> Ste
 // Reads a value whose first octet, at `at`, is `{`.
 fn object(text: &[u8], at: usize, left: usize, tape: &mut [u8], to: usize) -> Step
     requires { ⌜ openingOf (getD (now text) at 0) ≡ brace ⌝ }
-    ensures { λ r. ⌜ Agrees ser (now (text .entry)) (at + 1) (pen (now (tape .entry)) to) (now (tape .exit)) (valueOf left (drop at (now (text .entry)))) r ⌝ }
+    ensures { λ r. ⌜ Agrees ser (now (text .entry)) (at + 1) (pen (now (tape .entry)) to) (now (tape .exit)) (valueWithin left (drop at (now (text .entry)))) r ⌝ }
 {
     if left == 0 {
         return Step::TooDeep;

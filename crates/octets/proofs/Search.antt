@@ -7,7 +7,7 @@ use native.Mathlib.Omega.{arith}
 use lib.ListN.{length, getD, take, drop, length-drop}
 use lib.Seq.{take-all, drop-drop, getD-drop}
 use Rattle.octets.specs.Basics.{pick, all, All}
-use Rattle.octets.proofs.Cases.{both}
+use Rattle.octets.proofs.Cases.{both, all-weaker}
 use Rattle.octets.proofs.Positions.{here, ended}
 use Rattle.octets.specs.Search.{until, Sought}
 
@@ -146,3 +146,8 @@ module _ (stop : ℕ → Bool) where
 
     pub scan-whole : length s ≤ e → until stop (drop i s) ≡ drop i s
     scan-whole h = until-whole (drop i s) (rw (length-drop i s) (omega arith))
+
+-- octets of a class are passed together
+pub run-past : (p : ℕ → Bool) (s : List ℕ) (i e : ℕ) → i ≤ e → e ≤ length s → all p (take (e - i) (drop i s)) ≡ true
+    → e + length (until (λ c. not (p c)) (drop e s)) ≡ i + length (until (λ c. not (p c)) (drop i s))
+run-past p s i e l m h = until-past (λ c. not (p c)) s i e l m (all-weaker p (λ c. not (not (p c))) (λ x k. rw k) (take (e - i) (drop i s)) h)

@@ -1,9 +1,9 @@
--- The classes of octets by name, for the tests over a whole slice, and the two cases.
+-- The classes of octets by name, for tests over a whole slice and for runs, and the two cases.
 use Prim.Native.Nat.{ℕ}
 use mathlib.Core.Bool.{Bool}
-use Rattle.octets.specs.Classes.{isDigit, nameOctet, lowerNameOctet, plainOctet, textOctet, upperOctet, lowerOctet}
+use Rattle.octets.specs.Classes.{isDigit, nameOctet, lowerNameOctet, plainOctet, textOctet, isSpace, unescaped, asIsOctet, upperOctet, lowerOctet}
 use Rattle.octets.specs.declared.names.Class.{Class}
-use Rattle.octets.specs.declared.names.Class.the-variants.{Digit, Name, LowerName, Plain, Text}
+use Rattle.octets.specs.declared.names.Class.the-variants.{Digit, Name, LowerName, Plain, Text, Space, Unescaped, AsIs}
 use Rattle.octets.specs.declared.names.Case.{Case}
 use Rattle.octets.specs.declared.names.Case.the-variants.{Upper, Lower}
 
@@ -13,6 +13,9 @@ belongs Name c = nameOctet c
 belongs LowerName c = lowerNameOctet c
 belongs Plain c = plainOctet c
 belongs Text c = textOctet c
+belongs Space c = isSpace c
+belongs Unescaped c = unescaped c
+belongs AsIs c = asIsOctet c
 
 abbrev pub cased : Case → ℕ → ℕ
 cased Upper c = upperOctet c

@@ -7,6 +7,7 @@ mod settling;
 mod writing;
 
 pub use encoding::is_utf8;
+pub use names::Class;
 pub use names::all_digits;
 pub use names::all_plain;
 pub use names::all_text;
@@ -37,6 +38,8 @@ pub use numbers::sign_length;
 pub use numbers::value_of;
 pub use searching::find;
 pub use searching::is_free;
+pub use searching::long_run_end;
+pub use searching::run_end;
 pub use settling::finish;
 pub use settling::refuse;
 pub use writing::put;

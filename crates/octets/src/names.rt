@@ -4,19 +4,22 @@ ghost use mathlib.Core.List.{_++_, map};
 ghost use Prim.Native.Nat.{_+_, _≤_};
 ghost use lib.ListN.{length, take, drop, getD};
 ghost use Rattle.octets.specs.Basics.{_and_, all, same};
-ghost use Rattle.octets.specs.Classes.{between, isDigit, isUpper, isLower, nameOctet, isName, lowerNameOctet, isLowerName, plainOctet, textOctet, upperOctet, lowerOctet, upper, lower, sameName, hexDigit};
+ghost use Rattle.octets.specs.Classes.{between, isDigit, isUpper, isLower, nameOctet, isName, lowerNameOctet, isLowerName, plainOctet, textOctet, isSpace, unescaped, asIsOctet, upperOctet, lowerOctet, upper, lower, sameName, hexDigit};
 ghost use Rattle.octets.specs.Decimal.{digits};
 ghost use Rattle.octets.specs.Groups.{belongs, cased};
 ghost use Rattle.octets.specs.Pen.{pen, Wrote};
 use crate::writing::put;
 
-// A class of octets that a whole slice can be tested for.
-enum Class {
+// A class of octets that a whole slice can be tested for, and whose runs are looked for.
+pub enum Class {
     Digit,
     Name,
     LowerName,
     Plain,
     Text,
+    Space,
+    Unescaped,
+    AsIs,
 }
 
 pub(crate) fn within(lo: u8, hi: u8, c: u8) -> bool
@@ -86,6 +89,39 @@ pub fn is_text_octet(c: u8) -> bool
     c == b'\n'
 }
 
+// White space of JSON.
+fn is_space(c: u8) -> bool
+    ensures { λ r. ⌜ r ≡ isSpace c ⌝ }
+{
+    match c {
+        b' ' => true,
+        b'\n' => true,
+        b'\r' => true,
+        b'\t' => true,
+        _ => false,
+    }
+}
+
+// Stands for itself in a JSON string; with no branch.
+fn is_unescaped(c: u8) -> bool
+    ensures { λ r. ⌜ r ≡ unescaped c ⌝ }
+{
+    both(32 <= c, both(c != b'"', c != b'\\'))
+}
+
+// Is written into a JSON string as it is.
+fn is_as_is(c: u8) -> bool
+    ensures { λ r. ⌜ r ≡ asIsOctet c ⌝ }
+{
+    match c {
+        b'"' => false,
+        b'\\' => false,
+        b'\n' => false,
+        b'\t' => false,
+        _ => true,
+    }
+}
+
 pub fn upper_octet(c: u8) -> u8
     ensures { λ r. ⌜ r ≡ upperOctet c ⌝ }
 {
@@ -132,7 +168,7 @@ pub fn hex_digit(c: u8) -> u8
 }
 
 impl Class {
-    fn has(self, c: u8) -> bool
+    pub(crate) fn has(self, c: u8) -> bool
         ensures { λ r. ⌜ r ≡ belongs self c ⌝ }
     {
         match self {
@@ -141,6 +177,9 @@ impl Class {
             Class::LowerName => is_lower_name_octet(c),
             Class::Plain => is_plain_octet(c),
             Class::Text => is_text_octet(c),
+            Class::Space => is_space(c),
+            Class::Unescaped => is_unescaped(c),
+            Class::AsIs => is_as_is(c),
         }
     }
 }
@@ -153,7 +192,7 @@ pub fn both(a: bool, b: bool) -> bool
 }
 
 // Each octet is of the class. The loop has no way out on the way, so that many octets are tested at once.
-fn all_in(s: &[u8], class: Class) -> bool
+pub(crate) fn all_in(s: &[u8], class: Class) -> bool
     ensures { λ r. ⌜ r ≡ all (belongs class) (now (s .entry)) ⌝ }
 {
     let mut so_far = true;

@@ -1,11 +1,14 @@
-// The search for an octet.
+// The search for an octet, and for the end of a run of octets of a class.
 ghost use mathlib.Core.Path.{_≡_};
 ghost use mathlib.Core.Bool.{not};
 ghost use Prim.Native.Nat.{_+_, _≤_};
 ghost use lib.Dec.{eqb};
 ghost use lib.ListN.{length, drop};
 ghost use Rattle.octets.specs.Basics.{_and_, all};
+ghost use Rattle.octets.specs.Groups.{belongs};
 ghost use Rattle.octets.specs.Search.{until, Sought};
+use crate::names::Class;
+use crate::names::all_in;
 
 // Octets that are looked at together.
 const BLOCK: usize = 16;
@@ -117,6 +120,38 @@ pub fn find(s: &[u8], at: usize, b: u8) -> usize
             return e;
         }
         i = e;
+    }
+    i
+}
+
+// The end of the octets of the class from `at` on.
+pub fn run_end(s: &[u8], at: usize, class: Class) -> usize
+    ensures { λ r. ⌜ r ≡ at + length (until (λ c. not (belongs class c)) (drop at (now (s .entry)))) ⌝ }
+{
+    let mut i = at;
+    while i < s.len() {
+        if !class.has(s[i]) {
+            return i;
+        }
+        i += 1;
+    }
+    i
+}
+
+// The same, for runs that are long: whole blocks first.
+pub fn long_run_end(s: &[u8], at: usize, class: Class) -> usize
+    ensures { λ r. ⌜ r ≡ at + length (until (λ c. not (belongs class c)) (drop at (now (s .entry)))) ⌝ }
+{
+    let n = s.len();
+    let mut i = at;
+    while i < n {
+        if n - i < BLOCK {
+            return run_end(&*s, i, class);
+        }
+        if !all_in(&s[i..i + BLOCK], class) {
+            return run_end(&*s, i, class);
+        }
+        i += BLOCK;
     }
     i
 }

@@ -3,7 +3,7 @@ use Prim.Native.Nat.{_≤_, _-_}
 use mathlib.Core.Path.{_≡_, refl, _∙_}
 use native.Mathlib.Omega.{arith}
 use lib.ListN.{length, drop}
-use Rattle.json.specs.Reads.{literal as wordOf}
+use Rattle.json.specs.Reads.{literal}
 use Rattle.json.specs.Promise.{found, missing}
 use Rattle.json.proofs.Words.{word-more, word-differs, word-short, word-whole}
 use borrow.Author.Needs.{needs}
@@ -11,7 +11,7 @@ use Rattle.json.proofs.scanning.past_word.Statement.{statement}
 use Rattle.json.proofs.scanning.past_word.Tie as tie
 
 abbrev Inv-loop : tie.InvT-loop
-Inv-loop text at word i₀ k₀ i k = (at ≤ i) × (i ≤ length text) × (k ≤ length word) × (wordOf word (drop at text) ≡ wordOf (drop k word) (drop i text))
+Inv-loop text at word i₀ k₀ i k = (at ≤ i) × (i ≤ length text) × (k ≤ length word) × (literal word (drop at text) ≡ literal (drop k word) (drop i text))
 
 abbrev μ-loop : tie.MeasureT-loop
 μ-loop text at word i₀ k₀ i k = length word - k

@@ -5,9 +5,9 @@ use native.Mathlib.Omega.{arith}
 use lib.ListN.{length, drop}
 use denote.Ref.{now}
 use Rattle.octets.specs.Pen.{pen}
+use Rattle.octets.specs.Classes.{unescaped}
 use Rattle.json.specs.Strings.{escape as escapeText, string as stringOf}
 use Rattle.json.specs.Tape.{serText}
-use Rattle.json.specs.Promise.{unescaped}
 use Rattle.json.proofs.Runs.{run-next, inside-is}
 use Rattle.json.proofs.Agreements.{HasRead, was-read, agrees-behind, Going, going-start}
 use Rattle.json.proofs.Texts.{text-run, text-close, text-none, text-fails, text-escape}

@@ -9,7 +9,7 @@ use denote.Ref.{now}
 use borrow.Fn.Kinds.{In}
 use borrow.Fn.PlainCycle.{Measures, is, falls, and}
 use Rattle.octets.specs.Pen.{pen}
-use Rattle.json.specs.Reader.{openingOf, memberKey as keyOf, pair, valueWithin as valueOf}
+use Rattle.json.specs.Reader.{openingOf, memberKey, pair, valueWithin}
 use Rattle.json.specs.Tape.{serString, ser}
 use Rattle.json.specs.Promise.{Agrees, too-deep}
 use Rattle.json.specs.declared.Step.{Step}
@@ -93,17 +93,17 @@ abbrev claims-element : ℕ → element-lts.Claims
 claims-element t = (peek-reads.Asked, peek-reads.Learnt, string-reads.Asked, string-reads.Learnt, value-below t, value.Post)
 
 abbrev array-Inv-loop : array-lts.InvT-loop
-array-Inv-loop text at left tape₀ to p₀ i₀ tape p i = (i₀ ≤ i) × (i ≤ length text) × (length tape ≡ length tape₀) × Going (serList ser) (several 93 (valueOf (left - 1))) text (at + 1) (pen tape₀ p₀) i₀ (pen tape p) i
+array-Inv-loop text at left tape₀ to p₀ i₀ tape p i = (i₀ ≤ i) × (i ≤ length text) × (length tape ≡ length tape₀) × Going (serList ser) (several 93 (valueWithin (left - 1))) text (at + 1) (pen tape₀ p₀) i₀ (pen tape p) i
 
 abbrev array-μ-loop : array-lts.MeasureT-loop
 array-μ-loop text at left tape₀ to p₀ i₀ tape p i = length text - i
 
-elements : (t : ℕ) (c : array-lts.Else2 (claims-array t) (array-at t) array.Post array-Inv-loop array-μ-loop) → {t₁ : List ℕ} {r : Step} → Agrees (serList ser) (now (c .before .before .before .before .before .before .before .before .before .before .args .text)) (c .before .before .before .before .before .before .before .before .before .before .args .at + 1) (pen (c .before .before .before .before .before .put .last .0) (c .before .before .before .before .before .put .result)) t₁ (several 93 (valueOf (c .before .before .before .before .before .before .before .before .before .before .args .left - 1)) (drop (c .before .before .past-space .result) (now (c .before .before .before .before .before .before .before .before .before .before .args .text)))) r → Agrees ser (now (c .before .before .before .before .before .before .before .before .before .before .args .text)) (c .before .before .before .before .before .before .before .before .before .before .args .at + 1) (pen (now (c .before .before .before .before .before .before .before .before .before .before .args .tape)) (c .before .before .before .before .before .before .before .before .before .before .args .to)) t₁ (valueOf (c .before .before .before .before .before .before .before .before .before .before .args .left) (drop (c .before .before .before .before .before .before .before .before .before .before .args .at) (now (c .before .before .before .before .before .before .before .before .before .before .args .text)))) r
+elements : (t : ℕ) (c : array-lts.Else2 (claims-array t) (array-at t) array.Post array-Inv-loop array-μ-loop) → {t₁ : List ℕ} {r : Step} → Agrees (serList ser) (now (c .before .before .before .before .before .before .before .before .before .before .args .text)) (c .before .before .before .before .before .before .before .before .before .before .args .at + 1) (pen (c .before .before .before .before .before .put .last .0) (c .before .before .before .before .before .put .result)) t₁ (several 93 (valueWithin (c .before .before .before .before .before .before .before .before .before .before .args .left - 1)) (drop (c .before .before .past-space .result) (now (c .before .before .before .before .before .before .before .before .before .before .args .text)))) r → Agrees ser (now (c .before .before .before .before .before .before .before .before .before .before .args .text)) (c .before .before .before .before .before .before .before .before .before .before .args .at + 1) (pen (now (c .before .before .before .before .before .before .before .before .before .before .args .tape)) (c .before .before .before .before .before .before .before .before .before .before .args .to)) t₁ (valueWithin (c .before .before .before .before .before .before .before .before .before .before .args .left) (drop (c .before .before .before .before .before .before .before .before .before .before .args .at) (now (c .before .before .before .before .before .before .before .before .before .before .args .text)))) r
 elements t c =
     λ x. array-agrees (now (c .before .before .before .before .before .before .before .before .before .before .args .text)) (c .before .before .before .before .before .before .before .before .before .before .args .at) _ (c .before .before .before .before .before .before .before .before .before .before .pre .1) (c .before .before .before .before .before .before .before .if1 .left) (c .before .before .before .before .before .put .ensures)
     (agrees-by (group-some ser 93 _ (now (c .before .before .before .before .before .before .before .before .before .before .args .text)) (c .before .before .past-space .ensures) (value-nil _) (λ h. c .if2 .left (c .before .peek .ensures ∙ h))) (le-refl _) x)
 
-element-read : (t : ℕ) (c : array-lts.After-v (claims-array t) (array-at t) array.Post array-Inv-loop array-μ-loop) → HasRead ser (now (c .before .before .before .before .before .before .before .before .before .before .before .before .before .before .before .before .before .args .text)) (c .before .before .before .before .before .before .loop .i + 1) (pen (c .before .before .before .before .before .before .loop .tape) (c .before .before .before .before .before .before .loop .p)) (c .before .before .before .before .element .last .1 .1 .1 .0) (valueOf (c .before .before .before .before .before .before .before .before .before .before .before .before .before .before .before .before .before .args .left - 1) (drop (c .before .before .before .before .before .before .loop .i) (now (c .before .before .before .before .before .before .before .before .before .before .before .before .before .before .before .before .before .args .text)))) (c .v .given .0 .0) (c .v .given .0 .1 .0)
+element-read : (t : ℕ) (c : array-lts.After-v (claims-array t) (array-at t) array.Post array-Inv-loop array-μ-loop) → HasRead ser (now (c .before .before .before .before .before .before .before .before .before .before .before .before .before .before .before .before .before .args .text)) (c .before .before .before .before .before .before .loop .i + 1) (pen (c .before .before .before .before .before .before .loop .tape) (c .before .before .before .before .before .before .loop .p)) (c .before .before .before .before .element .last .1 .1 .1 .0) (valueWithin (c .before .before .before .before .before .before .before .before .before .before .before .before .before .before .before .before .before .args .left - 1) (drop (c .before .before .before .before .before .before .loop .i) (now (c .before .before .before .before .before .before .before .before .before .before .before .before .before .before .before .before .before .args .text)))) (c .v .given .0 .0) (c .v .given .0 .1 .0)
 element-read t c = was-read (c .before .before .before .before .element .ensures) (c .v .given .1)
 
 array-returns : (t : ℕ) → array-lts.Need-returns (claims-array t) (array-at t) array.Post array-Inv-loop array-μ-loop
@@ -150,20 +150,20 @@ element-returns : (t : ℕ) → element-lts.Need-returns (claims-element t) (ele
 element-returns t c = string-agrees (now (c .before .before .before .before .before .before .before .before .args .text)) (c .before .before .before .before .before .before .before .before .args .at) _ (sym (c .before .before .before .before .before .peek .ensures) ∙ c .before .before .before .before .if1 .taken) (c .before .before .string .ensures)
 
 abbrev object-Inv-loop : object-lts.InvT-loop
-object-Inv-loop text at left tape₀ to p₀ i₀ tape p i = (i₀ ≤ i) × (i ≤ length text) × (length tape ≡ length tape₀) × Going (serList serPair) (several 125 (pair (valueOf (left - 1)))) text (at + 1) (pen tape₀ p₀) i₀ (pen tape p) i
+object-Inv-loop text at left tape₀ to p₀ i₀ tape p i = (i₀ ≤ i) × (i ≤ length text) × (length tape ≡ length tape₀) × Going (serList serPair) (several 125 (pair (valueWithin (left - 1)))) text (at + 1) (pen tape₀ p₀) i₀ (pen tape p) i
 
 abbrev object-μ-loop : object-lts.MeasureT-loop
 object-μ-loop text at left tape₀ to p₀ i₀ tape p i = length text - i
 
-members : (t : ℕ) (c : object-lts.Else2 (claims-object t) (object-at t) object.Post object-Inv-loop object-μ-loop) → {t₁ : List ℕ} {r : Step} → Agrees (serList serPair) (now (c .before .before .before .before .before .before .before .before .before .before .args .text)) (c .before .before .before .before .before .before .before .before .before .before .args .at + 1) (pen (c .before .before .before .before .before .put .last .0) (c .before .before .before .before .before .put .result)) t₁ (several 125 (pair (valueOf (c .before .before .before .before .before .before .before .before .before .before .args .left - 1))) (drop (c .before .before .past-space .result) (now (c .before .before .before .before .before .before .before .before .before .before .args .text)))) r → Agrees ser (now (c .before .before .before .before .before .before .before .before .before .before .args .text)) (c .before .before .before .before .before .before .before .before .before .before .args .at + 1) (pen (now (c .before .before .before .before .before .before .before .before .before .before .args .tape)) (c .before .before .before .before .before .before .before .before .before .before .args .to)) t₁ (valueOf (c .before .before .before .before .before .before .before .before .before .before .args .left) (drop (c .before .before .before .before .before .before .before .before .before .before .args .at) (now (c .before .before .before .before .before .before .before .before .before .before .args .text)))) r
+members : (t : ℕ) (c : object-lts.Else2 (claims-object t) (object-at t) object.Post object-Inv-loop object-μ-loop) → {t₁ : List ℕ} {r : Step} → Agrees (serList serPair) (now (c .before .before .before .before .before .before .before .before .before .before .args .text)) (c .before .before .before .before .before .before .before .before .before .before .args .at + 1) (pen (c .before .before .before .before .before .put .last .0) (c .before .before .before .before .before .put .result)) t₁ (several 125 (pair (valueWithin (c .before .before .before .before .before .before .before .before .before .before .args .left - 1))) (drop (c .before .before .past-space .result) (now (c .before .before .before .before .before .before .before .before .before .before .args .text)))) r → Agrees ser (now (c .before .before .before .before .before .before .before .before .before .before .args .text)) (c .before .before .before .before .before .before .before .before .before .before .args .at + 1) (pen (now (c .before .before .before .before .before .before .before .before .before .before .args .tape)) (c .before .before .before .before .before .before .before .before .before .before .args .to)) t₁ (valueWithin (c .before .before .before .before .before .before .before .before .before .before .args .left) (drop (c .before .before .before .before .before .before .before .before .before .before .args .at) (now (c .before .before .before .before .before .before .before .before .before .before .args .text)))) r
 members t c =
     λ x. object-agrees (now (c .before .before .before .before .before .before .before .before .before .before .args .text)) (c .before .before .before .before .before .before .before .before .before .before .args .at) _ (c .before .before .before .before .before .before .before .before .before .before .pre .1) (c .before .before .before .before .before .before .before .if1 .left) (c .before .before .before .before .before .put .ensures)
     (agrees-by (group-some serPair 125 _ (now (c .before .before .before .before .before .before .before .before .before .before .args .text)) (c .before .before .past-space .ensures) (pair-nil _) (λ h. c .if2 .left (c .before .peek .ensures ∙ h))) (le-refl _) x)
 
-named : (t : ℕ) (c : object-lts.After-k (claims-object t) (object-at t) object.Post object-Inv-loop object-μ-loop) → HasRead serString (now (c .before .before .before .before .before .before .before .before .before .before .before .before .before .before .before .before .before .args .text)) (c .before .before .before .before .before .before .loop .i + 1) (pen (c .before .before .before .before .before .before .loop .tape) (c .before .before .before .before .before .before .loop .p)) (c .before .before .before .before .key .last .1 .1 .0) (keyOf (drop (c .before .before .before .before .before .before .loop .i) (now (c .before .before .before .before .before .before .before .before .before .before .before .before .before .before .before .before .before .args .text)))) (c .k .given .0 .0) (c .k .given .0 .1 .0)
+named : (t : ℕ) (c : object-lts.After-k (claims-object t) (object-at t) object.Post object-Inv-loop object-μ-loop) → HasRead serString (now (c .before .before .before .before .before .before .before .before .before .before .before .before .before .before .before .before .before .args .text)) (c .before .before .before .before .before .before .loop .i + 1) (pen (c .before .before .before .before .before .before .loop .tape) (c .before .before .before .before .before .before .loop .p)) (c .before .before .before .before .key .last .1 .1 .0) (memberKey (drop (c .before .before .before .before .before .before .loop .i) (now (c .before .before .before .before .before .before .before .before .before .before .before .before .before .before .before .before .before .args .text)))) (c .k .given .0 .0) (c .k .given .0 .1 .0)
 named t c = was-read (c .before .before .before .before .key .ensures) (c .k .given .1)
 
-member : (t : ℕ) (c : object-lts.After-v (claims-object t) (object-at t) object.Post object-Inv-loop object-μ-loop) → HasRead serPair (now (c .before .before .before .before .before .before .before .before .before .before .before .before .before .before .before .before .before .before .before .before .before .before .before .before .args .text)) (c .before .before .before .before .before .before .before .before .before .before .before .before .before .loop .i + 1) (pen (c .before .before .before .before .before .before .before .before .before .before .before .before .before .loop .tape) (c .before .before .before .before .before .before .before .before .before .before .before .before .before .loop .p)) (c .before .before .before .before .element .last .1 .1 .1 .0) (pair (valueOf (c .before .before .before .before .before .before .before .before .before .before .before .before .before .before .before .before .before .before .before .before .before .before .before .before .args .left - 1)) (drop (c .before .before .before .before .before .before .before .before .before .before .before .before .before .loop .i) (now (c .before .before .before .before .before .before .before .before .before .before .before .before .before .before .before .before .before .before .before .before .before .before .before .before .args .text)))) (c .v .given .0 .0) (c .v .given .0 .1 .0)
+member : (t : ℕ) (c : object-lts.After-v (claims-object t) (object-at t) object.Post object-Inv-loop object-μ-loop) → HasRead serPair (now (c .before .before .before .before .before .before .before .before .before .before .before .before .before .before .before .before .before .before .before .before .before .before .before .before .args .text)) (c .before .before .before .before .before .before .before .before .before .before .before .before .before .loop .i + 1) (pen (c .before .before .before .before .before .before .before .before .before .before .before .before .before .loop .tape) (c .before .before .before .before .before .before .before .before .before .before .before .before .before .loop .p)) (c .before .before .before .before .element .last .1 .1 .1 .0) (pair (valueWithin (c .before .before .before .before .before .before .before .before .before .before .before .before .before .before .before .before .before .before .before .before .before .before .before .before .args .left - 1)) (drop (c .before .before .before .before .before .before .before .before .before .before .before .before .before .loop .i) (now (c .before .before .before .before .before .before .before .before .before .before .before .before .before .before .before .before .before .before .before .before .before .before .before .before .args .text)))) (c .v .given .0 .0) (c .v .given .0 .1 .0)
 member t c = was-read (pair-agrees _ (c .before .before .before .before .before .before .before .before .before .before .before .before .before .loop .i) (named t (c .before .before .before .before .before .before .before)) (c .before .before .before .before .element .ensures)) (c .v .given .1)
 
 object-returns : (t : ℕ) → object-lts.Need-returns (claims-object t) (object-at t) object.Post object-Inv-loop object-μ-loop

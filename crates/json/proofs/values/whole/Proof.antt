@@ -6,7 +6,7 @@ use denote.Ref.{now}
 use Rattle.octets.specs.Limits.{mostOpen}
 use Rattle.octets.specs.Pen.{pen}
 use Rattle.octets.proofs.Limits.{most-open}
-use Rattle.json.specs.Reader.{valueWithin as valueOf}
+use Rattle.json.specs.Reader.{valueWithin}
 use Rattle.json.specs.Tape.{ser}
 use Rattle.json.specs.Promise.{Agrees, read, not-json}
 use Rattle.json.proofs.Agreements.{HasRead, was-read}
@@ -15,10 +15,10 @@ use borrow.Author.Needs.{needs}
 use Rattle.json.proofs.values.whole.Statement.{statement}
 use Rattle.json.proofs.values.whole.Tie as tie
 
-valued : (c : tie.After-value) → Agrees ser (now (c .before .before .before .before .before .args .text)) (c .before .before .past-space .result + 1) (pen (now (c .before .before .before .before .before .args .tape)) 0) (c .value .last .1 .1 .1 .0) (valueOf mostOpen (drop (c .before .before .past-space .result) (now (c .before .before .before .before .before .args .text)))) (c .value .result)
+valued : (c : tie.After-value) → Agrees ser (now (c .before .before .before .before .before .args .text)) (c .before .before .past-space .result + 1) (pen (now (c .before .before .before .before .before .args .tape)) 0) (c .value .last .1 .1 .1 .0) (valueWithin mostOpen (drop (c .before .before .past-space .result) (now (c .before .before .before .before .before .args .text)))) (c .value .result)
 valued c = rw most-open (c .value .ensures)
 
-one : (c : tie.After-v) → HasRead ser (now (c .before .before .before .before .before .before .before .before .before .args .text)) (c .before .before .before .before .before .before .past-space .result + 1) (pen (now (c .before .before .before .before .before .before .before .before .before .args .tape)) 0) (c .before .before .before .before .value .last .1 .1 .1 .0) (valueOf mostOpen (drop (c .before .before .before .before .before .before .past-space .result) (now (c .before .before .before .before .before .before .before .before .before .args .text)))) (c .v .given .0 .0) (c .v .given .0 .1 .0)
+one : (c : tie.After-v) → HasRead ser (now (c .before .before .before .before .before .before .before .before .before .args .text)) (c .before .before .before .before .before .before .past-space .result + 1) (pen (now (c .before .before .before .before .before .before .before .before .before .args .tape)) 0) (c .before .before .before .before .value .last .1 .1 .1 .0) (valueWithin mostOpen (drop (c .before .before .before .before .before .before .past-space .result) (now (c .before .before .before .before .before .before .before .before .before .args .text)))) (c .v .given .0 .0) (c .v .given .0 .1 .0)
 one c = was-read (valued (c .before .before .before .before)) (c .v .given .1)
 
 returns : tie.Need-returns

@@ -1,8 +1,8 @@
--- `json::scanning::is_space` meets its contract.
+-- `octets::names::is_space` meets its contract.
 use borrow.Author.Tests.{ne-eqb}
-use Rattle.json.specs.Reads.{isSpace}
-use Rattle.json.proofs.scanning.is_space.Statement.{statement}
-use Rattle.json.proofs.scanning.is_space.Tie as tie
+use Rattle.octets.specs.Classes.{isSpace}
+use Rattle.octets.proofs.names.is_space.Statement.{statement}
+use Rattle.octets.proofs.names.is_space.Tie as tie
 
 pub is-space-spec : {M : Type 1} → statement M
 unfolding isSpace
