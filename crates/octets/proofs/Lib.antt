@@ -11,3 +11,4 @@ pub mod Utf8
 pub mod Transducer
 pub mod Characters
 pub mod Search
+pub mod Slots

@@ -5,7 +5,7 @@ use Rattle.octets.specs.Classes.{isDigit, nameOctet, lowerNameOctet, pla
 use Rattle.octets.specs.declared.names.Class.{Class}
 use Rattle.octets.specs.declared.names.Class.the-variants.{Digit, Name, LowerName, Plain, Text, Space, Unescaped, AsIs}
 use Rattle.octets.specs.declared.names.Case.{Case}
-use Rattle.octets.specs.declared.names.Case.the-variants.{Upper, Lower}
+use Rattle.octets.specs.declared.names.Case.the-variants.{Upper, Lower, Exact}
 
 abbrev pub belongs : Class → ℕ → Bool
 belongs Digit c = isDigit c
@@ -20,3 +20,4 @@ belongs AsIs c = asIsOctet c
 abbrev pub cased : Case → ℕ → ℕ
 cased Upper c = upperOctet c
 cased Lower c = lowerOctet c
+cased Exact c = c

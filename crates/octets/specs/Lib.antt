@@ -10,3 +10,4 @@ pub mod Answers
 pub mod Groups
 pub mod Characters
 pub mod Search
+pub mod Slots

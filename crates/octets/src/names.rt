@@ -134,19 +134,21 @@ pub fn lower_octet(c: u8) -> u8
     if is_upper(c) { c + 32 } else { c }
 }
 
-// The case that a slice is written in.
-enum Case {
+// The case that a slice is written in, or that names compare in.
+pub enum Case {
     Upper,
     Lower,
+    Exact,
 }
 
 impl Case {
-    fn turn(self, c: u8) -> u8
+    pub(crate) fn turn(self, c: u8) -> u8
         ensures { λ r. ⌜ r ≡ cased self c ⌝ }
     {
         match self {
             Case::Upper => upper_octet(c),
             Case::Lower => lower_octet(c),
+            Case::Exact => c,
         }
     }
 }

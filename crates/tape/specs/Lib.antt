@@ -2,4 +2,3 @@ pub mod Sound
 pub mod Decode
 pub mod Promise
 pub mod Scan
-pub mod Slots

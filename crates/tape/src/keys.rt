@@ -3,25 +3,18 @@ use super::END;
 use super::walking::behind;
 use super::walking::tag;
 use super::walking::text_at;
+use octets::Case;
+use octets::SLOTS;
 use octets::same;
+use octets::slot_of;
 ghost use mathlib.Core.Path.{_≡_};
 ghost use Prim.Native.Nat.{_+_, _≤_};
+ghost use Rattle.octets.specs.Slots.{slotIn, Blank};
 ghost use Rattle.tape.specs.Sound.{hasKey, distinctKeys};
-ghost use Rattle.tape.specs.Decode.{membersAt};
-ghost use Rattle.tape.specs.Slots.{slotOf, Blank, Probes};
+ghost use Rattle.tape.specs.Decode.{membersAt, keyAt};
 
 // Keys that are compared with all behind them.
 const FEW: usize = 8;
-
-// Slots in a table: one for each answer of `slot_of`, and some more behind them.
-const SLOTS: usize = 16640;
-
-// What a table has of a key: the slot that it is found in, a free slot for it, or neither.
-pub enum Probed {
-    There(usize),
-    Free(usize),
-    Full,
-}
 
 // Whether the key is one of those from `at` to the end of the object.
 fn has_key(t: &[u8], at: usize, key: &[u8]) -> bool
@@ -44,38 +37,25 @@ fn has_key(t: &[u8], at: usize, key: &[u8]) -> bool
     }
 }
 
-// The slot from which on a key stands in a table.
-fn slot_of(key: &[u8]) -> usize
-    ensures { λ r. ⌜ r ≡ slotOf (now (key .entry)) ⌝ }
+// The slot of a table that holds a key, or the free one for it, or the end of the table; the slots hold places of keys, and 0 where they are free.
+fn slot_in(t: &[u8], table: &[usize], key: &[u8]) -> usize
+    ensures { λ r. ⌜ r ≡ slotIn (keyAt (now (t .entry))) (now (key .entry)) (now (table .entry)) ⌝ }
 {
-    let mut h: usize = 0;
-    let mut i = 0;
-    while i < key.len() {
-        h = (h * 15541 + key[i] as usize) % 16381;
-        i += 1;
-    }
-    h
-}
-
-// Looks a key up in a table, whose slots hold places of keys, and 0 where they are free.
-fn probe(t: &[u8], table: &[usize], key: &[u8]) -> Probed
-    ensures { λ r. ⌜ Probes (now (t .entry)) (now (table .entry)) (now (key .entry)) r ⌝ }
-{
-    let mut s = slot_of(key);
-    while s < table.len() {
-        let p = table[s];
+    let mut q = slot_of(key, Case::Exact);
+    while q < table.len() {
+        let p = table[q];
         if p == 0 {
-            return Probed::Free(s);
+            return q;
         }
         let k = text_at(t, p);
         let from = k.from;
         let to = k.to;
         if same(key, &t[from..to]) {
-            return Probed::There(s);
+            return q;
         }
-        s += 1;
+        q += 1;
     }
-    Probed::Full
+    q
 }
 
 // Whether the keys from `at` on are all different; the table is free.
@@ -93,21 +73,18 @@ fn all_new(t: &[u8], at: usize, table: &mut [usize]) -> bool
         let e = behind(t, v);
         let from = k.from;
         let to = k.to;
-        let p = probe(t, table, &t[from..to]);
-        match p {
-            Probed::Free(s) => {
-                table[s] = i;
-                i = e;
-            }
-            Probed::There(_) => {
+        let q = slot_in(t, table, &t[from..to]);
+        if q < table.len() {
+            if table[q] != 0 {
                 return false;
             }
-            Probed::Full => {
-                if has_key(t, e, &t[from..to]) {
-                    return false;
-                }
-                i = e;
+            table[q] = i;
+            i = e;
+        } else {
+            if has_key(t, e, &t[from..to]) {
+                return false;
             }
+            i = e;
         }
     }
 }

@@ -1,6 +1,6 @@
 -- `tape::keys::many_distinct` meets its contract.
 use borrow.Author.Needs.{needs}
-use Rattle.tape.proofs.Tables.{blank}
+use Rattle.octets.proofs.Slots.{blank}
 use Rattle.tape.proofs.keys.many_distinct.Statement.{statement}
 use Rattle.tape.proofs.keys.many_distinct.Tie as tie
 

@@ -1,0 +1,214 @@
+-- Names found again by a table of slots.
+use Prim.Native.Nat.{ℕ, zero, suc, _+_, _-_, _*_, _%_, _≤_, _<_}
+use mathlib.Core.Path.{_≡_, refl, sym, ap, _∙_}
+use mathlib.Core.Bool.{Bool, true, false}
+use mathlib.Core.List.{List, [], _∷_, map, map-id}
+use native.Mathlib.Omega.{arith}
+use borrow.Author.Tests.{ne-eqb, eqb-true, eqb-false, ltb-true, ltb-false}
+use lib.Dec.{eqb, ltb}
+use lib.ListN.{length, drop, getD, set, replicate, length-drop}
+use lib.Seq.{drop-set-lt, drop-set-add, getD-drop, getD-set-same, getD-set-other}
+use Rattle.octets.specs.Basics.{_or_, any, same, among, twice}
+use Rattle.octets.specs.Groups.{cased}
+use Rattle.octets.specs.declared.names.Case.the-variants.{Exact}
+use Rattle.octets.specs.Slots.{slotFrom, slotOf, passed, slotIn, stands, inTable, Blank, Within}
+use Rattle.octets.proofs.Cases.{cases, same?, never, or-first, or-second, or-false, either, neither}
+use Rattle.octets.proofs.Classes.{same-itself, same-is}
+use Rattle.octets.proofs.Positions.{here, ended}
+
+-- the slot of a name, octet by octet; f turns its octets into one case
+module _ (f : ℕ → ℕ) (n : List ℕ) where
+  pub slot-start : slotFrom 0 (map f (drop 0 n)) ≡ slotOf (map f n)
+  unfolding slotOf
+  slot-start = refl
+
+  module _ (i h : ℕ) where
+    pub slot-on : i < length n → slotFrom ((h * 15541 + f (getD n i 0)) % 16381) (map f (drop (i + 1) n)) ≡ slotFrom h (map f (drop i n))
+    unfolding slotFrom
+    slot-on l = rw (here n i l)
+
+    pub slot-end : length n ≤ i → h ≡ slotFrom h (map f (drop i n))
+    unfolding slotFrom
+    slot-end l = rw (ended n i l)
+
+-- names that compare as they are
+pub exact : (n : List ℕ) → map (cased Exact) n ≡ n
+exact n = map-id n
+
+-- n is looked for from the slot q on
+module _ (name : ℕ → List ℕ) (n table : List ℕ) where
+  pub seeking-start : slotIn name n table ≡ slotOf n + passed name n (drop (slotOf n) table)
+  unfolding slotIn
+  seeking-start = refl
+
+  module _ (q : ℕ) where
+    pub seeking-end : length table ≤ q → q ≡ q + passed name n (drop q table)
+    unfolding passed
+    seeking-end h = rw (ended table q h) (omega arith)
+
+    module _ (h : q < length table) where
+      pub seeking-free : getD table q 0 ≡ 0 → q ≡ q + passed name n (drop q table)
+      unfolding passed
+      seeking-free z = rw (here table q h, z) (omega arith)
+
+      pub seeking-there : same n (name (getD table q 0)) ≡ true → q ≡ q + passed name n (drop q table)
+      unfolding passed
+      seeking-there e = rw (here table q h, or-second (eqb (getD table q 0) 0) e) (omega arith)
+
+      pub seeking-on : ((getD table q 0 ≡ 0) → ⊥) → same n (name (getD table q 0)) ≡ false → q + passed name n (drop q table) ≡ q + 1 + passed name n (drop (q + 1) table)
+      unfolding passed
+      seeking-on z e = rw (here table q h, or-false (ne-eqb _ 0 z) e) (omega arith)
+
+-- what stands in the slot at which the search ends
+module _ (name : ℕ → List ℕ) (n : List ℕ) where
+  ends-there : (ps : List ℕ) → ((getD ps (passed name n ps) 0 ≡ 0) → ⊥) → same n (name (getD ps (passed name n ps) 0)) ≡ true
+  unfolding passed
+  ends-there [] z = absurd (z refl)
+  ends-there (p ∷ ps) z = cases (eqb p 0 or same n (name p))
+      (λ e. either (eqb p 0) (same n (name p)) e
+      (λ f. absurd (z (rw e (eqb-true p 0 f))))
+      (λ f. rw e f))
+      (λ e. rw e (ends-there ps (rw e at z)))
+
+  ends-absent : (ps : List ℕ) → getD ps (passed name n ps) 0 ≡ 0 → stands name n ps ≡ false
+  unfolding passed stands
+  ends-absent [] z = refl
+  ends-absent (p ∷ ps) z = cases (eqb p 0)
+      (λ e. rw e)
+      (λ e. cases (same n (name p))
+      (λ f. never (rw (or-second (eqb p 0) f) at (ap (λ x. eqb x 0) z)) e)
+      (λ f. rw (e, f) (ends-absent ps (rw (or-false e f) at z))))
+
+  ends-filled : (ps : List ℕ) (p : ℕ) → ((p ≡ 0) → ⊥) → name p ≡ n → passed name n ps < length ps → stands name n (set ps (passed name n ps) p) ≡ true
+  unfolding passed stands
+  ends-filled [] p z k h = absurd (omega arith)
+  ends-filled (q ∷ ps) p z k h = cases (eqb q 0 or same n (name q))
+      (λ e. rw (e, ne-eqb p 0 z, k, same-itself n))
+      (λ e. let b = neither (eqb q 0) (same n (name q)) e in rw (e, b .0, b .1) (ends-filled ps p z k (let l = rw e at h in omega arith)))
+
+  module _ (table : List ℕ) (r : ℕ) (e : r ≡ slotIn name n table) where
+    slot-octet : getD (drop (slotOf n) table) (passed name n (drop (slotOf n) table)) 0 ≡ getD table r 0
+    slot-octet = getD-drop (slotOf n) table (passed name n (drop (slotOf n) table)) 0 ∙ rw (e ∙ seeking-start name n table)
+
+    pub slot-there : ((getD table r 0 ≡ 0) → ⊥) → same n (name (getD table r 0)) ≡ true
+    slot-there z = rw slot-octet at (ends-there (drop (slotOf n) table) (λ k. z (sym slot-octet ∙ k)))
+
+    pub slot-absent : getD table r 0 ≡ 0 → inTable name n table ≡ false
+    unfolding inTable
+    slot-absent z = ends-absent (drop (slotOf n) table) (slot-octet ∙ z)
+
+    pub slot-filled : r < length table → (p : ℕ) → ((p ≡ 0) → ⊥) → name p ≡ n → inTable name n (set table r p) ≡ true
+    unfolding inTable
+    slot-filled h p z k =
+        let q : r ≡ slotOf n + passed name n (drop (slotOf n) table) = e ∙ seeking-start name n table in
+        let l : passed name n (drop (slotOf n) table) < length (drop (slotOf n) table) = rw (length-drop (slotOf n) table) (omega arith) in
+        rw (q, drop-set-add (slotOf n) table (passed name n (drop (slotOf n) table)) p) (ends-filled (drop (slotOf n) table) p z k l)
+
+-- a name that stands in a table stands there after a free slot is filled
+stands-set : (name : ℕ → List ℕ) (n ps : List ℕ) (m p : ℕ) → getD ps m 0 ≡ 0 → stands name n ps ≡ true → stands name n (set ps m p) ≡ true
+unfolding stands
+stands-set name n [] m p z h = h
+stands-set name n (q ∷ ps) zero p z h = never h (rw z)
+stands-set name n (q ∷ ps) (suc m) p z h = cases (eqb q 0)
+    (λ e. never h (rw e))
+    (λ e. rw e (either (same n (name q)) (stands name n ps) (rw e at h) (λ f. or-first _ f) (λ f. or-second (same n (name q)) (stands-set name n ps m p z f))))
+
+table-set : (name : ℕ → List ℕ) (n table : List ℕ) (r p : ℕ) → getD table r 0 ≡ 0 → inTable name n table ≡ true → inTable name n (set table r p) ≡ true
+unfolding inTable
+table-set name n table r p z h = cases (ltb r (slotOf n))
+    (λ e. rw (drop-set-lt (slotOf n) table r p (ltb-true r (slotOf n) e)) h)
+    (λ e.
+    let l : slotOf n ≤ r = ltb-false r (slotOf n) e in
+    let q : slotOf n + (r - slotOf n) ≡ r = omega arith in
+    rw (← q, drop-set-add (slotOf n) table (r - slotOf n) p) (stands-set name n (drop (slotOf n) table) (r - slotOf n) p (getD-drop (slotOf n) table (r - slotOf n) 0 ∙ rw q z) h))
+
+-- none of these names stands in the table
+abbrev Fresh : (ℕ → List ℕ) → List ℕ → List (List ℕ) → Type 0
+Fresh name table [] = Unit {0}
+Fresh name table (n ∷ ns) = (inTable name n table ≡ false) × Fresh name table ns
+
+fresh-before : (name : ℕ → List ℕ) (table : List ℕ) (r p : ℕ) → getD table r 0 ≡ 0 → (ns : List (List ℕ)) → Fresh name (set table r p) ns → Fresh name table ns
+fresh-before name table r p z [] f = tt
+fresh-before name table r p z (n ∷ ns) f =
+    (cases (inTable name n table) (λ e. never (table-set name n table r p z e) (f .0)) (λ e. e), fresh-before name table r p z ns (f .1))
+
+fresh-name : (name : ℕ → List ℕ) (table n : List ℕ) → inTable name n table ≡ true → (ns : List (List ℕ)) → Fresh name table ns → among n ns ≡ false
+unfolding among any
+fresh-name name table n h [] f = refl
+fresh-name name table n h (m ∷ ns) f = cases (same n m)
+    (λ e. never h (ap (λ (x : List ℕ). inTable name x table) (same-is n m e) ∙ f .0))
+    (λ e. rw (e, fresh-name name table n h ns (f .1)))
+
+-- Those of all the names that are not left are in the table, and differ: the names left tell whether one of all stands twice.
+pub record Noting (name : ℕ → List ℕ) (table : List ℕ) (all left : List (List ℕ)) : Type 0 where
+  pub rest : twice all ≡ false → twice left ≡ false
+  pub noted : (q : ℕ) → ((getD table q 0 ≡ 0) → ⊥) → twice all ≡ false → among (name (getD table q 0)) left ≡ false
+  pub whole : Fresh name table left → twice left ≡ false → twice all ≡ false
+
+-- the places in a table
+pub within-blank : (m : ℕ) (table : List ℕ) → Blank table → Within m table
+within-blank m table b q = let z : getD table q 0 ≡ 0 = b q in omega arith
+
+pub within-set : (m : ℕ) (table : List ℕ) (r p : ℕ) → r < length table → p ≤ m → Within m table → Within m (set table r p)
+within-set m table r p h l w q = same? q r
+    (λ c. rw (c, getD-set-same table r p 0 h) l)
+    (λ c. rw (getD-set-other table r q p 0 (eqb-false q r c)) (w q))
+
+pub blank : (n : ℕ) → Blank (replicate n 0)
+blank zero q = refl
+blank (suc n) zero = refl
+blank (suc n) (suc q) = blank n q
+
+pub noting-start : {name : ℕ → List ℕ} {table : List ℕ} {all : List (List ℕ)} → Blank table → Noting name table all all
+noting-start b = record { rest = λ d. d; noted = λ q n d. absurd (n (b q)); whole = λ f d. d }
+
+pub noting-end : {name : ℕ → List ℕ} {table : List ℕ} {all : List (List ℕ)} → Noting name table all [] → twice all ≡ false
+unfolding twice
+noting-end g = g .whole tt refl
+
+-- a test that cannot fail passes
+passes : (b : Bool) → (b ≡ false → b ≡ true) → b ≡ true
+passes b f = cases b (λ e. e) f
+
+module _ {name : ℕ → List ℕ} {table n : List ℕ} {all left : List (List ℕ)} (g : Noting name table all (n ∷ left)) where
+  once : twice all ≡ false → (among n left ≡ false) × (twice left ≡ false)
+  unfolding twice
+  once d = neither (among n left) (twice left) (g .rest d)
+
+  later : (m : List ℕ) → among m (n ∷ left) ≡ false → among m left ≡ false
+  unfolding among any
+  later m h = neither (same m n) (any (same m) left) h .1
+
+  joined : among n left ≡ false → twice left ≡ false → twice (n ∷ left) ≡ false
+  unfolding twice
+  joined a d = rw (a, d)
+
+  -- the name was found in the table, or behind it
+  pub noting-there : (q : ℕ) → ((getD table q 0 ≡ 0) → ⊥) → same n (name (getD table q 0)) ≡ true → twice all ≡ true
+  unfolding among any
+  noting-there q z e = passes _ (λ d.
+      let f : among n (n ∷ left) ≡ false = ap (λ (x : List ℕ). among x (n ∷ left)) (same-is n _ e) ∙ g .noted q z d in
+      never (same-itself n) (neither (same n n) (any (same n) left) f .0))
+
+  pub noting-twice : among n left ≡ true → twice all ≡ true
+  noting-twice h = passes _ (λ d. never h (once d .0))
+
+  -- the name is new, and cannot be put into the table
+  pub noting-full : inTable name n table ≡ false → among n left ≡ false → Noting name table all left
+  noting-full f h = record {
+    rest = λ d. once d .1;
+    noted = λ q z d. later _ (g .noted q z d);
+    whole = λ w d. g .whole (f, w) (joined h d);
+  }
+
+  -- the name is new, and its place was put into the table
+  pub noting-free : (r p : ℕ) → ((p ≡ 0) → ⊥) → name p ≡ n → r ≡ slotIn name n table → r < length table → getD table r 0 ≡ 0 → Noting name (set table r p) all left
+  noting-free r p o k e h z =
+      let i : inTable name n (set table r p) ≡ true = slot-filled name n table r e h p o k in
+      record {
+        rest = λ d. once d .1;
+        noted = λ q y d. same? q r
+            (λ c. rw (c, getD-set-same table r p 0 h, k) (once d .0))
+            (λ c. let w = getD-set-other table r q p 0 (eqb-false q r c) in rw w (later _ (g .noted q (rw w at y) d)));
+        whole = λ f d. g .whole (slot-absent name n table r e z, fresh-before name table r p z left f) (joined (fresh-name name (set table r p) n i left f) d);
+      }
