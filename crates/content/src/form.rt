@@ -1,32 +1,17 @@
 // The form of content lines: name, parameters, colon, value.
 ghost use mathlib.Core.Path.{_≡_};
-ghost use mathlib.Core.Bool.{not};
 ghost use Prim.Native.Nat.{_+_, _≤_};
 ghost use lib.ListN.{length, drop};
 ghost use Rattle.octets.specs.Basics.{all};
-ghost use Rattle.octets.specs.Classes.{nameOctet};
 ghost use Rattle.content.specs.Lines.{cutLines};
 ghost use Rattle.content.specs.Form.{formed};
 ghost use Rattle.content.specs.LinePlaces.{paramStart, valueStart, unquoted, placeAfter, isValue, endsPlain, Passes};
 ghost use Rattle.octets.specs.Search.{until};
 use crate::lines::line_end;
+use octets::Class;
 use octets::find;
-use octets::is_name_octet;
 use octets::peek;
-
-// The end of the name at `at`.
-fn name_end(s: &[u8], at: usize) -> usize
-    ensures { λ r. ⌜ r ≡ at + length (until (λ c. not (nameOctet c)) (drop at (now (s .entry)))) ⌝ }
-{
-    let mut i = at;
-    while i < s.len() {
-        if !is_name_octet(s[i]) {
-            return i;
-        }
-        i += 1;
-    }
-    i
-}
+use octets::run_end;
 
 fn ends_plain(c: u8) -> bool
     ensures { λ r. ⌜ r ≡ endsPlain c ⌝ }
@@ -74,7 +59,7 @@ fn param_end(s: &[u8], at: usize) -> usize
     requires { ⌜ at ≤ length (now s) ⌝ }
     ensures { λ r. ⌜ Passes (now (s .entry)) paramStart at unquoted r ⌝ }
 {
-    let n = name_end(s, at);
+    let n = run_end(s, at, Class::Name);
     if n == at {
         return s.len();
     }
@@ -109,7 +94,7 @@ fn tail_formed(s: &[u8], at: usize) -> bool
 pub fn is_formed(line: &[u8]) -> bool
     ensures { λ r. ⌜ r ≡ formed (now (line .entry)) ⌝ }
 {
-    let n = name_end(line, 0);
+    let n = run_end(line, 0, Class::Name);
     if n == 0 {
         return false;
     }
