@@ -12,9 +12,9 @@ use Rattle.octets.specs.Pieces.{cut}
 use Rattle.octets.specs.Classes.{lower}
 use Rattle.octets.proofs.Cases.{or-second, or-false-right}
 use Rattle.octets.proofs.Positions.{here, ended}
-use Rattle.content.specs.Line.{quoteAfter, bare, pieces, paramOf}
+use Rattle.content.specs.Line.{quoteAfter, bare, pieces, paramOf, nameOf}
 use Rattle.content.specs.Scan.{untilBare}
-use Rattle.content.specs.Parts.{otherPieces, nameOf, paramsIn, paramAt, CutParam}
+use Rattle.content.specs.Parts.{otherPieces, paramsIn, paramAt, CutParam}
 use Rattle.content.specs.Parameters.{nameTwice}
 use Rattle.content.specs.declared.parts.ParamParts.{ParamParts}
 use Rattle.content.proofs.Scanning.{bare-rest, bare-stop}

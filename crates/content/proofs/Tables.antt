@@ -14,9 +14,9 @@ use Rattle.octets.specs.Classes.{lowerOctet, lower}
 use Rattle.octets.proofs.Cases.{cases, same?, never, or-first, or-second, or-false, either, neither}
 use Rattle.octets.proofs.Classes.{same-itself, same-is}
 use Rattle.octets.proofs.Positions.{here, ended, past-end}
-use Rattle.content.specs.Line.{Param, paramOf}
+use Rattle.content.specs.Line.{Param, paramOf, nameOf}
 use Rattle.content.specs.Scan.{untilBare}
-use Rattle.content.specs.Parts.{nameOf, paramsIn, paramAt, CutParam}
+use Rattle.content.specs.Parts.{paramsIn, paramAt, CutParam}
 use Rattle.content.specs.Parameters.{nameTwice}
 use Rattle.content.specs.Slots.{slotFrom, slotOf, nameAt, passed, slotIn, Blank, Within}
 use Rattle.content.specs.declared.parts.ParamParts.{ParamParts}

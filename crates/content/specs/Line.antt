@@ -14,6 +14,9 @@ pub record Param : Type 0 where
   pub name : List ℕ
   pub values : List (List ℕ)
 
+abbrev pub nameOf : Param → List ℕ
+nameOf p = p .name
+
 -- a line: its name and value as received
 pub record Line : Type 0 where
   pub name : List ℕ

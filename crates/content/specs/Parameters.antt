@@ -7,14 +7,14 @@ use Rattle.octets.specs.Basics.{octets, pick, _and_, all, any, same, twice}
 use Rattle.octets.specs.Classes.{isName, upper, lower, textOctet}
 use Rattle.octets.specs.Answers.{Answer, refused, accepted}
 use Rattle.json.specs.Tree.{Json, str, arr, Members, noMembers, member, itemsOf}
-use Rattle.content.specs.Line.{Param}
+use Rattle.content.specs.Line.{Param, nameOf}
 
 unfoldable pub called : List ℕ → Param → Bool
 called n p = same (p .name) n
 
 -- number 7: a parameter name twice
 unfoldable pub nameTwice : List Param → Bool
-nameTwice ps = twice (map (λ (p : Param). p .name) ps)
+nameTwice ps = twice (map nameOf ps)
 
 -- VALUE's type in lowercase: one token, and not UNKNOWN
 unfoldable pub token : List (List ℕ) → Answer (Option (List ℕ))

@@ -16,9 +16,6 @@ unfoldable pub otherPieces : List (List ℕ) → List (List ℕ)
 otherPieces [] = []
 otherPieces (p ∷ ps) = ps
 
-abbrev pub nameOf : Param → List ℕ
-nameOf p = p .name
-
 -- ;PARAM;PARAM
 unfoldable pub paramsIn : List ℕ → List Param
 paramsIn s = map paramOf (otherPieces (pieces (code ";") false s))

@@ -4,7 +4,8 @@ use mathlib.Core.List.{map}
 use mathlib.Core.Path.{_≡_, sym, _∙_}
 use Prim.Native.Nat.{_-_}
 use borrow.Author.Needs.{needs}
-use Rattle.content.specs.Parts.{paramsIn, nameOf}
+use Rattle.content.specs.Line.{nameOf}
+use Rattle.content.specs.Parts.{paramsIn}
 use Rattle.octets.specs.Classes.{lower}
 use Rattle.octets.specs.Basics.{among}
 use Rattle.content.proofs.Names.{same-lower}
