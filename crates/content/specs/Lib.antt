@@ -12,6 +12,5 @@ pub mod Scan
 pub mod Parts
 pub mod Buffer
 pub mod Kinds
-pub mod Slots
 pub mod Object
 pub mod Reading

@@ -4,20 +4,19 @@ ghost use mathlib.Core.List.{map};
 ghost use lib.ListN.{length, drop};
 ghost use Rattle.octets.specs.Basics.{among};
 ghost use Rattle.octets.specs.Classes.{lower};
+ghost use Rattle.octets.specs.Slots.{slotIn, Blank, Within};
 ghost use Rattle.content.specs.Parameters.{nameTwice};
 ghost use Rattle.content.specs.Line.{nameOf};
-ghost use Rattle.content.specs.Parts.{paramsIn};
-ghost use Rattle.content.specs.Slots.{slotOf, slotIn, Blank, Within};
+ghost use Rattle.content.specs.Parts.{paramsIn, nameAt};
 use crate::parts::param_at;
 use crate::scan::next_bare;
-use octets::lower_octet;
+use octets::Case;
+use octets::SLOTS;
 use octets::same_name;
+use octets::slot_of;
 
 // Names that are compared with all behind them.
 const FEW: usize = 8;
-
-// Slots in a table: one for each answer of `slot_of`, and some more behind them.
-const SLOTS: usize = 16640;
 
 // Whether a parameter from `from` on has this name.
 fn has_name(s: &[u8], from: usize, name: &[u8]) -> bool
@@ -36,25 +35,12 @@ fn has_name(s: &[u8], from: usize, name: &[u8]) -> bool
     false
 }
 
-// The slot from which on a name is looked for in a table.
-fn slot_of(name: &[u8]) -> usize
-    ensures { λ r. ⌜ r ≡ slotOf (lower (now (name .entry))) ⌝ }
-{
-    let mut h: usize = 0;
-    let mut i = 0;
-    while i < name.len() {
-        h = (h * 15541 + lower_octet(name[i]) as usize) % 16381;
-        i += 1;
-    }
-    h
-}
-
 // The slot that holds a name, or the free one for it, or the end of the table.
 fn slot_in(s: &[u8], table: &[usize], name: &[u8]) -> usize
     requires { ⌜ Within (length (now s)) (now table) ⌝ }
-    ensures { λ r. ⌜ r ≡ slotIn (now (s .entry)) (lower (now (name .entry))) (now (table .entry)) ⌝ }
+    ensures { λ r. ⌜ r ≡ slotIn (nameAt (now (s .entry))) (lower (now (name .entry))) (now (table .entry)) ⌝ }
 {
-    let mut q = slot_of(name);
+    let mut q = slot_of(name, Case::Lower);
     while q < table.len() {
         let p = table[q];
         if p == 0 {

@@ -6,21 +6,24 @@ use borrow.Author.Needs.{needs}
 use lib.ListN.{length, drop}
 use Rattle.octets.specs.Basics.{same}
 use Rattle.octets.specs.Classes.{lower}
-use Rattle.content.specs.Slots.{passed, slotIn}
+use Rattle.octets.specs.Slots.{passed, slotIn}
+use Rattle.octets.proofs.Slots.{seeking-start, seeking-end, seeking-free, seeking-there, seeking-on}
+use Rattle.content.specs.Parts.{nameAt}
 use Rattle.content.proofs.Scanning.{bare-high}
 use Rattle.content.proofs.Separators.{oneOf}
 use Rattle.content.proofs.Names.{same-lower}
-use Rattle.content.proofs.Tables.{name-seen, seeking-start, seeking-end, seeking-free, seeking-there, seeking-on}
+use Rattle.content.proofs.Tables.{name-seen}
 use Rattle.content.proofs.twice.slot_in.Statement.{statement}
 use Rattle.content.proofs.twice.slot_in.Tie as tie
 
 abbrev Inv-loop : tie.InvT-loop
-Inv-loop s table name q₀ q = slotIn s (lower name) table ≡ q + passed s (lower name) (drop q table)
+Inv-loop s table name q₀ q = slotIn (nameAt s) (lower name) table ≡ q + passed (nameAt s) (lower name) (drop q table)
 
 abbrev μ-loop : tie.MeasureT-loop
 μ-loop s table name q₀ q = length table - q
 
 loop-holds : tie.Need-loop-holds Inv-loop μ-loop
+unfolding lower
 loop-holds c = rw (c .slot-of .ensures) (seeking-start _ _ _)
 
 returns : tie.Need-returns Inv-loop μ-loop

@@ -1,6 +1,6 @@
 -- `content::twice::twice_many` meets its contract.
 use borrow.Author.Needs.{needs}
-use Rattle.content.proofs.Tables.{blank}
+use Rattle.octets.proofs.Slots.{blank}
 use Rattle.content.proofs.twice.twice_many.Statement.{statement}
 use Rattle.content.proofs.twice.twice_many.Tie as tie
 
