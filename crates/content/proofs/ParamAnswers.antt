@@ -10,7 +10,7 @@ use borrow.Author.Tests.{eqb-true, leb-true, leb-false}
 use lib.Dec.{eqb, leb}
 use lib.ListN.{length, getD, take, drop}
 use lib.Seq.{take-all}
-use Rattle.octets.specs.Basics.{octets, pick, _and_, _or_, all, any, same, filled, single}
+use Rattle.octets.specs.Basics.{octets, pick, _or_, all, any, same, filled, single}
 use Rattle.octets.specs.Pieces.{cut}
 use Rattle.octets.specs.Classes.{between, isDigit, isUpper, isLower, isLetter, nameOctet, isName, lowerOctet, upperOctet, upper, lower, sameName}
 use Rattle.octets.specs.Answers.{Answer, refused, accepted}
@@ -29,7 +29,7 @@ use Rattle.content.specs.declared.params.ValueType.the-variants.{Absent,
 use Rattle.content.proofs.Names.{same-lower}
 use Rattle.content.proofs.Scanning.{bare-rest, bare-stop}
 use Rattle.content.proofs.Separators.{oneOf, twice-one, before-is, sep-before, pieces-first}
-use Rattle.content.proofs.ParamPlaces.{Stands, no-params, param-here}
+use Rattle.content.proofs.ParamPlaces.{Passing, passing-end, passing-at, passing-on}
 use Rattle.content.proofs.ParamValues.{decoded-name, name-decoded, word-decoded}
 
 -- the values of a parameter are one where no comma separates them
@@ -138,41 +138,48 @@ module _ (s : List ℕ) (v e : ℕ) where
 pub tells : {s : List ℕ} {a b : Answer (Option (List ℕ))} {k : ValueType} → a ≡ b → TellsType s b k → TellsType s a k
 tells e t = rw e t
 
-module _ (s : List ℕ) (e : ℕ) where
-  pub type-none : length s ≤ e → TellsType s (valueType (paramsIn (drop e s))) Absent
+-- the name of the parameter behind e
+named : (s : List ℕ) (e : ℕ) (p : ParamParts) (w : List ℕ) → lower w ≡ w → called w (paramAt s (e + 1) p) ≡ sameName (take (p .name - (e + 1)) (drop (e + 1) s)) w
+unfolding called paramAt
+named s e p w l = sym (called-is w (take (p .name - (e + 1)) (drop (e + 1) s)) l)
+
+module _ {s : List ℕ} {e : ℕ} (w : Passing valueType s 0 e) where
+  pub type-none : length s ≤ e → TellsType s (valueType (paramsIn s)) Absent
   unfolding valueType valueTypeSaid
-  type-none h = record { is = rw (no-params s e h); within = tt }
+  type-none h = record { is = sym (passing-end w h); within = tt }
 
-  module _ (st : Stands s e) (h : e < length s) (p : ParamParts) (k : CutParam s (e + 1) p) where
+  module _ (h : e < length s) {p : ParamParts} (k : CutParam s (e + 1) p) where
+    is-value : called (octets "value") (paramAt s (e + 1) p) ≡ sameName (take (p .name - (e + 1)) (drop (e + 1) s)) (octets "value")
+    is-value = named s e p (octets "value") (unfold lower lowerOctet isUpper between in refl)
+
     pub type-here : sameName (take (p .name - (e + 1)) (drop (e + 1) s)) (octets "value") ≡ true
-        → valueType (paramsIn (drop e s)) ≡ token (map paramValue (pieces (code ",") false (take (p .end - p .values) (drop (p .values) s))))
-    unfolding valueType called paramAt
-    type-here t = rw (param-here s e st h p k, sym (called-is (octets "value") (take (p .name - (e + 1)) (drop (e + 1) s)) (unfold lower lowerOctet isUpper between in refl)) ∙ t)
+        → valueType (paramsIn s) ≡ token (map paramValue (pieces (code ",") false (take (p .end - p .values) (drop (p .values) s))))
+    unfolding valueType paramAt
+    type-here t = passing-at w h k ∙ rw (is-value ∙ t)
 
-    pub type-on : sameName (take (p .name - (e + 1)) (drop (e + 1) s)) (octets "value") ≡ false
-        → valueType (paramsIn (drop e s)) ≡ valueType (paramsIn (drop (p .end) s))
-    unfolding valueType called paramAt
-    type-on t = rw (param-here s e st h p k, sym (called-is (octets "value") (take (p .name - (e + 1)) (drop (e + 1) s)) (unfold lower lowerOctet isUpper between in refl)) ∙ t)
+    pub type-on : sameName (take (p .name - (e + 1)) (drop (e + 1) s)) (octets "value") ≡ false → Passing valueType s 0 (p .end)
+    unfolding valueType
+    type-on t = passing-on w h k (rw (is-value ∙ t))
 
 -- the walk for ENCODING
-module _ (s : List ℕ) (e : ℕ) where
-  pub encoded-none : length s ≤ e → isEncoded (paramsIn (drop e s)) ≡ false
+module _ {s : List ℕ} {e : ℕ} (w : Passing isEncoded s 0 e) where
+  pub encoded-none : length s ≤ e → isEncoded (paramsIn s) ≡ false
   unfolding isEncoded any
-  encoded-none h = rw (no-params s e h)
+  encoded-none h = passing-end w h
 
-  module _ (st : Stands s e) (h : e < length s) (p : ParamParts) (k : CutParam s (e + 1) p) where
-    encoded-turn : isEncoded (paramsIn (drop e s)) ≡ ((sameName (take (p .name - (e + 1)) (drop (e + 1) s)) (octets "encoding")
-        and isBase64 (map paramValue (pieces (code ",") false (take (p .end - p .values) (drop (p .values) s))))) or isEncoded (paramsIn (drop (p .end) s)))
-    unfolding isEncoded any encodes called paramAt
-    encoded-turn = rw (param-here s e st h p k, called-is (octets "encoding") (take (p .name - (e + 1)) (drop (e + 1) s)) (unfold lower lowerOctet isUpper between in refl))
+  module _ (h : e < length s) {p : ParamParts} (k : CutParam s (e + 1) p) where
+    is-encoding : called (octets "encoding") (paramAt s (e + 1) p) ≡ sameName (take (p .name - (e + 1)) (drop (e + 1) s)) (octets "encoding")
+    is-encoding = named s e p (octets "encoding") (unfold lower lowerOctet isUpper between in refl)
 
-    pub encoded-here : sameName (take (p .name - (e + 1)) (drop (e + 1) s)) (octets "encoding") ≡ true
-        → isBase64 (map paramValue (pieces (code ",") false (take (p .end - p .values) (drop (p .values) s)))) ≡ true → isEncoded (paramsIn (drop e s)) ≡ true
-    encoded-here t b = encoded-turn ∙ rw (t, b)
+    pub encoded-on : sameName (take (p .name - (e + 1)) (drop (e + 1) s)) (octets "encoding") ≡ false → Passing isEncoded s 0 (p .end)
+    unfolding isEncoded any encodes
+    encoded-on t = passing-on w h k (rw (is-encoding ∙ t))
 
-    pub encoded-not : sameName (take (p .name - (e + 1)) (drop (e + 1) s)) (octets "encoding") ≡ true
-        → isBase64 (map paramValue (pieces (code ",") false (take (p .end - p .values) (drop (p .values) s)))) ≡ false → isEncoded (paramsIn (drop e s)) ≡ isEncoded (paramsIn (drop (p .end) s))
-    encoded-not t b = encoded-turn ∙ rw (t, b)
+    module _ (t : sameName (take (p .name - (e + 1)) (drop (e + 1) s)) (octets "encoding") ≡ true) where
+      pub encoded-here : isBase64 (map paramValue (pieces (code ",") false (take (p .end - p .values) (drop (p .values) s)))) ≡ true → isEncoded (paramsIn s) ≡ true
+      unfolding isEncoded any encodes paramAt
+      encoded-here b = passing-at w h k ∙ rw (is-encoding ∙ t, b)
 
-    pub encoded-on : sameName (take (p .name - (e + 1)) (drop (e + 1) s)) (octets "encoding") ≡ false → isEncoded (paramsIn (drop e s)) ≡ isEncoded (paramsIn (drop (p .end) s))
-    encoded-on t = encoded-turn ∙ rw t
+      pub encoded-not : isBase64 (map paramValue (pieces (code ",") false (take (p .end - p .values) (drop (p .values) s)))) ≡ false → Passing isEncoded s 0 (p .end)
+      unfolding isEncoded any encodes paramAt
+      encoded-not b = passing-on w h k (rw (is-encoding ∙ t, b))

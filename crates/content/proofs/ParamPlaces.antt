@@ -1,7 +1,7 @@
 -- The parameters of a line by their places: each stands behind a semicolon.
 use Prim.Native.Nat.{ℕ, _+_, _-_, _≤_, _<_}
 use Prim.Native.Char.{code}
-use mathlib.Core.Path.{_≡_, _∙_}
+use mathlib.Core.Path.{_≡_, ap, _∙_}
 use mathlib.Core.Bool.{Bool, true, false}
 use mathlib.Core.List.{List, [], _∷_, map}
 use borrow.Author.Tests.{eqb-true}
@@ -12,7 +12,7 @@ use Rattle.octets.specs.Pieces.{cut}
 use Rattle.octets.specs.Classes.{lower}
 use Rattle.octets.proofs.Cases.{or-second, or-false-right}
 use Rattle.octets.proofs.Positions.{here, ended}
-use Rattle.content.specs.Line.{quoteAfter, bare, pieces, paramOf, nameOf}
+use Rattle.content.specs.Line.{Param, quoteAfter, bare, pieces, paramOf, nameOf}
 use Rattle.content.specs.Scan.{untilBare}
 use Rattle.content.specs.Parts.{otherPieces, paramsIn, paramAt, CutParam}
 use Rattle.content.specs.Parameters.{nameTwice}
@@ -51,22 +51,42 @@ module _ (s : List ℕ) (e : ℕ) (st : Stands s e) (h : e < length s) where
 pub param-next : (s : List ℕ) (i : ℕ) (p : ParamParts) → CutParam s i p → Stands s (p .end)
 param-next s i p k = record { semicolon = k .next }
 
+-- a walk over the parameters from a on, at e: what f says of those from a on, it says of those from e on
+pub record Passing {A : Type 0} (f : List Param → A) (s : List ℕ) (a e : ℕ) : Type 0 where
+  pub stands : Stands s e
+  pub alike : f (paramsIn (drop a s)) ≡ f (paramsIn (drop e s))
+
+pub passing-start : {A : Type 0} {f : List Param → A} (s : List ℕ) (a e : ℕ) → e ≡ a + length (untilBare (oneOf (code ";") (code ";")) false (drop a s)) → Passing f s a e
+passing-start {f = f} s a e q = record { stands = first-stands s a e q; alike = ap f (first-params s a e q) }
+
+module _ {A : Type 0} {f : List Param → A} {s : List ℕ} {a e : ℕ} (w : Passing f s a e) where
+  pub passing-end : length s ≤ e → f (paramsIn (drop a s)) ≡ f []
+  passing-end h = w .alike ∙ ap f (no-params s e h)
+
+  module _ (h : e < length s) {p : ParamParts} (k : CutParam s (e + 1) p) where
+    pub passing-at : f (paramsIn (drop a s)) ≡ f (paramAt s (e + 1) p ∷ paramsIn (drop (p .end) s))
+    passing-at = w .alike ∙ ap f (param-here s e (w .stands) h p k)
+
+    pub passing-on : f (paramAt s (e + 1) p ∷ paramsIn (drop (p .end) s)) ≡ f (paramsIn (drop (p .end) s)) → Passing f s a (p .end)
+    passing-on o = record { stands = param-next s (e + 1) p k; alike = passing-at ∙ o }
+
 -- a name among those of the parameters
-module _ (name : List ℕ) (s : List ℕ) (e : ℕ) where
-  pub among-none : length s ≤ e → among name (map nameOf (paramsIn (drop e s))) ≡ false
+abbrev pub hasName : List ℕ → List Param → Bool
+hasName n ps = among n (map nameOf ps)
+
+module _ (n : List ℕ) {s : List ℕ} {a e : ℕ} (w : Passing (hasName n) s a e) where
+  pub among-none : length s ≤ e → hasName n (paramsIn (drop a s)) ≡ false
   unfolding among any
-  among-none h = rw (no-params s e h)
+  among-none h = passing-end w h
 
-  module _ (st : Stands s e) (h : e < length s) (p : ParamParts) (k : CutParam s (e + 1) p) where
-    among-turn : among name (map nameOf (paramsIn (drop e s))) ≡ (same name (lower (take (p .name - (e + 1)) (drop (e + 1) s))) or among name (map nameOf (paramsIn (drop (p .end) s))))
+  module _ (h : e < length s) {p : ParamParts} (k : CutParam s (e + 1) p) where
+    pub among-here : same n (lower (take (p .name - (e + 1)) (drop (e + 1) s))) ≡ true → hasName n (paramsIn (drop a s)) ≡ true
     unfolding among any paramAt
-    among-turn = rw (param-here s e st h p k)
+    among-here t = passing-at w h k ∙ rw t
 
-    pub among-here : same name (lower (take (p .name - (e + 1)) (drop (e + 1) s))) ≡ true → among name (map nameOf (paramsIn (drop e s))) ≡ true
-    among-here t = among-turn ∙ rw t
-
-    pub among-on : same name (lower (take (p .name - (e + 1)) (drop (e + 1) s))) ≡ false → among name (map nameOf (paramsIn (drop e s))) ≡ among name (map nameOf (paramsIn (drop (p .end) s)))
-    among-on t = among-turn ∙ rw t
+    pub among-on : same n (lower (take (p .name - (e + 1)) (drop (e + 1) s))) ≡ false → Passing (hasName n) s a (p .end)
+    unfolding among any paramAt
+    among-on t = passing-on w h k (rw t)
 
 -- a name twice
 module _ (s : List ℕ) (e : ℕ) where
