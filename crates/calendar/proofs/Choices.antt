@@ -20,7 +20,7 @@ use Rattle.calendar.specs.declared.rules.Weekday.{Weekday}
 use Rattle.calendar.specs.declared.rules.Weekday.the-variants.{Sunday, Monday, Tuesday, Wednesday, Thursday, Friday, Saturday}
 use Rattle.calendar.proofs.Pieces.{upper-length}
 use Rattle.calendar.proofs.Words.{same-turned}
-use Rattle.calendar.proofs.Standing.{two-letters}
+use Rattle.calendar.proofs.ItemTests.{two-letters}
 
 -- the first choice whose word it is, or else d
 abbrev chosen : {A : Type 0} → List (List ℕ) → List A → A → List ℕ → A

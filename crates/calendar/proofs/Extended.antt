@@ -8,7 +8,8 @@ use native.Mathlib.Omega.{arith}
 use lib.Dec.{leb}
 use lib.ListN.{length}
 use Rattle.octets.specs.Optional.{map?, or?}
-use Rattle.octets.proofs.Cases.{cases, same?, never, both, and-true, itself, or-first, or-second, or-false-right}
+use Rattle.octets.proofs.Cases.{cases, same?, both, and-true, itself, or-first, or-second, or-false-right}
+use Rattle.calendar.proofs.Options.{or-none}
 use Rattle.calendar.specs.Forms.{Slot, digit, sign, letter, added, takes, fits, kept, extended, fitsEither, extendedEither, keeps, basic}
 
 -- what `kept` tells
@@ -90,11 +91,6 @@ fits-either form false t h = or-first (fits (form true) t) h
 fits-either form true t h = or-second (fits (form false) t) h
 
 -- which of them it is, where the length tells
-or-none : {A : Type 0} (x : Option A) → or? x none ≡ x
-unfolding or?
-or-none none = refl
-or-none (some a) = refl
-
 module _ (form : Bool → List Slot) (n : ℕ) where
   other : (w m : ℕ) {b : Bool} → leb n w ≡ b → {d : Bool} → leb n m ≡ d → (b ≡ d → ⊥) → m ≡ w → ⊥
   other w m e f d q = d (sym e ∙ ap (leb n) (sym q) ∙ f)

@@ -11,9 +11,8 @@ use lib.Dec.{eqb, leb}
 use lib.ListN.{length}
 use Rattle.octets.specs.Basics.{octets, pick, _and_}
 use Rattle.octets.specs.Optional.{isSome, when, guard}
-use Rattle.octets.specs.Classes.{upperOctet, upper}
+use Rattle.octets.specs.Classes.{upper}
 use Rattle.octets.proofs.Cases.{cases}
-use Rattle.octets.proofs.Classes.{map-length}
 use Rattle.calendar.specs.Forms.{Slot, digit, letter, added, fits, extended, fitsEither, keeps, basic, dateForm, clockForm, utc, timeForm, dateTimeForm, offsetForm}
 use Rattle.calendar.specs.Dates.{clockIn, momentIn, offsetIn, dateOf, timeOf, dateTimeOf, offsetOf, dateIs, timeIs, dateTimeIs, offsetIs, dateText, timeText, dateTimeText, offsetText}
 use Rattle.calendar.specs.Texts.{formOf, formIs, formText, octetsIn, textSaid, Says, Carries, isAdded, placeAt, slotAt, slots, shape, shaped, numbersIn, readForm}
@@ -22,10 +21,7 @@ use Rattle.calendar.specs.declared.texts.Form.the-variants.{Date, Time, 
 use Rattle.calendar.specs.declared.texts.Text.{Text}
 use Rattle.calendar.proofs.Extended.{width, read-by-length, fits-by-length, basic-front}
 use Rattle.calendar.proofs.Slots.{whole-text}
-
-pub upper-length : (s : List ℕ) → length (upper s) ≡ length s
-unfolding upper
-upper-length s = map-length upperOctet s
+use Rattle.calendar.proofs.Pieces.{upper-length}
 
 -- what a text of some length says
 pub says-none : (t : Text) → t .len ≡ 0 → textSaid t ≡ none

@@ -8,6 +8,7 @@ use borrow.Author.Tests.{lt-ltb, le-ltb, leb-true}
 use lib.Dec.{ltb, leb}
 use Rattle.octets.specs.Optional.{when, given}
 use Rattle.octets.proofs.Cases.{both, and-false-right}
+use Rattle.octets.proofs.Optional.{when-is}
 use Rattle.calendar.specs.Gregorian.{isDay, dayNumber, dayCount, dateAt}
 use Rattle.calendar.specs.Dates.{isClock}
 use Rattle.calendar.specs.Moments.{isMoment, hourNumber, atHour, moved}
@@ -17,12 +18,7 @@ use Rattle.calendar.specs.declared.moments.Moment.{Moment}
 use Rattle.calendar.specs.declared.moments.Moved.the-variants.{At, Past, NoMoment}
 use Rattle.calendar.proofs.Inverse.{day-count, number-small}
 
--- what `when` tells
-pub some-when : {A : Type 0} (b : Bool) (n x : A) → some n ≡ when b x → (b ≡ true) × (n ≡ x)
-unfolding when
-some-when true n x e = (refl, cc)
-some-when false n x e = let z : _≡_ {A = ℕ} 0 1 = cc in absurd (omega arith)
-
+-- what `when` tells where there is nothing
 pub none-when : {A : Type 0} (b : Bool) (x : A) → none ≡ when b x → b ≡ false
 unfolding when
 none-when true x e = let z : _≡_ {A = ℕ} 0 1 = cc in absurd (omega arith)
@@ -45,10 +41,10 @@ module _ (m : Moment) (h : ℕ) where
 
   module _ (n : ℕ) (t : atTime m ≡ true) (e : some n ≡ when (onDay (m .date)) (dayNumber (m .date))) where
     day : onDay (m .date) ≡ true
-    day = some-when _ _ _ e .0
+    day = when-is _ _ _ (sym e) .0
 
     number : n ≡ dayNumber (m .date)
-    number = some-when _ _ _ e .1
+    number = sym (when-is _ _ _ (sym e) .1)
 
     small : n < 3652425
     small = rw (number, ← day-count) (number-small (m .date) day)
@@ -78,5 +74,5 @@ module _ (m : Moment) (h : ℕ) where
           → At (record { date = d; hour = (n * 24 + m .hour + h) % 24; minute = m .minute; second = m .second; kind = m .kind }) ≡ movedOn m h
       unfolding atHour when given
       arrives d q =
-          let e : d ≡ dateAt ((n * 24 + m .hour + h) / 24) = some-when (ltb ((n * 24 + m .hour + h) / 24) dayCount) d (dateAt ((n * 24 + m .hour + h) / 24)) q .1 in
+          let e : d ≡ dateAt ((n * 24 + m .hour + h) / 24) = sym (when-is (ltb ((n * 24 + m .hour + h) / 24) dayCount) (dateAt ((n * 24 + m .hour + h) / 24)) d (sym q) .1) in
           sym (moves ∙ rw (lt-ltb (n * 24 + m .hour + h) 87658200 p, e))

@@ -13,7 +13,7 @@ use Rattle.octets.proofs.Limits.{last-year}
 use Rattle.calendar.specs.declared.dates.Date.{Date}
 use Rattle.calendar.specs.Gregorian.{leapDay, months, monthDays, yearDays, isDay, dateOn, sum, beforeYear, beforeMonth, dayNumber, dayCount, inMonths, inYears, dateAt}
 use Rattle.calendar.proofs.Days.{Day, day-tells, day-is, before-year}
-use Rattle.calendar.proofs.Back.{Found, found}
+use Rattle.calendar.proofs.DateFormula.{Found, found}
 
 pub day-count : dayCount ≡ 3652425
 unfolding dayCount

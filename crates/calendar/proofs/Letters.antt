@@ -1,22 +1,20 @@
 -- Reading a duration letter by letter, which is its definition, and the loop that does so.
-use Prim.Native.Nat.{ℕ, _+_, _-_, _≤_, _<_}
+use Prim.Native.Nat.{ℕ, _+_, _≤_, _<_}
 use Prim.Native.Char.{code}
-use mathlib.Core.Path.{_≡_, refl, sym, ap, _∙_}
+use mathlib.Core.Path.{_≡_, refl, sym, _∙_}
 use mathlib.Core.Bool.{Bool, true, false, not}
 use mathlib.Core.List.{List, [], _∷_}
-use native.Mathlib.Omega.{arith}
-use borrow.Author.Tests.{ne-eqb}
 use lib.Dec.{eqb}
 use lib.ListN.{length, getD, drop}
-use Rattle.octets.specs.Basics.{octets, pick, _and_, _or_, all, any, same, among}
-use Rattle.octets.specs.Classes.{between, isDigit, isLower, upperOctet, upper}
-use Rattle.octets.specs.Decimal.{isSign, unsigned}
+use Rattle.octets.specs.Basics.{octets, pick, _and_, all, any, same, among}
+use Rattle.octets.specs.Classes.{between, isDigit, upperOctet, upper}
+use Rattle.octets.specs.Decimal.{unsigned}
 use Rattle.octets.proofs.Cases.{cases, same?, never, both, and-true, and-swap}
-use Rattle.octets.proofs.Classes.{between-true}
 use Rattle.octets.proofs.Decimal.{digit-no-sign}
 use Rattle.octets.proofs.Positions.{here, ended}
-use Rattle.calendar.specs.Durations.{spans, letters, isUnit, counted, placed, durationIs}
+use Rattle.calendar.specs.Durations.{spans, letters, isUnit, unitPlaced, placed, durationIs}
 use Rattle.calendar.specs.Letters.{letterFollows, mayCome, letterWith, durationRest}
+use Rattle.calendar.proofs.ItemTests.{unsigned-upper}
 
 -- the letters that may stand behind a letter
 ends : List (List ℕ)
@@ -91,7 +89,7 @@ read-by-letters s = unfold behindLetter in by-letters 0 0 (unsigned s)
 
 -- a digit before the first letter is none of a duration's
 digit-first : (p : ℕ) → isDigit p ≡ true → (s : List ℕ) → durationRest 0 p s ≡ false
-unfolding durationRest mayCome letterWith letterFollows isUnit counted
+unfolding durationRest mayCome letterWith letterFollows isUnit unitPlaced
 digit-first p h [] = refl
 digit-first p h (c ∷ s) =
     cases (isDigit c)
@@ -113,21 +111,6 @@ letters-all p d (c ∷ s) h =
     cases (isDigit c)
     (λ e. and-true (d c e) (letters-all p d s (rw e at h)))
     (λ e. let b = both (p c) (all p (letters s)) (rw e at h) in and-true (b .0) (letters-all p d s (b .1)))
-
--- an octet below the letters has no case
-pub no-case : (c k : ℕ) → k < code "A" → eqb (upperOctet c) k ≡ eqb c k
-unfolding upperOctet isLower
-no-case c k l =
-    cases (between (code "a") (code "z") c)
-    (λ e. let b = between-true (code "a") (code "z") c e in rw (e, ne-eqb (c - 32) k (λ q. omega arith), ne-eqb c k (λ q. omega arith)))
-    (λ e. rw e)
-
-unsigned-upper : (s : List ℕ) → unsigned (upper s) ≡ upper (unsigned s)
-unfolding unsigned upper isSign
-unsigned-upper [] = refl
-unsigned-upper (c ∷ s) =
-    rw (no-case c (code "+") (omega arith), no-case c (code "-") (omega arith))
-    (cases (eqb c (code "+") or eqb c (code "-")) (λ e. rw e) (λ e. rw e))
 
 -- The loop that reads a duration: i octets are read, b is the last letter of them and p the last octet.
 abbrev pub Spelled : List ℕ → ℕ → ℕ → ℕ → Type 0

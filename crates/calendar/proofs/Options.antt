@@ -19,6 +19,11 @@ unfolding or?
 or-tells none y a e f g = g refl e
 or-tells (some b) y a e f g = f e
 
+pub or-none : {A : Type 0} (o : Option A) → or? o none ≡ o
+unfolding or?
+or-none none = refl
+or-none (some a) = refl
+
 -- whether there is a result
 pub some-when : {A : Type 0} (b : Bool) (a : A) → isSome (when b a) ≡ b
 unfolding isSome when

@@ -11,7 +11,7 @@ use borrow.Author.Tests.{eqb-true}
 use lib.Dec.{eqb, leb}
 use lib.ListN.{length, getD}
 use Rattle.octets.specs.Basics.{_or_, all, among}
-use Rattle.octets.specs.Optional.{or?, when}
+use Rattle.octets.specs.Optional.{when}
 use Rattle.octets.specs.Classes.{between, isDigit, isLower, upperOctet, upper}
 use Rattle.octets.specs.Decimal.{isSign, minus, unsigned}
 use Rattle.octets.proofs.Cases.{cases, never, both, and-true, either, or-second, all-weaker, all-append}

@@ -26,13 +26,13 @@ unfoldable pub isUnit : ℕ → Bool
 isUnit c = eqb c (code "W") or eqb c (code "D") or eqb c (code "H") or eqb c (code "M") or eqb c (code "S")
 
 -- behind the octet p, a unit if p is a digit, and else none
-unfoldable pub counted : ℕ → ℕ → Bool
-counted p c = pick (isUnit c) (isDigit p) (not (isDigit p))
+unfoldable pub unitPlaced : ℕ → ℕ → Bool
+unitPlaced p c = pick (isUnit c) (isDigit p) (not (isDigit p))
 
 -- digits stand before each unit and nowhere else; p is the octet before the text
 unfoldable pub placed : ℕ → List ℕ → Bool
 placed p [] = not (isDigit p)
-placed p (c ∷ s) = (isDigit c or counted p c) and placed c s
+placed p (c ∷ s) = (isDigit c or unitPlaced p c) and placed c s
 
 unfoldable pub durationIs : List ℕ → Bool
 durationIs s = among (letters (unsigned s)) spans and placed 0 (unsigned s)

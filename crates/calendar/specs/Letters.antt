@@ -6,7 +6,7 @@ use mathlib.Core.List.{List, [], _∷_}
 use lib.Dec.{eqb}
 use Rattle.octets.specs.Basics.{pick, _and_, _or_}
 use Rattle.octets.specs.Classes.{isDigit}
-use Rattle.calendar.specs.Durations.{isUnit, counted}
+use Rattle.calendar.specs.Durations.{isUnit, unitPlaced}
 
 -- the letter c may follow the letter b, for which 0 stands if there is none
 unfoldable pub letterFollows : ℕ → ℕ → Bool
@@ -20,7 +20,7 @@ letterFollows b c =
 
 -- c may stand behind the octet p, where b is the last letter before it
 unfoldable pub mayCome : ℕ → ℕ → ℕ → Bool
-mayCome b p c = isDigit c or (letterFollows b c and counted p c)
+mayCome b p c = isDigit c or (letterFollows b c and unitPlaced p c)
 
 -- the last letter, with c
 unfoldable pub letterWith : ℕ → ℕ → ℕ

@@ -1,9 +1,9 @@
 -- Moments: a date, a local date-time or one in UTC, read from a text, and moved on by hours (01, The stop list).
 use Prim.Native.Nat.{ℕ, _+_, _*_, _/_, _%_}
-use mathlib.Core.Bool.{Bool, true, false}
+use mathlib.Core.Bool.{Bool, true}
 use mathlib.Core.List.{List}
 use mathlib.Core.Option.{Option}
-use lib.Dec.{ltb, leb}
+use lib.Dec.{eqb, ltb, leb}
 use Rattle.octets.specs.Basics.{pick, _and_}
 use Rattle.octets.specs.Optional.{map?, when}
 use Rattle.octets.specs.Classes.{upper}
@@ -56,13 +56,11 @@ secondNumber m = (hourNumber m * 60 + m .minute) * 60 + m .second
 unfoldable pub notBehind : Moment → Moment → Bool
 notBehind a b = leb (secondNumber a) (secondNumber b)
 
+-- the kinds, counted
+unfoldable pub kindPlace : Kind → ℕ
+kindPlace Day = 0
+kindPlace Local = 1
+kindPlace Utc = 2
+
 unfoldable pub sameKind : Kind → Kind → Bool
-sameKind Day Day = true
-sameKind Day Local = false
-sameKind Day Utc = false
-sameKind Local Day = false
-sameKind Local Local = true
-sameKind Local Utc = false
-sameKind Utc Day = false
-sameKind Utc Local = false
-sameKind Utc Utc = true
+sameKind a b = eqb (kindPlace a) (kindPlace b)

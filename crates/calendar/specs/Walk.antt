@@ -11,8 +11,8 @@ use Rattle.octets.specs.Classes.{upper}
 use Rattle.octets.specs.Decimal.{integerText}
 use Rattle.calendar.specs.Recurrence.{PartSort, frequency, moment, count, weekday, ordinal, numbers, Key, key, keys}
 use Rattle.calendar.specs.declared.parts.PartAt.{PartAt}
-use Rattle.calendar.specs.declared.parts.ItemSort.{ItemSort}
-use Rattle.calendar.specs.declared.parts.ItemSort.the-variants.{Frequency, Moment, Count, Weekday, Ordinal, Numbers}
+use Rattle.calendar.specs.declared.parts.PartSort.{PartSort as SortInCode}
+use Rattle.calendar.specs.declared.parts.PartSort.the-variants.{Frequency, Moment, Count, Weekday, Ordinal, Numbers}
 
 -- the octets before the first `sep`, or all of them
 unfoldable pub beforeFirst : ℕ → List ℕ → List ℕ
@@ -39,7 +39,7 @@ unfoldable pub keyAt : ℕ → Key
 keyAt i = getD keys i (key [] frequency)
 
 -- the sort that a key's values are of, as the code has it
-unfoldable pub partSortSaid : ItemSort → PartSort
+unfoldable pub partSortSaid : SortInCode → PartSort
 partSortSaid Frequency = frequency
 partSortSaid Moment = moment
 partSortSaid Count = count

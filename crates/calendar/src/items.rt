@@ -16,7 +16,7 @@ ghost use Rattle.calendar.specs.Reading.{valuesStand};
 use crate::moments::MomentRead;
 use crate::moments::read_moment;
 use crate::parts::Bounds;
-use crate::parts::ItemSort;
+use crate::parts::PartSort;
 use crate::parts::find;
 use crate::parts::frequency_place;
 use octets::MOST_INTEGER;
@@ -154,35 +154,35 @@ fn is_until(s: &[u8]) -> bool
 }
 
 // One value of a part.
-fn item_stands(sort: ItemSort, s: &[u8]) -> bool
+fn item_stands(sort: PartSort, s: &[u8]) -> bool
     ensures { λ r. ⌜ r ≡ isSome (itemOf (partSortSaid sort) (upper (now (s .entry)))) ⌝ }
 {
     match sort {
-        ItemSort::Frequency => is_frequency(s),
-        ItemSort::Moment => is_until(s),
-        ItemSort::Count => is_count(s),
-        ItemSort::Weekday => is_weekday(s),
-        ItemSort::Ordinal => is_ordinal(s),
-        ItemSort::Numbers(b) => is_number(s, b),
+        PartSort::Frequency => is_frequency(s),
+        PartSort::Moment => is_until(s),
+        PartSort::Count => is_count(s),
+        PartSort::Weekday => is_weekday(s),
+        PartSort::Ordinal => is_ordinal(s),
+        PartSort::Numbers(b) => is_number(s, b),
     }
 }
 
 // Only BY parts have several values.
-fn has_several(sort: ItemSort) -> bool
+fn has_several(sort: PartSort) -> bool
     ensures { λ r. ⌜ r ≡ several (partSortSaid sort) ⌝ }
 {
     match sort {
-        ItemSort::Frequency => false,
-        ItemSort::Moment => false,
-        ItemSort::Count => false,
-        ItemSort::Weekday => false,
-        ItemSort::Ordinal => true,
-        ItemSort::Numbers(_) => true,
+        PartSort::Frequency => false,
+        PartSort::Moment => false,
+        PartSort::Count => false,
+        PartSort::Weekday => false,
+        PartSort::Ordinal => true,
+        PartSort::Numbers(_) => true,
     }
 }
 
 // The values of a part, between commas.
-pub fn values_stand(sort: ItemSort, v: &[u8]) -> bool
+pub fn values_stand(sort: PartSort, v: &[u8]) -> bool
     ensures { λ r. ⌜ r ≡ valuesStand (partSortSaid sort) (now (v .entry)) ⌝ }
 {
     let many = has_several(sort);
@@ -213,15 +213,15 @@ fn put_ordinal(out: &mut [u8], at: usize, s: &[u8]) -> usize
 }
 
 // Writes one value of a part: in uppercase, a number without plus and leading zeros.
-pub fn put_item(out: &mut [u8], at: usize, sort: ItemSort, s: &[u8]) -> usize
+pub fn put_item(out: &mut [u8], at: usize, sort: PartSort, s: &[u8]) -> usize
     ensures { λ r. ⌜ Wrote (pen (now (out .entry)) at) (itemShown (partSortSaid sort) (now (s .entry))) (pen (now (out .exit)) r) ⌝ }
 {
     match sort {
-        ItemSort::Frequency => put_upper(out, at, &*s),
-        ItemSort::Moment => put_upper(out, at, &*s),
-        ItemSort::Count => put_integer_text(out, at, &*s),
-        ItemSort::Weekday => put_upper(out, at, &*s),
-        ItemSort::Ordinal => put_ordinal(out, at, &*s),
-        ItemSort::Numbers(_) => put_integer_text(out, at, &*s),
+        PartSort::Frequency => put_upper(out, at, &*s),
+        PartSort::Moment => put_upper(out, at, &*s),
+        PartSort::Count => put_integer_text(out, at, &*s),
+        PartSort::Weekday => put_upper(out, at, &*s),
+        PartSort::Ordinal => put_ordinal(out, at, &*s),
+        PartSort::Numbers(_) => put_integer_text(out, at, &*s),
     }
 }

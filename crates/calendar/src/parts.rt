@@ -24,7 +24,7 @@ pub struct Bounds {
 }
 
 // What the values of a part are.
-pub enum ItemSort {
+pub enum PartSort {
     Frequency,
     Moment,
     Count,
@@ -135,10 +135,10 @@ pub fn first_part(s: &[u8]) -> PartAt
     }
 }
 
-fn numbers(signed: bool, most: usize, lo: u32, hi: u32) -> ItemSort
+fn numbers(signed: bool, most: usize, lo: u32, hi: u32) -> PartSort
     ensures { λ r. ⌜ partSortSaid r ≡ numbers signed most lo hi ⌝ }
 {
-    ItemSort::Numbers(Bounds {
+    PartSort::Numbers(Bounds {
         signed: signed,
         most: most,
         lo: lo,
@@ -147,23 +147,23 @@ fn numbers(signed: bool, most: usize, lo: u32, hi: u32) -> ItemSort
 }
 
 // What the values of the part with a key are.
-pub fn sort_of(key: usize) -> ItemSort
+pub fn sort_of(key: usize) -> PartSort
     ensures { λ r. ⌜ partSortSaid r ≡ (keyAt key) .sort ⌝ }
 {
     match key {
-        1 => ItemSort::Moment,
-        2 => ItemSort::Count,
-        3 => ItemSort::Count,
+        1 => PartSort::Moment,
+        2 => PartSort::Count,
+        3 => PartSort::Count,
         4 => numbers(false, 2, 0, 60),
         5 => numbers(false, 2, 0, 59),
         6 => numbers(false, 2, 0, 23),
-        7 => ItemSort::Ordinal,
+        7 => PartSort::Ordinal,
         8 => numbers(true, 2, 1, 31),
         9 => numbers(true, 3, 1, 366),
         10 => numbers(true, 2, 1, 53),
         11 => numbers(false, 2, 1, 12),
         12 => numbers(true, 3, 1, 366),
-        13 => ItemSort::Weekday,
-        _ => ItemSort::Frequency,
+        13 => PartSort::Weekday,
+        _ => PartSort::Frequency,
     }
 }

@@ -4,8 +4,8 @@ ghost use lib.ListN.{length};
 ghost use Rattle.octets.specs.Pen.{pen, Wrote};
 ghost use Rattle.calendar.specs.Walk.{partSortSaid, valuesShown, partShown, ruleShown};
 use crate::items::put_item;
-use crate::parts::ItemSort;
 use crate::parts::PartAt;
+use crate::parts::PartSort;
 use crate::parts::find;
 use crate::parts::first_part;
 use crate::parts::sort_of;
@@ -13,7 +13,7 @@ use octets::put;
 use octets::put_upper;
 
 // Writes the values of a part, with commas between them.
-fn put_values(out: &mut [u8], at: usize, sort: ItemSort, v: &[u8]) -> usize
+fn put_values(out: &mut [u8], at: usize, sort: PartSort, v: &[u8]) -> usize
     ensures { λ r. ⌜ Wrote (pen (now (out .entry)) at) (valuesShown (partSortSaid sort) (now (v .entry))) (pen (now (out .exit)) r) ⌝ }
 {
     let mut to = at;

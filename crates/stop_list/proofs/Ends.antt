@@ -1,26 +1,26 @@
 -- A rule that is read has an end that can be named: the value of an UNTIL is a moment's text.
 use Prim.Native.Nat.{ℕ}
 use Prim.Native.Char.{code}
-use mathlib.Core.Path.{_≡_, refl}
-use mathlib.Core.Bool.{true, false, false≢true}
+use mathlib.Core.Path.{_≡_, refl, sym, _∙_}
+use mathlib.Core.Bool.{true}
 use mathlib.Core.List.{List, [], _∷_}
 use mathlib.Core.Option.{Option, none, some}
-use native.Mathlib.Omega.{arith}
 use Rattle.octets.specs.Basics.{octets, _or_, single, same, All}
 use Rattle.octets.specs.Pieces.{split}
 use Rattle.octets.specs.Optional.{isSome, guard, given, each}
 use Rattle.octets.specs.Classes.{upper}
 use Rattle.octets.specs.Decimal.{valueOf}
 use Rattle.octets.proofs.Cases.{cases}
-use Rattle.octets.proofs.Optional.{when-is, guard-is, map-is, then-is, some-is, each-none, each-is}
+use Rattle.octets.proofs.Optional.{missing, some-same, when-is, guard-is, map-is, then-is, some-is, each-none, each-is}
+use Rattle.octets.proofs.Classes.{same-is}
 use Rattle.octets.proofs.Pieces.{split-filled}
 use Rattle.calendar.specs.Dates.{momentOf}
 use Rattle.calendar.specs.Moments.{isMoment}
-use Rattle.calendar.specs.Recurrence.{moment, Key, keys, keyIn, keyNamed, itemOf, untilOf, several, Part, part, keyedPart, partOf, isRule, partsOf}
+use Rattle.calendar.specs.Recurrence.{moment, Key, key, keys, keyIn, keyNamed, itemOf, untilOf, several, Part, part, keyedPart, partOf, isRule, partsOf}
 use Rattle.calendar.specs.Rules.{firstOf, valueNamed, untilMoment, endOf, ruleFrom, readRule}
 use Rattle.calendar.specs.declared.rules.End.the-variants.{Count, Until, Open}
 use Rattle.calendar.specs.declared.rules.Rule.{Rule}
-use Rattle.calendar.proofs.Real.{text-real}
+use Rattle.calendar.proofs.NamedMoments.{text-real}
 use Rattle.stop_list.specs.Runs.{realEnd}
 
 abbrev until : List ℕ
@@ -36,49 +36,20 @@ module _ {A B : Type 0} (f : A → Option B) (P : B → Type 0) (has : (x : A) (
 abbrev Named : Key → Type 0
 Named k = same until (k .name) ≡ true → k .sort ≡ moment
 
-all-named : All Named keys
-unfolding keys same
-all-named = (
-  (λ e. absurd (false≢true e)),
-  (
-    (λ e. refl),
-    (
-      (λ e. absurd (false≢true e)),
-      (
-        (λ e. absurd (false≢true e)),
-        (
-          (λ e. absurd (false≢true e)),
-          (
-            (λ e. absurd (false≢true e)),
-            (
-              (λ e. absurd (false≢true e)),
-              (
-                (λ e. absurd (false≢true e)),
-                (
-                  (λ e. absurd (false≢true e)),
-                  (
-                    (λ e. absurd (false≢true e)),
-                    (
-                      (λ e. absurd (false≢true e)),
-                      ((λ e. absurd (false≢true e)), ((λ e. absurd (false≢true e)), ((λ e. absurd (false≢true e)), tt))),
-                    ),
-                  ),
-                ),
-              ),
-            ),
-          ),
-        ),
-      ),
-    ),
-  ),
-)
-
-key-named : (ks : List Key) (n : List ℕ) (k : Key) → All Named ks → keyIn ks n ≡ some k → Named k
+key-name : (ks : List Key) (n : List ℕ) (k : Key) → keyIn ks n ≡ some k → k .name ≡ n
 unfolding keyIn
-key-named [] n k h e = let z : _≡_ {A = ℕ} 0 1 = cc in absurd (omega arith)
-key-named (j ∷ ks) n k h e = cases (same (j .name) n)
-    (λ b. let w : j ≡ k = (let d = rw b at e in cc) in rw w at (h .0))
-    (λ b. key-named ks n k (h .1) (rw b at e))
+key-name [] n k e = missing e
+key-name (j ∷ ks) n k e =
+    cases (same (j .name) n)
+    (λ b. let w : j ≡ k = some-same (rw b at e) in rw w at (same-is (j .name) n b))
+    (λ b. key-name ks n k (rw b at e))
+
+key-named : (n : List ℕ) (k : Key) → keyNamed n ≡ some k → Named k
+unfolding keyNamed keyIn keys same
+key-named n k e h =
+    let q : n ≡ until = sym (same-is until (k .name) h ∙ key-name keys n k e) in
+    let w : key until moment ≡ k = some-same (rw q at e) in
+    rw (← w)
 
 -- so a part that is named UNTIL has a moment's text
 abbrev Holds : Part → Type 0
@@ -102,14 +73,14 @@ keyed-holds v k p n e =
 
 part-holds : (ls : List (List ℕ)) (p : Part) → partOf ls ≡ some p → Holds p
 unfolding partOf
-part-holds [] p e = let z : _≡_ {A = ℕ} 0 1 = cc in absurd (omega arith)
-part-holds (n ∷ []) p e = let z : _≡_ {A = ℕ} 0 1 = cc in absurd (omega arith)
-part-holds (n ∷ v ∷ []) p e = then-is (keyNamed n) (keyedPart v) p e (λ k q w. keyed-holds v k p (key-named keys n k all-named (unfold keyNamed in q)) w)
-part-holds (n ∷ v ∷ w ∷ ls) p e = let z : _≡_ {A = ℕ} 0 1 = cc in absurd (omega arith)
+part-holds [] p e = missing e
+part-holds (n ∷ []) p e = missing e
+part-holds (n ∷ v ∷ []) p e = then-is (keyNamed n) (keyedPart v) p e (λ k q w. keyed-holds v k p (key-named n k q) w)
+part-holds (n ∷ v ∷ w ∷ ls) p e = missing e
 
 value-holds : (ps : List Part) (v : List ℕ) → All Holds ps → valueNamed until ps ≡ some v → isSome (momentOf v) ≡ true
 unfolding valueNamed
-value-holds [] v h e = let z : _≡_ {A = ℕ} 0 1 = cc in absurd (omega arith)
+value-holds [] v h e = missing e
 value-holds (p ∷ ps) v h e = cases (same until (p .name))
     (λ b. let w : firstOf (p .values) ≡ v = (let d = rw b at e in cc) in rw w at (h .0 b))
     (λ b. value-holds ps v (h .1) (rw b at e))

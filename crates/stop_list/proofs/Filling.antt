@@ -10,7 +10,7 @@ use lib.Seq.{take-suc-set, drop-set-lt, length-take-le, drop-drop}
 use Rattle.stop_list.specs.declared.Stop.{Stop}
 use Rattle.stop_list.specs.declared.runs.Run.{Run}
 use Rattle.stop_list.specs.Runs.{nextRun, stopsOf, Sound, Begins, StopsLaid}
-use Rattle.stop_list.proofs.Running.{next-at, next-sound, next-stops, ended-stops}
+use Rattle.stop_list.proofs.RunStops.{next-at, next-sound, next-stops, ended-stops}
 
 pub record Filling {A : Type 0} (all rest old new : List A) (i : ℕ) : Type 0 where
   pub within : i ≤ length old

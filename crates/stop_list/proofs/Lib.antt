@@ -1,8 +1,6 @@
-pub mod Reckoning
-pub mod Running
+pub mod Seconds
+pub mod RunStops
 pub mod Filling
 pub mod Ends
-pub mod Planning
-pub mod Listing
-pub mod Again
-pub mod Worked
+pub mod PlanAnswers
+pub mod LentSlices

@@ -12,8 +12,7 @@ use Rattle.octets.specs.declared.Refusal.the-variants.{BadStart, BadRule, NotSe
 use Rattle.calendar.specs.Gregorian.{dateOn}
 use Rattle.calendar.specs.Moments.{readMoment}
 use Rattle.calendar.specs.Rules.{readRule}
-use Rattle.calendar.specs.declared.moments.Kind.{Kind}
-use Rattle.calendar.specs.declared.moments.Kind.the-variants.{Day, Local, Utc}
+use Rattle.calendar.specs.declared.moments.Kind.the-variants.{Day}
 use Rattle.calendar.specs.declared.moments.Moment.{Moment}
 use Rattle.calendar.specs.declared.rules.End.the-variants.{Open}
 use Rattle.calendar.specs.declared.rules.Rule.{Rule}
@@ -24,12 +23,6 @@ use Rattle.stop_list.specs.declared.runs.Run.{Run}
 use Rattle.stop_list.specs.declared.plans.Plan.{Plan}
 use Rattle.stop_list.specs.Stops.{hoursOf, served, stop}
 use Rattle.stop_list.specs.Runs.{runAt}
-
--- the kinds, counted
-unfoldable pub kindPlace : Kind → ℕ
-kindPlace Day = 0
-kindPlace Local = 1
-kindPlace Utc = 2
 
 -- a run with no stop
 unfoldable pub idle : ℕ → Run

@@ -1,4 +1,4 @@
--- A run of stops as the code has it: its place, the room for it, and the stop there, if there is one.
+-- A stop that is moved on, and a run of stops as the code has it: its place, the room for it, and the stop there, if there is one.
 use Prim.Native.Nat.{ℕ, _+_, _-_, _<_}
 use mathlib.Core.Path.{_≡_}
 use mathlib.Core.Bool.{Bool, true, false}
@@ -8,14 +8,27 @@ use lib.Dec.{ltb, leb}
 use lib.ListN.{length, drop}
 use Rattle.octets.specs.Basics.{pick, _and_}
 use Rattle.calendar.specs.Moments.{isMoment, secondNumber}
+use Rattle.calendar.specs.Answers.{movedOn}
 use Rattle.calendar.specs.declared.moments.Moment.{Moment}
+use Rattle.calendar.specs.declared.moments.Moved.{Moved}
+use Rattle.calendar.specs.declared.moments.Moved.the-variants.{At as MomentAt, Past as MomentPast, NoMoment as MomentNone}
 use Rattle.calendar.specs.declared.rules.End.{End}
 use Rattle.calendar.specs.declared.rules.End.the-variants.{Count, Until, Open}
 use Rattle.stop_list.specs.declared.Stop.{Stop}
 use Rattle.stop_list.specs.declared.StopMoved.{StopMoved}
 use Rattle.stop_list.specs.declared.StopMoved.the-variants.{At, Past, NoMoment}
 use Rattle.stop_list.specs.declared.runs.Run.{Run}
-use Rattle.stop_list.specs.Stops.{allows, oneLess, momentsFrom, stop, stopOn}
+use Rattle.stop_list.specs.Stops.{allows, oneLess, momentsFrom, stop}
+
+-- a stop whose moment is moved on is again a stop record, its other fields kept; past 9999 it is none
+unfoldable pub stopAt : Stop → Moved → StopMoved
+stopAt s (MomentAt m) = At (record { moment = m })
+stopAt s MomentPast = Past
+stopAt s MomentNone = NoMoment
+
+-- h hours later
+unfoldable pub stopOn : Stop → ℕ → StopMoved
+stopOn s h = stopAt s (movedOn (s .moment) h)
 
 -- seconds from the first day on; 0 for what is no moment
 unfoldable pub seconds : Moment → ℕ

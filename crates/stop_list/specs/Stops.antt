@@ -9,13 +9,10 @@ use Rattle.octets.specs.Basics.{pick, _and_, _or_}
 use Rattle.octets.specs.Optional.{guard}
 use Rattle.octets.specs.Answers.{number, Answer, refused, accepted, then, orElse, unless}
 use Rattle.calendar.specs.Moments.{readMoment, moved, notBehind, sameKind}
-use Rattle.calendar.specs.Answers.{movedOn}
 use Rattle.calendar.specs.Rules.{readRule}
 use Rattle.calendar.specs.declared.moments.Kind.{Kind}
 use Rattle.calendar.specs.declared.moments.Kind.the-variants.{Day}
 use Rattle.calendar.specs.declared.moments.Moment.{Moment}
-use Rattle.calendar.specs.declared.moments.Moved.{Moved}
-use Rattle.calendar.specs.declared.moments.Moved.the-variants.{At as MomentAt, Past as MomentPast, NoMoment as MomentNone}
 use Rattle.calendar.specs.declared.rules.Frequency.{Frequency}
 use Rattle.calendar.specs.declared.rules.Frequency.the-variants.{Secondly, Minutely, Hourly, Daily, Weekly, Monthly, Yearly}
 use Rattle.calendar.specs.declared.rules.End.{End}
@@ -23,8 +20,6 @@ use Rattle.calendar.specs.declared.rules.End.the-variants.{Count, Until, Open}
 use Rattle.calendar.specs.declared.rules.ByParts.{ByParts}
 use Rattle.calendar.specs.declared.rules.Rule.{Rule}
 use Rattle.stop_list.specs.declared.Stop.{Stop}
-use Rattle.stop_list.specs.declared.StopMoved.{StopMoved}
-use Rattle.stop_list.specs.declared.StopMoved.the-variants.{At, Past, NoMoment}
 use Rattle.stop_list.specs.declared.Listed.{Listed}
 use Rattle.stop_list.specs.declared.Listed.the-variants.{Stops, Refused}
 
@@ -87,16 +82,6 @@ momentsFrom (suc n) h e (some m) = pick (allows e m) (m ∷ momentsFrom n h (one
 
 abbrev pub stop : Moment → Stop
 stop m = record { moment = m }
-
--- a stop whose moment is moved on is again a stop record, its other fields kept; past 9999 it is none
-unfoldable pub stopAt : Stop → Moved → StopMoved
-stopAt s (MomentAt m) = At (record { moment = m })
-stopAt s MomentPast = Past
-stopAt s MomentNone = NoMoment
-
--- h hours later
-unfoldable pub stopOn : Stop → ℕ → StopMoved
-stopOn s h = stopAt s (movedOn (s .moment) h)
 
 -- the stops of a start and a rule, as octets, for a list of so many records
 unfoldable pub listOf : List ℕ → List ℕ → ℕ → Answer (List Stop)

@@ -1,8 +1,8 @@
 // What a start and a rule come to: why they are refused, or a run of stops.
 ghost use mathlib.Core.Path.{_≡_};
-ghost use Rattle.calendar.specs.Moments.{sameKind};
+ghost use Rattle.calendar.specs.Moments.{kindPlace, sameKind};
 ghost use Rattle.stop_list.specs.Stops.{hoursOf, frequencyServed, hasBy, endServed, served};
-ghost use Rattle.stop_list.specs.Plans.{kindPlace, refusedFor, planOf, concluded};
+ghost use Rattle.stop_list.specs.Plans.{refusedFor, planOf, concluded};
 use crate::Listed;
 use crate::Stop;
 use crate::runs::Run;

@@ -7,12 +7,11 @@ use mathlib.Core.List.{List, [], _∷_, map}
 use mathlib.Core.Option.{Option, none, some}
 use native.Mathlib.Omega.{arith}
 use lib.Dec.{eqb, leb}
-use lib.ListN.{length, getD, length-append, length-map}
+use lib.ListN.{length, length-append, length-map}
 use Rattle.octets.specs.Basics.{octets, _and_}
 use Rattle.octets.specs.Pieces.{split}
 use Rattle.octets.specs.Optional.{given, guard}
-use Rattle.octets.specs.Classes.{isDigit}
-use Rattle.octets.specs.Decimal.{figures, trim, decimal}
+use Rattle.octets.specs.Decimal.{figures, decimal}
 use Rattle.octets.specs.Limits.{mostText}
 use Rattle.octets.specs.Pen.{pen, Wrote}
 use Rattle.octets.specs.Answers.{Answer, refused, accepted, then, orElse, unless}
@@ -29,18 +28,12 @@ use Rattle.calendar.specs.declared.rules.Rule.{Rule}
 use Rattle.stop_list.specs.declared.Stop.{Stop}
 use Rattle.stop_list.specs.Stops.{startOf, hoursOf, served, allows, oneLess, momentsFrom, stop, listOf}
 use Rattle.stops_page.specs.Printing.{threeShown, dateShown, clockShown, timeShown, momentShown, stopShown, stopsShown, headShown, answerShown, badInput, mostOf, shownFor, inputLines, linesShown, printed}
-use Rattle.stops_page.proofs.Answering.{most-bound}
-
-trim-short : (s : List ℕ) → length (trim s) ≤ length s
-unfolding trim
-trim-short [] = omega arith
-trim-short (c ∷ s) = cases (eqb c (code "0") and isDigit (getD s 0 0))
-    (λ b. rw b (let h = trim-short s in omega arith))
-    (λ b. rw b (omega arith))
+use Rattle.calendar.proofs.WrittenRules.{trim-shorter}
+use Rattle.stops_page.proofs.Answers.{most-bound}
 
 decimal-short : (n : ℕ) → length (decimal n) ≤ 20
 unfolding decimal
-decimal-short n = let h = trim-short (figures 20 n) in let k = figures-length 20 n in omega arith
+decimal-short n = let h = trim-shorter (figures 20 n) in let k = figures-length 20 n in omega arith
 
 three-length : (w sep a b c : ℕ) → length (threeShown w sep a b c) ≡ w + 6
 unfolding threeShown

@@ -1,7 +1,6 @@
-pub mod Cutting
+pub mod InputLines
 pub mod Numbers
-pub mod Showing
-pub mod Counting
-pub mod Answering
+pub mod StopTexts
+pub mod Counts
+pub mod Answers
 pub mod Lengths
-pub mod Worked

@@ -16,7 +16,8 @@ use Rattle.calendar.specs.declared.moments.Kind.the-variants.{Day, Local, Utc}
 use Rattle.stop_list.specs.declared.Stop.{Stop}
 use Rattle.stop_list.specs.declared.StopMoved.{StopMoved}
 use Rattle.stop_list.specs.declared.StopMoved.the-variants.{At, Past, NoMoment}
-use Rattle.stop_list.specs.Stops.{stopOn, listOf, listAnswer, listOutcome}
+use Rattle.stop_list.specs.Stops.{listOf, listAnswer, listOutcome}
+use Rattle.stop_list.specs.Runs.{stopOn}
 use Rattle.stops_page.specs.declared.Most.{Most}
 use Rattle.stops_page.specs.declared.Most.the-variants.{Is, NoNumber}
 use Rattle.stops_page.specs.declared.Page.{Page}

@@ -48,8 +48,8 @@ use denote.Exit.{yes as kept}
 use Rattle.stop_list.specs.declared.Stop.{Stop}
 use Rattle.stop_list.specs.declared.runs.Run.{Run}
 use Rattle.stop_list.specs.Runs.{nextRun, advanced, stopsOf, Begins, StopsLaid}
-use Rattle.stop_list.proofs.Again.{LentAgain, lends-again, comes-back}
-use Rattle.stop_list.proofs.Running.{next-at, advances}
+use Rattle.stop_list.proofs.LentSlices.{LentAgain, lends-again, comes-back}
+use Rattle.stop_list.proofs.RunStops.{next-at, advances}
 use Rattle.stop_list.proofs.Filling.{Going, starts, at-place, goes-on, stops}
 use Rattle.stop_list.proofs.Stop as T
 use Rattle.stop_list.proofs.Stop.Laws as T′

@@ -46,7 +46,7 @@ use Rattle.stop_list.specs.declared.plans.Plan.{Plan}
 use Rattle.stop_list.specs.Stops.{listOf, listAnswer, listOutcome}
 use Rattle.stop_list.specs.Runs.{stopsOf, Begins, StopsLaid}
 use Rattle.stop_list.specs.Plans.{planOf, concluded}
-use Rattle.stop_list.proofs.Listing.{plan-begins, plan-lists}
+use Rattle.stop_list.proofs.PlanAnswers.{plan-begins, plan-lists}
 use Rattle.stop_list.proofs.Stop as T
 use Rattle.stop_list.proofs.Listed as E
 use Rattle.stop_list.proofs.Listed.Laws as E′

@@ -5,7 +5,7 @@ use native.Mathlib.Omega.{arith}
 use borrow.Author.Needs.{needs}
 use lib.ListN.{length}
 use Rattle.octets.proofs.Positions.{upto}
-use Rattle.stops_page.proofs.Cutting.{chop-none, chop-return, chop-other}
+use Rattle.stops_page.proofs.InputLines.{chop-none, chop-return, chop-other}
 use Rattle.stops_page.proofs.chopped.Statement.{statement}
 use Rattle.stops_page.proofs.chopped.Tie as tie
 

@@ -2,7 +2,7 @@
 use mathlib.Core.Path.{sym, _∙_}
 use borrow.Author.Tests.{not-true, not-false}
 use borrow.Author.Needs.{needs}
-use Rattle.stops_page.proofs.Counting.{none-ahead, walked-all, counted}
+use Rattle.stops_page.proofs.Counts.{none-ahead, walked-all, counted}
 use Rattle.stops_page.proofs.count_of.Statement.{statement}
 use Rattle.stops_page.proofs.count_of.Tie as tie
 

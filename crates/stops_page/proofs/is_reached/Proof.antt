@@ -3,7 +3,7 @@ use Prim.Native.Nat.{_-_}
 use mathlib.Core.Path.{refl, sym, _∙_}
 use native.Mathlib.Omega.{arith}
 use Rattle.stops_page.specs.Pages.{reached}
-use Rattle.stops_page.proofs.Counting.{too-many, too-far, is-past, is-there, product-fits}
+use Rattle.stops_page.proofs.Counts.{too-many, too-far, is-past, is-there, product-fits}
 use borrow.Author.Needs.{needs}
 use Rattle.stops_page.proofs.is_reached.Statement.{statement}
 use Rattle.stops_page.proofs.is_reached.Tie as tie

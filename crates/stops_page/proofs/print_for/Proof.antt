@@ -1,7 +1,7 @@
 -- `stops_page::print_for` meets its contract: the last line's number decides.
 use mathlib.Core.Path.{sym, ap, _∙_}
 use Rattle.octets.proofs.Pen.{as-text}
-use Rattle.stops_page.proofs.Answering.{most-bound, no-most, list-shown}
+use Rattle.stops_page.proofs.Answers.{most-bound, no-most, list-shown}
 use Rattle.stops_page.specs.Pages.{mostSaid}
 use borrow.Author.Needs.{needs}
 use Rattle.stops_page.proofs.print_for.Statement.{statement}

@@ -1,6 +1,6 @@
 -- `stops_page::print_list` meets its contract: what the plan tells.
 use Rattle.octets.proofs.Pen.{then, as-text}
-use Rattle.stops_page.proofs.Answering.{begins, shows-stops, shows-refusal}
+use Rattle.stops_page.proofs.Answers.{begins, shows-stops, shows-refusal}
 use borrow.Author.Needs.{needs}
 use Rattle.stops_page.proofs.print_list.Statement.{statement}
 use Rattle.stops_page.proofs.print_list.Tie as tie

@@ -6,7 +6,7 @@ use lib.ListN.{drop}
 use Rattle.octets.proofs.Limits.{most-text}
 use Rattle.octets.proofs.Positions.{from, upto}
 use Rattle.octets.proofs.Pen.{as-text}
-use Rattle.stops_page.proofs.Cutting.{too-long, one-line, two-lines, third-line}
+use Rattle.stops_page.proofs.InputLines.{too-long, one-line, two-lines, third-line}
 use Rattle.stops_page.proofs.print_page.Statement.{statement}
 use Rattle.stops_page.proofs.print_page.Tie as tie
 

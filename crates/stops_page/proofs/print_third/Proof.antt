@@ -3,7 +3,7 @@ use native.Mathlib.Omega.{arith}
 use borrow.Author.Needs.{needs}
 use Rattle.octets.proofs.Positions.{upto}
 use Rattle.octets.proofs.Pen.{as-text}
-use Rattle.stops_page.proofs.Cutting.{third-open, third-ended, third-more}
+use Rattle.stops_page.proofs.InputLines.{third-open, third-ended, third-more}
 use Rattle.stops_page.proofs.print_third.Statement.{statement}
 use Rattle.stops_page.proofs.print_third.Tie as tie
 

@@ -6,7 +6,7 @@ use borrow.Author.Needs.{needs}
 use lib.ListN.{length, take, drop}
 use Rattle.octets.proofs.Pen.{Leads, leads-start, leads-on, leads-end}
 use Rattle.octets.specs.Pen.{pen}
-use Rattle.stops_page.proofs.Showing.{stops-on, stops-end}
+use Rattle.stops_page.proofs.StopTexts.{stops-on, stops-end}
 use Rattle.stops_page.specs.Printing.{stopsShown}
 use Rattle.stops_page.proofs.put_list.Statement.{statement}
 use Rattle.stops_page.proofs.put_list.Tie as tie

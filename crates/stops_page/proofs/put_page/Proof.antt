@@ -2,7 +2,7 @@
 use native.Mathlib.Omega.{arith}
 use borrow.Author.Needs.{needs}
 use Rattle.octets.proofs.Pen.{then, as-text}
-use Rattle.stops_page.proofs.Answering.{page-bound, page-stops, page-refusal}
+use Rattle.stops_page.proofs.Answers.{page-bound, page-stops, page-refusal}
 use Rattle.stops_page.proofs.put_page.Statement.{statement}
 use Rattle.stops_page.proofs.put_page.Tie as tie
 

@@ -2,7 +2,7 @@
 use native.Mathlib.Omega.{arith}
 use Rattle.octets.proofs.Pen.{then, as-text}
 use Rattle.stops_page.specs.Printing.{stopShown, momentShown}
-use Rattle.stops_page.proofs.Showing.{shown-front, shown-short}
+use Rattle.stops_page.proofs.StopTexts.{shown-front, shown-short}
 use borrow.Author.Needs.{needs}
 use Rattle.stops_page.proofs.put_stop.Statement.{statement}
 use Rattle.stops_page.proofs.put_stop.Tie as tie

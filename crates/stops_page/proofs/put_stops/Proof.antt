@@ -6,7 +6,7 @@ use lib.ListN.{length}
 use Rattle.octets.proofs.Pen.{Leads, leads-start, leads-on, leads-end}
 use Rattle.octets.specs.Pen.{pen}
 use Rattle.stop_list.specs.Runs.{stopsOf, Sound}
-use Rattle.stops_page.proofs.Showing.{on-sound, on-length, on-shown, end-shown}
+use Rattle.stops_page.proofs.StopTexts.{on-sound, on-length, on-shown, end-shown}
 use Rattle.stops_page.specs.Printing.{stopsShown}
 use borrow.Author.Needs.{needs}
 use Rattle.stops_page.proofs.put_stops.Statement.{statement}

@@ -4,7 +4,7 @@ use mathlib.Core.Path.{_≡_, refl, _∙_}
 use native.Mathlib.Omega.{arith}
 use lib.ListN.{length}
 use Rattle.stop_list.specs.Runs.{stopsOf, Sound}
-use Rattle.stops_page.proofs.Showing.{on-sound, on-length, on-end, end-at}
+use Rattle.stops_page.proofs.StopTexts.{on-sound, on-length, on-end, end-at}
 use borrow.Author.Needs.{needs}
 use Rattle.stops_page.proofs.walked.Statement.{statement}
 use Rattle.stops_page.proofs.walked.Tie as tie

@@ -2,7 +2,7 @@
 use mathlib.Core.Path.{sym, _∙_}
 use borrow.Author.Needs.{needs}
 use borrow.Author.Tests.{not-true, not-false}
-use Rattle.calendar.specs.Durations.{counted}
+use Rattle.calendar.specs.Durations.{unitPlaced}
 use Rattle.calendar.specs.Letters.{mayCome}
 use Rattle.calendar.proofs.durations.may_come.Statement.{statement}
 use Rattle.calendar.proofs.durations.may_come.Tie as tie
@@ -14,7 +14,7 @@ returns-2 c =
     rw (sym (f .before .before .is-digit .ensures) ∙ f .before .if1 .left, sym (f .letter-follows .ensures) ∙ not-true _ (c .if2 .taken))
 
 returns-3 : tie.Need-returns-3
-unfolding mayCome counted
+unfolding mayCome unitPlaced
 returns-3 c =
     let u = c .before .before in
     let f = u .before .before in
@@ -23,7 +23,7 @@ returns-3 c =
     (c .is-digit2 .ensures)
 
 returns-4 : tie.Need-returns-4
-unfolding mayCome counted
+unfolding mayCome unitPlaced
 returns-4 c =
     let u = c .before .before in
     let f = u .before .before in

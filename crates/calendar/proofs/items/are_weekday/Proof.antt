@@ -2,7 +2,7 @@
 use mathlib.Core.Path.{sym, _∙_}
 use borrow.Author.Needs.{needs}
 use borrow.Author.Tests.{ne-eqb}
-use Rattle.calendar.proofs.Standing.{behind-s, behind-m, behind-t, behind-w, behind-f, behind-other}
+use Rattle.calendar.proofs.ItemTests.{behind-s, behind-m, behind-t, behind-w, behind-f, behind-other}
 use Rattle.calendar.proofs.items.are_weekday.Statement.{statement}
 use Rattle.calendar.proofs.items.are_weekday.Tie as tie
 

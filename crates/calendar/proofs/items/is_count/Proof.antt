@@ -1,7 +1,7 @@
 -- `calendar::items::is_count` meets its contract.
 use mathlib.Core.Path.{sym, _∙_}
 use borrow.Author.Needs.{needs}
-use Rattle.calendar.proofs.Standing.{count-stands}
+use Rattle.calendar.proofs.ItemTests.{count-stands}
 use Rattle.calendar.proofs.items.is_count.Statement.{statement}
 use Rattle.calendar.proofs.items.is_count.Tie as tie
 

@@ -2,7 +2,7 @@
 use mathlib.Core.Path.{sym}
 use borrow.Author.Needs.{needs}
 use Rattle.octets.specs.Classes.{upper}
-use Rattle.calendar.proofs.Standing.{frequency-stands}
+use Rattle.calendar.proofs.ItemTests.{frequency-stands}
 use Rattle.calendar.proofs.items.is_frequency.Statement.{statement}
 use Rattle.calendar.proofs.items.is_frequency.Tie as tie
 

@@ -2,7 +2,7 @@
 use mathlib.Core.Path.{sym, _∙_}
 use borrow.Author.Needs.{needs}
 use borrow.Author.Tests.{not-true, not-false}
-use Rattle.calendar.proofs.Standing.{sign-wrong, figures-many, figures-judged}
+use Rattle.calendar.proofs.ItemTests.{sign-wrong, figures-many, figures-judged}
 use Rattle.calendar.proofs.items.is_number.Statement.{statement}
 use Rattle.calendar.proofs.items.is_number.Tie as tie
 

@@ -3,7 +3,7 @@ use mathlib.Core.Path.{sym, _∙_}
 use native.Mathlib.Omega.{arith}
 use borrow.Author.Needs.{needs}
 use borrow.Author.Tests.{not-true, not-false}
-use Rattle.calendar.proofs.Standing.{day-wrong, day-bare, day-numbered}
+use Rattle.calendar.proofs.ItemTests.{day-wrong, day-bare, day-numbered}
 use Rattle.calendar.proofs.items.is_ordinal.Statement.{statement}
 use Rattle.calendar.proofs.items.is_ordinal.Tie as tie
 

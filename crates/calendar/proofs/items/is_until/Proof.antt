@@ -3,7 +3,7 @@ use mathlib.Core.Path.{sym, ap, _∙_}
 use borrow.Author.Needs.{needs}
 use Rattle.octets.specs.Optional.{isSome}
 use Rattle.calendar.specs.Answers.{momentSaid}
-use Rattle.calendar.proofs.Standing.{until-stands}
+use Rattle.calendar.proofs.ItemTests.{until-stands}
 use Rattle.calendar.proofs.items.is_until.Statement.{statement}
 use Rattle.calendar.proofs.items.is_until.Tie as tie
 

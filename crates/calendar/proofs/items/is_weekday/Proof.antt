@@ -1,7 +1,7 @@
 -- `calendar::items::is_weekday` meets its contract: a weekday has two letters.
 use mathlib.Core.Path.{sym}
 use borrow.Author.Needs.{needs}
-use Rattle.calendar.proofs.Standing.{no-weekday, weekday-stands}
+use Rattle.calendar.proofs.ItemTests.{no-weekday, weekday-stands}
 use Rattle.calendar.proofs.items.is_weekday.Statement.{statement}
 use Rattle.calendar.proofs.items.is_weekday.Tie as tie
 

@@ -1,6 +1,6 @@
 -- `calendar::items::put_ordinal` meets its contract.
 use borrow.Author.Needs.{needs}
-use Rattle.calendar.proofs.Showing.{ordinal-wrote}
+use Rattle.calendar.proofs.WrittenItems.{ordinal-wrote}
 use Rattle.calendar.proofs.items.put_ordinal.Statement.{statement}
 use Rattle.calendar.proofs.items.put_ordinal.Tie as tie
 

@@ -8,7 +8,7 @@ use lib.ListN.{length, drop, length-take, length-drop}
 use Rattle.calendar.specs.Walk.{partSortSaid}
 use Rattle.calendar.proofs.Pieces.{scanned-le, scanned-in}
 use Rattle.calendar.specs.Reading.{valuesStand}
-use Rattle.calendar.proofs.Listing.{item-wrong, item-last, item-alone, item-on}
+use Rattle.calendar.proofs.PartValues.{item-wrong, item-last, item-alone, item-on}
 use Rattle.calendar.proofs.items.values_stand.Statement.{statement}
 use Rattle.calendar.proofs.items.values_stand.Tie as tie
 

@@ -6,7 +6,7 @@ use Rattle.octets.specs.Optional.{map?}
 use Rattle.octets.proofs.Positions.{upto}
 use Rattle.calendar.specs.Moments.{momentFrom, readMoment}
 use Rattle.calendar.proofs.Fixed.{says-some, says-none}
-use Rattle.calendar.proofs.Real.{kind-by-length}
+use Rattle.calendar.proofs.NamedMoments.{kind-by-length}
 use Rattle.calendar.proofs.moments.read_moment.Statement.{statement}
 use Rattle.calendar.proofs.moments.read_moment.Tie as tie
 

@@ -7,38 +7,6 @@ use Rattle.calendar.proofs.Keys.{other-sort}
 use Rattle.calendar.proofs.parts.sort_of.Statement.{statement}
 use Rattle.calendar.proofs.parts.sort_of.Tie as tie
 
-returns-4 : tie.Need-returns-4
-unfolding partSortSaid keyAt keys
-returns-4 c = c .numbers .ensures ∙ rw (c .before .match .keys4)
-
-returns-5 : tie.Need-returns-5
-unfolding partSortSaid keyAt keys
-returns-5 c = c .numbers2 .ensures ∙ rw (c .before .match .keys5)
-
-returns-6 : tie.Need-returns-6
-unfolding partSortSaid keyAt keys
-returns-6 c = c .numbers3 .ensures ∙ rw (c .before .match .keys6)
-
-returns-8 : tie.Need-returns-8
-unfolding partSortSaid keyAt keys
-returns-8 c = c .numbers4 .ensures ∙ rw (c .before .match .keys8)
-
-returns-9 : tie.Need-returns-9
-unfolding partSortSaid keyAt keys
-returns-9 c = c .numbers5 .ensures ∙ rw (c .before .match .keys9)
-
-returns-10 : tie.Need-returns-10
-unfolding partSortSaid keyAt keys
-returns-10 c = c .numbers6 .ensures ∙ rw (c .before .match .keys10)
-
-returns-11 : tie.Need-returns-11
-unfolding partSortSaid keyAt keys
-returns-11 c = c .numbers7 .ensures ∙ rw (c .before .match .keys11)
-
-returns-12 : tie.Need-returns-12
-unfolding partSortSaid keyAt keys
-returns-12 c = c .numbers8 .ensures ∙ rw (c .before .match .keys12)
-
 returns-14 : tie.Need-returns-14
 unfolding partSortSaid
 returns-14 c = sym (other-sort (c .before .args .key) (c .match .rest))
@@ -58,14 +26,14 @@ sort-of-spec =
     (λ c. unfold partSortSaid keyAt keys in rw (c .match .keys1))
     (λ c. unfold partSortSaid keyAt keys in rw (c .match .keys2))
     (λ c. unfold partSortSaid keyAt keys in rw (c .match .keys3))
-    returns-4
-    returns-5
-    returns-6
+    (λ c. unfold partSortSaid keyAt keys in c .numbers .ensures ∙ rw (c .before .match .keys4))
+    (λ c. unfold partSortSaid keyAt keys in c .numbers2 .ensures ∙ rw (c .before .match .keys5))
+    (λ c. unfold partSortSaid keyAt keys in c .numbers3 .ensures ∙ rw (c .before .match .keys6))
     (λ c. unfold partSortSaid keyAt keys in rw (c .match .keys7))
-    returns-8
-    returns-9
-    returns-10
-    returns-11
-    returns-12
+    (λ c. unfold partSortSaid keyAt keys in c .numbers4 .ensures ∙ rw (c .before .match .keys8))
+    (λ c. unfold partSortSaid keyAt keys in c .numbers5 .ensures ∙ rw (c .before .match .keys9))
+    (λ c. unfold partSortSaid keyAt keys in c .numbers6 .ensures ∙ rw (c .before .match .keys10))
+    (λ c. unfold partSortSaid keyAt keys in c .numbers7 .ensures ∙ rw (c .before .match .keys11))
+    (λ c. unfold partSortSaid keyAt keys in c .numbers8 .ensures ∙ rw (c .before .match .keys12))
     (λ c. unfold partSortSaid keyAt keys in rw (c .match .keys13))
     returns-14)

@@ -1,6 +1,6 @@
 -- `calendar::rules::is_barred` meets its contract.
 use borrow.Author.Needs.{needs}
-use Rattle.calendar.proofs.Turns.{barred-seen, barred-until, barred-count, barred-not}
+use Rattle.calendar.proofs.RuleLoop.{barred-seen, barred-until, barred-count, barred-not}
 use Rattle.calendar.proofs.rules.is_barred.Statement.{statement}
 use Rattle.calendar.proofs.rules.is_barred.Tie as tie
 

@@ -4,7 +4,7 @@ use borrow.Author.Needs.{needs}
 use Rattle.octets.specs.Optional.{isSome}
 use Rattle.calendar.specs.Rules.{ruleSaid}
 use Rattle.calendar.specs.declared.rules.RuleRead.{RuleRead}
-use Rattle.calendar.proofs.Turns.{rule-stands}
+use Rattle.calendar.proofs.RuleLoop.{rule-stands}
 use Rattle.calendar.proofs.rules.is_rule.Statement.{statement}
 use Rattle.calendar.proofs.rules.is_rule.Tie as tie
 

@@ -3,7 +3,7 @@ use mathlib.Core.Path.{sym, ap, _∙_}
 use borrow.Author.Needs.{needs}
 use Rattle.calendar.specs.Recurrence.{PartSort}
 use Rattle.calendar.specs.Reading.{valuesStand}
-use Rattle.calendar.proofs.Turns.{follow-unknown, follow-barred, follow-free}
+use Rattle.calendar.proofs.RuleLoop.{follow-unknown, follow-barred, follow-free}
 use Rattle.calendar.proofs.rules.may_follow.Statement.{statement}
 use Rattle.calendar.proofs.rules.may_follow.Tie as tie
 

@@ -9,9 +9,9 @@ use lib.ListN.{length, drop, set, length-take, length-drop}
 use Rattle.octets.specs.Classes.{upper}
 use Rattle.calendar.specs.Reading.{ruleRead}
 use Rattle.calendar.specs.Rules.{ruleSaid}
-use Rattle.calendar.proofs.Walk.{readParts}
-use Rattle.calendar.proofs.Gathering.{Gathered, gathered-none}
-use Rattle.calendar.proofs.Turns.{follows, part-ends, part-begins, part-inside, turn-refused, rule-on, rule-end}
+use Rattle.calendar.proofs.RuleParts.{readParts}
+use Rattle.calendar.proofs.PartsRead.{Gathered, gathered-none}
+use Rattle.calendar.proofs.RuleLoop.{follows, part-ends, part-begins, part-inside, turn-refused, rule-on, rule-end}
 use Rattle.calendar.specs.declared.rules.Head.{Head}
 use Rattle.calendar.proofs.rules.read_rule.Statement.{statement}
 use Rattle.calendar.proofs.rules.read_rule.Tie as tie

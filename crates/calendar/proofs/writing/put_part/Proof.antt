@@ -1,7 +1,7 @@
 -- `calendar::writing::put_part` meets its contract.
 use borrow.Author.Needs.{needs}
 use Rattle.calendar.specs.Walk.{partSortSaid}
-use Rattle.calendar.proofs.Showing.{part-wrote}
+use Rattle.calendar.proofs.WrittenItems.{part-wrote}
 use Rattle.calendar.proofs.writing.put_part.Statement.{statement}
 use Rattle.calendar.proofs.writing.put_part.Tie as tie
 

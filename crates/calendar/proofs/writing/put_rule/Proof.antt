@@ -8,8 +8,8 @@ use Rattle.octets.specs.Pen.{pen}
 use Rattle.octets.proofs.Positions.{from}
 use Rattle.octets.proofs.Pen.{Leads, leads-start, leads-on, leads-last}
 use Rattle.calendar.specs.Walk.{ruleShown}
-use Rattle.calendar.proofs.Showing.{part-places, rule-more, rule-last}
-use Rattle.calendar.proofs.Turns.{part-inside}
+use Rattle.calendar.proofs.WrittenItems.{part-places, rule-more, rule-last}
+use Rattle.calendar.proofs.RuleLoop.{part-inside}
 use Rattle.calendar.proofs.writing.put_rule.Statement.{statement}
 use Rattle.calendar.proofs.writing.put_rule.Tie as tie
 

@@ -10,7 +10,7 @@ use Rattle.octets.proofs.Pen.{Leads, leads-start, leads-on, leads-last}
 use Rattle.calendar.specs.Walk.{partSortSaid}
 use Rattle.calendar.proofs.Pieces.{scanned-le, scanned-in}
 use Rattle.calendar.specs.Walk.{itemShown, valuesShown}
-use Rattle.calendar.proofs.Showing.{shown-more, shown-last}
+use Rattle.calendar.proofs.WrittenItems.{shown-more, shown-last}
 use Rattle.calendar.proofs.writing.put_values.Statement.{statement}
 use Rattle.calendar.proofs.writing.put_values.Tie as tie
 

@@ -1,7 +1,7 @@
 -- `stop_list::Stop::moved` meets its contract: the moment's answer decides.
 use mathlib.Core.Path.{sym, _∙_}
 use borrow.Author.Needs.{needs}
-use Rattle.stop_list.specs.Stops.{stopAt, stopOn}
+use Rattle.stop_list.specs.Runs.{stopAt, stopOn}
 use Rattle.stop_list.proofs.Stop.moved.Statement.{statement}
 use Rattle.stop_list.proofs.Stop.moved.Tie as tie
 

@@ -1,6 +1,6 @@
 -- `stop_list::plans::kind_place` meets its contract: by the kind.
 use borrow.Author.Needs.{needs}
-use Rattle.stop_list.specs.Plans.{kindPlace}
+use Rattle.calendar.specs.Moments.{kindPlace}
 use Rattle.stop_list.proofs.plans.kind_place.Statement.{statement}
 use Rattle.stop_list.proofs.plans.kind_place.Tie as tie
 

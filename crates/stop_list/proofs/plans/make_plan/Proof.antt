@@ -4,7 +4,7 @@ use borrow.Author.Tests.{not-true, not-false}
 use borrow.Author.Needs.{needs}
 use Rattle.calendar.specs.Rules.{ruleSaid}
 use Rattle.calendar.specs.Answers.{momentSaid}
-use Rattle.stop_list.proofs.Planning.{no-start, at-60, no-rule, not-served, is-planned}
+use Rattle.stop_list.proofs.PlanAnswers.{no-start, at-60, no-rule, not-served, is-planned}
 use Rattle.stop_list.proofs.plans.make_plan.Statement.{statement}
 use Rattle.stop_list.proofs.plans.make_plan.Tie as tie
 

@@ -1,7 +1,7 @@
 -- `stop_list::runs::one_less` meets its contract: by the end, one moment less.
 use borrow.Author.Needs.{needs}
 use Rattle.stop_list.specs.Stops.{oneLess}
-use Rattle.stop_list.proofs.Reckoning.{count-less}
+use Rattle.stop_list.proofs.Seconds.{count-less}
 use Rattle.stop_list.proofs.runs.one_less.Statement.{statement}
 use Rattle.stop_list.proofs.runs.one_less.Tie as tie
 

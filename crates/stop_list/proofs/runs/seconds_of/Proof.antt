@@ -3,7 +3,7 @@ use mathlib.Core.Path.{sym, ap, _∙_}
 use borrow.Author.Tests.{not-true, not-false}
 use borrow.Author.Needs.{needs}
 use Rattle.calendar.specs.Answers.{dayNumberSaid}
-use Rattle.stop_list.proofs.Reckoning.{no-time, no-day, reckoned}
+use Rattle.stop_list.proofs.Seconds.{no-time, no-day, reckoned}
 use Rattle.stop_list.proofs.runs.seconds_of.Statement.{statement}
 use Rattle.stop_list.proofs.runs.seconds_of.Tie as tie
 

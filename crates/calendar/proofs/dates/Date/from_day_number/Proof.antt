@@ -4,7 +4,7 @@ use mathlib.Core.Option.{some}
 use borrow.Author.Needs.{needs}
 use borrow.Author.Tests.{lt-ltb, le-ltb}
 use Rattle.octets.specs.Optional.{when}
-use Rattle.calendar.proofs.Back.{found}
+use Rattle.calendar.proofs.DateFormula.{found}
 use Rattle.calendar.proofs.Inverse.{day-count, formula-date}
 use Rattle.calendar.proofs.dates.Date.from_day_number.Statement.{statement}
 use Rattle.calendar.proofs.dates.Date.from_day_number.Tie as tie

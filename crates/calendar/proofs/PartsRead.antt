@@ -3,7 +3,7 @@ use Prim.Native.Nat.{ℕ, zero, suc, _≤_, _<_}
 use Prim.Native.Char.{code}
 use mathlib.Core.Path.{_≡_, refl, sym, ap, _∙_}
 use mathlib.Core.Bool.{Bool, true, false, not}
-use mathlib.Core.List.{List, [], _∷_, _++_, map, append-assoc}
+use mathlib.Core.List.{List, [], _∷_, _++_, map, append-assoc, append-nil}
 use mathlib.Core.Option.{Option, none, some}
 use native.Mathlib.Omega.{arith}
 use borrow.Author.Tests.{eqb-true, eqb-false, ne-eqb}
@@ -31,11 +31,11 @@ use Rattle.calendar.specs.declared.rules.End.{End}
 use Rattle.calendar.specs.declared.rules.End.the-variants.{Count, Until, Open}
 use Rattle.calendar.specs.declared.rules.Head.{Head}
 use Rattle.octets.proofs.Optional.{when-is, guard-is}
-use Rattle.calendar.proofs.Options.{map-is}
+use Rattle.calendar.proofs.Options.{map-is, or-none}
 use Rattle.calendar.proofs.Words.{same-turned}
 use Rattle.calendar.proofs.Keys.{key-count}
-use Rattle.calendar.proofs.Standing.{digits-raised, digits-upper}
-use Rattle.calendar.proofs.Walk.{both-is}
+use Rattle.calendar.proofs.ItemTests.{digits-raised, digits-upper}
+use Rattle.calendar.proofs.RuleParts.{both-is}
 
 -- names, with one more behind
 names-more : (ps : List Part) (p : Part) (qs : List Part) → names (ps ++ p ∷ qs) ≡ names ps ++ p .name ∷ names qs
@@ -170,11 +170,6 @@ value-none n [] h = refl
 value-none n (p ∷ ps) h =
     let b = neither (same n (p .name)) (among n (names ps)) (sym (among-cons n (p .name) (names ps)) ∙ unfold names in h) in
     rw (b .0) (value-none n ps (b .1))
-
-or-none : {A : Type 0} (o : Option A) → or? o none ≡ o
-unfolding or?
-or-none none = refl
-or-none (some a) = refl
 
 -- the key of the new part stands at i, and was not there before
 module _ (ps : List Part) (p : Part) (i : ℕ) (h : i < 14) (named : p .name ≡ nameAt i) (unseen : among (nameAt i) (names ps) ≡ false) where
@@ -413,14 +408,10 @@ module _ {all : Option (List Part)} {seen : List Bool} {head : Head} (o : Option
       by (some p) (some qs) n = unfold both? map? guard when in (rw (no-rule p qs (n p refl)))
 
 -- all parts are read
-append-none : (ps : List Part) → ps ++ [] ≡ ps
-append-none [] = refl
-append-none (p ∷ ps) = ap (λ (l : List Part). p ∷ l) (append-none ps)
-
 module _ {all : Option (List Part)} {seen : List Bool} {head : Head} (g : Gathered all (some []) seen head) where
   every : all ≡ some (g .parts)
   unfolding map?
-  every = g .whole ∙ ap some (append-none (g .parts))
+  every = g .whole ∙ ap some (append-nil (g .parts))
 
   frequency-marked : isRule (g .parts) ≡ getD seen 0 false
   unfolding isRule keyAt keys

@@ -23,7 +23,7 @@ use Rattle.stop_list.specs.declared.plans.Plan.{Plan}
 use Rattle.stop_list.specs.Stops.{listOf, ListSettled, listAnswer, listOutcome}
 use Rattle.stop_list.specs.Runs.{stopsOf, Begins}
 use Rattle.stop_list.specs.Plans.{listTold, planOf}
-use Rattle.stop_list.proofs.Listing.{plan-begins, plan-tells}
+use Rattle.stop_list.proofs.PlanAnswers.{plan-begins, plan-tells}
 use Rattle.stops_page.specs.declared.Page.{Page}
 use Rattle.stops_page.specs.Pages.{Lists}
 use Rattle.stops_page.specs.Printing.{headShown, stopsShown, answerShown, badInput, mostStops, mostOf, shownFor}

@@ -28,7 +28,7 @@ use Rattle.octets.proofs.Optional.{when-is, guard-is}
 use Rattle.calendar.proofs.Options.{map-is, then-is}
 use Rattle.calendar.proofs.Octets.{itemOctet, item-octets}
 use Rattle.calendar.proofs.Readback.{capital, capital-upper, capital-printable}
-use Rattle.calendar.proofs.Walk.{both-is, readPart, readParts, rule-parts, items-All, All-joined, named-found}
+use Rattle.calendar.proofs.RuleParts.{both-is, readPart, readParts, rule-parts, items-All, All-joined, named-found}
 
 -- A value that was read is read again.
 kept-again : (p : List ℕ → Bool) (s v : List ℕ) → when (p s) s ≡ some v → when (p v) v ≡ some v
@@ -41,7 +41,7 @@ count-again s v e =
     let d = both (digits s) _ (w .0) in
     rw (← (w .1), trim-twice s, trim-value s, trim-digits s (d .0), d .1)
 
-trim-shorter : (s : List ℕ) → length (trim s) ≤ length s
+pub trim-shorter : (s : List ℕ) → length (trim s) ≤ length s
 unfolding trim
 trim-shorter [] = omega arith
 trim-shorter (c ∷ s) = cases (eqb c (code "0") and isDigit (getD s 0 0))

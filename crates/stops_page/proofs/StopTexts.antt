@@ -15,7 +15,7 @@ use Rattle.calendar.specs.declared.moments.Moment.{Moment}
 use Rattle.stop_list.specs.declared.Stop.{Stop}
 use Rattle.stop_list.specs.declared.runs.Run.{Run}
 use Rattle.stop_list.specs.Runs.{nextRun, advanced, stopsOf, Sound}
-use Rattle.stop_list.proofs.Running.{next-at, next-sound, next-stops, advances, ended-stops}
+use Rattle.stop_list.proofs.RunStops.{next-at, next-sound, next-stops, advances, ended-stops}
 use Rattle.stops_page.specs.Printing.{threeShown, dateShown, clockShown, timeShown, stopShown, stopsShown}
 use Rattle.stops_page.specs.Pages.{shownLength}
 

@@ -1,6 +1,6 @@
 -- Seconds of a moment, and ends, as the code reckons them.
 use Prim.Native.Nat.{ℕ, zero, suc, _+_, _-_, _*_}
-use mathlib.Core.Path.{_≡_, refl}
+use mathlib.Core.Path.{_≡_, refl, sym}
 use mathlib.Core.Bool.{Bool, true, false}
 use mathlib.Core.Option.{none, some}
 use native.Mathlib.Numerals.{sub-one}
@@ -12,7 +12,8 @@ use Rattle.calendar.specs.Moments.{isMoment, hourNumber, secondNumber}
 use Rattle.calendar.specs.declared.dates.Date.{Date}
 use Rattle.calendar.specs.declared.moments.Moment.{Moment}
 use Rattle.calendar.specs.declared.rules.End.the-variants.{Count}
-use Rattle.calendar.proofs.Hours.{some-when, none-when}
+use Rattle.octets.proofs.Optional.{when-is}
+use Rattle.calendar.proofs.Hours.{none-when}
 use Rattle.stop_list.specs.Stops.{oneLess}
 use Rattle.stop_list.specs.Runs.{seconds}
 
@@ -32,8 +33,8 @@ module _ (m : Moment) where
       → ((n * 24 + m .hour) * 60 + m .minute) * 60 + m .second ≡ seconds m
   unfolding seconds isMoment secondNumber hourNumber
   reckoned n t e =
-      let w = some-when _ _ _ e in
-      rw (w .0, t, ← (w .1))
+      let w = when-is _ _ _ (sym e) in
+      rw (w .0, t, w .1)
 
 pub count-less : (n : ℕ) → (n ≡ 0 → ⊥) → Count (n - 1) ≡ oneLess (Count n)
 unfolding oneLess

@@ -21,8 +21,8 @@ use Rattle.calendar.specs.declared.parts.PartAt.{PartAt}
 use Rattle.calendar.specs.declared.rules.Head.{Head}
 use Rattle.calendar.proofs.Options.{map-is, some-map}
 use Rattle.calendar.proofs.Keys.{key-count}
-use Rattle.calendar.proofs.Walk.{readParts, partFound, first-more, first-last, first-from, first-to}
-use Rattle.calendar.proofs.Gathering.{Gathered, gathered-more, gathered-lost, gathered-barred, gathered-all}
+use Rattle.calendar.proofs.RuleParts.{readParts, partFound, first-more, first-last, first-from, first-to}
+use Rattle.calendar.proofs.PartsRead.{Gathered, gathered-more, gathered-lost, gathered-barred, gathered-all}
 
 -- the values of a part stand where the part can be read
 keyed-stands : (v : List ℕ) (k : Key) → isSome (keyedPart (upper v) k) ≡ valuesStand (k .sort) v

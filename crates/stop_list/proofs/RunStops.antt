@@ -17,13 +17,13 @@ use Rattle.calendar.specs.declared.moments.Moment.{Moment}
 use Rattle.calendar.specs.declared.moments.Moved.the-variants.{At as MomentAt, Past as MomentPast}
 use Rattle.calendar.specs.declared.rules.End.{End}
 use Rattle.calendar.specs.declared.rules.End.the-variants.{Count, Until, Open}
-use Rattle.calendar.proofs.Real.{moved-real}
+use Rattle.calendar.proofs.NamedMoments.{moved-real}
 use Rattle.stop_list.specs.declared.Stop.{Stop}
 use Rattle.stop_list.specs.declared.StopMoved.{StopMoved}
 use Rattle.stop_list.specs.declared.StopMoved.the-variants.{At, Past, NoMoment}
 use Rattle.stop_list.specs.declared.runs.Run.{Run}
-use Rattle.stop_list.specs.Stops.{allows, oneLess, momentsFrom, stop, stopAt, stopOn}
-use Rattle.stop_list.specs.Runs.{seconds, within, runAt, runEnded, nextFrom, nextRun, advanced, stopsOf, realEnd, Sound}
+use Rattle.stop_list.specs.Stops.{allows, oneLess, momentsFrom, stop}
+use Rattle.stop_list.specs.Runs.{stopAt, stopOn, seconds, within, runAt, runEnded, nextFrom, nextRun, advanced, stopsOf, realEnd, Sound}
 
 real-seconds : (m : Moment) → isMoment m ≡ true → seconds m ≡ secondNumber m
 unfolding seconds

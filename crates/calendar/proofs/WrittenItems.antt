@@ -27,8 +27,8 @@ use Rattle.calendar.specs.declared.parts.PartAt.{PartAt}
 use Rattle.octets.proofs.Optional.{when-is, guard-is}
 use Rattle.calendar.proofs.Options.{map-is, then-is}
 use Rattle.calendar.proofs.Pieces.{before-le, before-take, split-more, split-last, comma-uncased, semicolon-uncased, split-upper, upper-length, upper-take, upper-drop, scanned}
-use Rattle.calendar.proofs.Walk.{both-is, within, first-ends, first-piece, first-from, first-to, readPart, readParts, read-part, found-is, keyed-name, key-name, rule-parts}
-use Rattle.calendar.proofs.Standing.{digits-raised, digits-upper, sign-raised, unsigned-upper}
+use Rattle.calendar.proofs.RuleParts.{both-is, within, first-ends, first-piece, first-from, first-to, readPart, readParts, read-part, found-is, keyed-name, key-name, rule-parts}
+use Rattle.calendar.proofs.ItemTests.{digits-raised, digits-upper, sign-raised, unsigned-upper}
 
 -- writing a weekday with its number
 pub ordinal-wrote : {p q r : Pen} (s : List ℕ) (at : ℕ) → at ≡ length s - 2

@@ -21,7 +21,7 @@ use Rattle.calendar.specs.Recurrence.{PartSort, itemOf, several}
 use Rattle.calendar.specs.Walk.{beforeFirst}
 use Rattle.calendar.specs.Reading.{valuesStand}
 use Rattle.calendar.proofs.Pieces.{comma-uncased, scanned}
-use Rattle.calendar.proofs.Walk.{each-more, each-last, both-is}
+use Rattle.calendar.proofs.RuleParts.{each-more, each-last, both-is}
 
 -- the first value, and those behind it; `many` tells whether there may be several
 module _ (many : Bool) where

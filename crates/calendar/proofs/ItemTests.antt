@@ -96,9 +96,6 @@ raised-bounds lo hi s = rw (digits-upper s) (cases (digits s)
     (λ e. rw e))
 
 -- as the code tests it: the lower bound, then the upper one
-pub too-low : (lo hi n : ℕ) → n < lo → between lo hi n ≡ false
-too-low lo hi n h = below-between lo hi n h
-
 pub high-enough : (lo hi n : ℕ) → lo ≤ n → between lo hi n ≡ leb n hi
 unfolding between
 high-enough lo hi n h = rw (le-leb lo n h)

@@ -20,13 +20,13 @@ use Rattle.calendar.specs.declared.moments.Moved.the-variants.{At as MomentAt, 
 use Rattle.calendar.specs.declared.rules.End.{End}
 use Rattle.calendar.specs.declared.rules.End.the-variants.{Count, Until, Open}
 use Rattle.calendar.proofs.Inverse.{number-back}
-use Rattle.calendar.proofs.Real.{moved-real}
+use Rattle.calendar.proofs.NamedMoments.{moved-real}
 use Rattle.stop_list.specs.declared.Stop.{Stop}
 use Rattle.stop_list.specs.declared.StopMoved.{StopMoved}
 use Rattle.stop_list.specs.declared.runs.Run.{Run}
-use Rattle.stop_list.specs.Stops.{allows, oneLess, momentsFrom, stop, stopAt, stopOn}
-use Rattle.stop_list.specs.Runs.{stopsOf, Begins}
-use Rattle.stop_list.proofs.Running.{ended-stops}
+use Rattle.stop_list.specs.Stops.{allows, oneLess, momentsFrom, stop}
+use Rattle.stop_list.specs.Runs.{stopAt, stopOn, stopsOf, Begins}
+use Rattle.stop_list.proofs.RunStops.{ended-stops}
 use Rattle.stops_page.specs.Pages.{allowedBy, isThere, reached}
 
 -- the end allows a stop, and so many behind it

@@ -1,14 +1,14 @@
--- What a plan's run lays into the list is the definition's answer.
+-- A plan is the definition's: its refusal, or its run of stops, and what the run lays into a list.
 use Prim.Native.Nat.{ℕ}
 use mathlib.Core.Path.{_≡_, refl, ap, _∙_}
-use mathlib.Core.Bool.{Bool, true, not, false≢true}
+use mathlib.Core.Bool.{Bool, true, not, false≢true, false}
 use mathlib.Core.List.{List, [], map}
 use mathlib.Core.Option.{Option, none, some}
 use native.Mathlib.Omega.{arith}
 use native.Mathlib.Nat.{sub-zero}
 use lib.Dec.{eqb}
 use lib.ListN.{length}
-use Rattle.octets.specs.Optional.{guard}
+use Rattle.octets.specs.Optional.{guard, when}
 use Rattle.octets.specs.Limits.{lastYear}
 use Rattle.octets.specs.Classes.{between}
 use Rattle.octets.specs.Answers.{Answer, accepted, then, orElse, unless}
@@ -21,7 +21,7 @@ use Rattle.calendar.specs.Moments.{readMoment, isMoment}
 use Rattle.calendar.specs.Rules.{readRule}
 use Rattle.calendar.specs.declared.moments.Moment.{Moment}
 use Rattle.calendar.specs.declared.rules.Rule.{Rule}
-use Rattle.calendar.proofs.Real.{read-real}
+use Rattle.calendar.proofs.NamedMoments.{read-real}
 use Rattle.stop_list.specs.declared.Stop.{Stop}
 use Rattle.stop_list.specs.declared.Listed.{Listed}
 use Rattle.stop_list.specs.declared.Listed.the-variants.{Stops, Refused}
@@ -29,8 +29,36 @@ use Rattle.stop_list.specs.declared.plans.Plan.{Plan}
 use Rattle.stop_list.specs.Stops.{startOf, hoursOf, served, momentsFrom, stop, listOf, listAnswer, listOutcome}
 use Rattle.stop_list.specs.Runs.{runAt, stopsOf, realEnd, Begins, StopsLaid}
 use Rattle.stop_list.specs.Plans.{idle, refusedFor, planned, planOf, concluded, listTold}
-use Rattle.stop_list.proofs.Running.{at-sound, stops-at, ended-stops}
+use Rattle.stop_list.proofs.RunStops.{at-sound, stops-at, ended-stops}
 use Rattle.stop_list.proofs.Ends.{rule-real}
+use borrow.Author.Tests.{eq-eqb, ne-eqb}
+use Rattle.octets.specs.declared.Refusal.the-variants.{BadStart, BadRule, NotServed}
+
+-- what the code's readings tell of the plan
+module _ (start rule : List ℕ) (room : ℕ) where
+  pub no-start : none ≡ readMoment start → refusedFor BadStart room ≡ planOf start rule room
+  unfolding planOf guard planned
+  no-start e = rw (← e)
+
+  module _ (m : Moment) (e : some m ≡ readMoment start) where
+    pub at-60 : m .second ≡ 60 → refusedFor BadStart room ≡ planOf start rule room
+    unfolding planOf guard when planned
+    at-60 h = rw (← e, eq-eqb (m .second) 60 h)
+
+    module _ (n : m .second ≡ 60 → ⊥) where
+      pub no-rule : none ≡ readRule rule → refusedFor BadRule room ≡ planOf start rule room
+      unfolding planOf guard when planned
+      no-rule q = rw (← e, ne-eqb (m .second) 60 n, ← q)
+
+      module _ (r : Rule) (q : some r ≡ readRule rule) where
+        pub not-served : served r (m .kind) ≡ false → refusedFor NotServed room ≡ planOf start rule room
+        unfolding planOf guard when planned
+        not-served s = rw (← e, ne-eqb (m .second) 60 n, ← q, s)
+
+        pub is-planned : served r (m .kind) ≡ true
+            → record { listed = Stops 0; run = runAt 0 room (stop m) (hoursOf (r .frequency) (r .interval)) (r .end) } ≡ planOf start rule room
+        unfolding planOf guard when planned
+        is-planned s = rw (← e, ne-eqb (m .second) 60 n, ← q, s)
 
 -- a run with no stop
 idle-begins : (room : ℕ) → Begins (idle room) room
