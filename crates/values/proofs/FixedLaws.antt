@@ -28,7 +28,7 @@ use Rattle.values.specs.Simple.{binaryIs, booleanOf, booleanText}
 use Rattle.values.specs.Read.{readPlain, readBinary, asString, periodOf, readPeriod}
 use Rattle.values.specs.Write.{isString, isLettered, isTwo, isArray, valueIs, periodText, valueText}
 use Rattle.values.proofs.Neat.{Neat, n-false, n-true, n-str, n-arr, n-none, n-item, clean-textual}
-use Rattle.values.proofs.Lifting.{ItemLaw, CommaLaw, ListLaw}
+use Rattle.values.proofs.ListLaws.{ItemLaw, CommaLaw, ListLaw}
 
 -- no comma comes in by uppercase
 free-octet : (c : ℕ) → eqb c (code ",") ≡ false → eqb (upperOctet c) (code ",") ≡ false

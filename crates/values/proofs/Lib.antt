@@ -1,6 +1,6 @@
 pub mod Neat
 pub mod TextWalk
-pub mod Lifting
+pub mod ListLaws
 pub mod FixedLaws
 pub mod NumberLaws
 pub mod TextLaws

@@ -31,7 +31,7 @@ use Rattle.values.specs.Simple.{pointed, floatOf, inRange, integerOf}
 use Rattle.values.specs.Read.{asNumber, geoOf, readGeo}
 use Rattle.values.specs.Write.{isNumber, isTwo, isArray, valueIs, elementsText, valueText}
 use Rattle.values.proofs.Neat.{Neat, n-num, n-arr, n-none, n-item, clean-textual}
-use Rattle.values.proofs.Lifting.{Item, ItemLaw, CommaLaw, ListLaw}
+use Rattle.values.proofs.ListLaws.{Item, ItemLaw, CommaLaw, ListLaw}
 
 no-digit : isDigit 0 ≡ false
 unfolding isDigit between

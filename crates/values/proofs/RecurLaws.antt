@@ -35,7 +35,7 @@ use Rattle.values.specs.Simple.{inRange, integerOf}
 use Rattle.values.specs.Recur.{itemJson, partMembers, recurOf, wordOctet, isWord, isInteger, isUntil, allItems, someItems, oneOrMore, kindIs, kindsAre, stringText, itemText, itemTexts, valueTexts, memberText, memberTexts, ruleParts, recurIs, recurText}
 use Rattle.values.specs.Write.{valueIs, valueText}
 use Rattle.values.proofs.Neat.{Textual, clean-textual, Neat, n-str, n-arr, n-obj, NeatMembers, n-empty, n-member, neat-items}
-use Rattle.values.proofs.Lifting.{Item, ItemLaw, each-All, each-filled}
+use Rattle.values.proofs.ListLaws.{Item, ItemLaw, each-All, each-filled}
 use Rattle.values.proofs.FixedLaws.{capital-neat}
 use Rattle.values.proofs.NumberLaws.{integer-numeral, numeral-neat}
 

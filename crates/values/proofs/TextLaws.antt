@@ -5,242 +5,190 @@ use Prim.Native.Char.{code}
 use mathlib.Core.Path.{_≡_, refl, sym, ap, _∙_}
 use mathlib.Core.Bool.{Bool, true, false, not}
 use mathlib.Core.List.{List, [], _∷_, _++_, map, append-assoc, append-nil}
-use mathlib.Core.Option.{Option, none, some}
+use mathlib.Core.Option.{Option, some}
 use native.Mathlib.Omega.{arith}
-use borrow.Author.Tests.{lt-leb, ne-eqb}
+use borrow.Author.Tests.{lt-leb, ne-eqb, eqb-true}
 use lib.Dec.{eqb}
 use Rattle.octets.specs.Basics.{octets, _and_, _or_, all, filled, All}
-use Rattle.octets.specs.Pieces.{onto, joined}
-use Rattle.octets.specs.Optional.{map?, when, guard, holds, given}
-use Rattle.octets.specs.Classes.{between, isControl, plainOctet, textOctet}
+use Rattle.octets.specs.Pieces.{onto, cut, joined}
+use Rattle.octets.specs.Optional.{map?, both?, when, guard, holds, given, each}
+use Rattle.octets.specs.Classes.{isControl, plainOctet, textOctet}
 use Rattle.octets.specs.Utf8.{utf8, clean}
-use Rattle.octets.proofs.Cases.{cases, same?, never, both, and-true, either, or-first, apart-not, all-All, All-all, All-weaker}
-use Rattle.octets.proofs.Optional.{missing, some-same, map-is, guard-is}
-use Rattle.octets.proofs.Utf8.{ascii, ascii-high, utf8-joined}
+use Rattle.octets.proofs.Cases.{cases, same?, never, both, and-true, either, apart-not, all-append, all-All, All-all, All-weaker}
+use Rattle.octets.proofs.Optional.{some-same, when-is, map-is, both-is, guard-is}
+use Rattle.octets.proofs.Utf8.{ascii, ascii-high}
 use Rattle.octets.proofs.Transducer.{Runs, Keeps, run-all, run-utf8}
-use Rattle.types.specs.Codes as typed
 use Rattle.json.specs.Tree.{Json, str, arr, string?, number?, array?, itemsOf, listOfItems, octetsOf, elements}
-use Rattle.values.specs.Sorts.{text, status, sortSplits}
-use Rattle.values.specs.Texts.{fields, textIs, escapedOctet, textText}
-use Rattle.values.specs.TextWalk.{Act, add, next, escape, stop, act, escapes, done, textsFrom, texts}
-use Rattle.values.specs.Read.{twoOrThree, readStatus, readValues}
-use Rattle.values.specs.Write.{isString, isTwoOrThree, isArray, valueIs, elementsText, valueText, valuesText}
+use Rattle.values.specs.Sorts.{text, status}
+use Rattle.values.specs.Texts.{escapesNext, bareFrom, bareSplit, unescapedOctet, unescapedFrom, unescaped, fields, textIs, escapedOctet, textText}
+use Rattle.values.specs.Read.{twoOrThree, readStatus, readText}
+use Rattle.values.specs.Write.{isString, isTwoOrThree, isArray, valueIs, elementsText, valueText}
 use Rattle.values.proofs.Neat.{Textual, Neat, n-str, n-arr, neat-items}
 use Rattle.content.proofs.WrittenClean.{clean-joined}
-use Rattle.values.proofs.TextWalk.{Separators, commas, semicolons, fields-walked, texts-read}
-use Rattle.values.proofs.Lifting.{Item, ItemLaw, Held, comma-low, comma-plain, All-map}
+use Rattle.values.proofs.TextWalk.{Separators, commas, semicolons, nothing-more, bare-filled}
+use Rattle.values.proofs.ListLaws.{Item, ItemLaw, Cuts, each-written, each-All, All-map}
 
 abbrev Text : List ℕ → Type 0
 Text t = all textOctet t ≡ true
 
--- What is written is read.
 plain-octet : (c : ℕ) → textOctet c ≡ true → eqb c (code "\n") ≡ false → plainOctet c ≡ true
 unfolding textOctet
 plain-octet c h n = either (plainOctet c) (eqb c (code "\n")) h (λ e. e) (λ e. never e n)
 
-octet-back : {sep other : ℕ} → Separators sep other → (c : ℕ) (rest : List ℕ) → textOctet c ≡ true
-    → textsFrom sep other false (escapedOctet c ++ rest) ≡ map? (onto c) (textsFrom sep other false rest)
-unfolding textsFrom act escapes done escapedOctet
-octet-back commas c rest h =
+-- What is written is one piece between bare separators.
+abbrev prefixed : List ℕ → List (List ℕ) → List (List ℕ)
+prefixed [] ls = ls
+prefixed (x ∷ xs) ls = onto x (prefixed xs ls)
+
+prefixed-append : (xs ys : List ℕ) (ls : List (List ℕ)) → prefixed (xs ++ ys) ls ≡ prefixed xs (prefixed ys ls)
+prefixed-append [] ys ls = refl
+prefixed-append (x ∷ xs) ys ls = ap (onto x) (prefixed-append xs ys ls)
+
+prefixed-piece : (xs l : List ℕ) (ls : List (List ℕ)) → prefixed xs (l ∷ ls) ≡ (xs ++ l) ∷ ls
+prefixed-piece [] l ls = refl
+prefixed-piece (x ∷ xs) l ls = ap (onto x) (prefixed-piece xs l ls) ∙ (unfold onto in refl)
+
+octet-bare : {sep other : ℕ} → Separators sep other → (c : ℕ) (rest : List ℕ) → bareFrom sep false (escapedOctet c ++ rest) ≡ prefixed (escapedOctet c) (bareFrom sep false rest)
+unfolding bareFrom escapesNext cut escapedOctet
+octet-bare commas c rest =
     same? c (code "\\") (λ e. rw e) λ n₁.
     same? c (code ";") (λ e. rw e) λ n₂.
     same? c (code ",") (λ e. rw e) λ n₃.
-    same? c (code "\n") (λ e. rw e) λ n₄.
+    cases (eqb c (code "\n")) (λ e. rw (n₁, n₂, n₃, e)) (λ n₄. rw (n₁, n₂, n₃, n₄, n₃, n₁))
+octet-bare semicolons c rest =
+    same? c (code "\\") (λ e. rw e) λ n₁.
+    same? c (code ";") (λ e. rw e) λ n₂.
+    same? c (code ",") (λ e. rw e) λ n₃.
+    cases (eqb c (code "\n")) (λ e. rw (n₁, n₂, n₃, e)) (λ n₄. rw (n₁, n₂, n₃, n₄, n₂, n₁))
+
+next-bare : {sep other : ℕ} → Separators sep other → (rest : List ℕ) → bareFrom sep false (sep ∷ rest) ≡ [] ∷ bareFrom sep false rest
+unfolding bareFrom escapesNext cut
+next-bare commas rest = refl
+next-bare semicolons rest = refl
+
+module _ (sep other : ℕ) (seps : Separators sep other) where
+  text-bare : (t rest : List ℕ) → bareFrom sep false (textText t ++ rest) ≡ prefixed (textText t) (bareFrom sep false rest)
+  unfolding textText
+  text-bare [] rest = refl
+  text-bare (c ∷ t) rest =
+      ap (bareFrom sep false) (append-assoc (escapedOctet c) (textText t) rest) ∙ octet-bare seps c (textText t ++ rest)
+      ∙ ap (prefixed (escapedOctet c)) (text-bare t rest) ∙ sym (prefixed-append (escapedOctet c) (textText t) (bareFrom sep false rest))
+
+  bare-again : (t : List ℕ) (ts : List (List ℕ)) → bareSplit sep (joined sep (map textText (t ∷ ts))) ≡ map textText (t ∷ ts)
+  unfolding bareSplit joined bareFrom
+  bare-again t [] = rw (append-nil (textText t)) at (text-bare t [] ∙ prefixed-piece (textText t) [] [])
+  bare-again t (u ∷ ts) =
+      text-bare t (sep ∷ joined sep (map textText (u ∷ ts))) ∙ ap (prefixed (textText t)) (next-bare seps (joined sep (map textText (u ∷ ts))))
+      ∙ prefixed-piece (textText t) [] (bareFrom sep false (joined sep (map textText (u ∷ ts)))) ∙ rw (append-nil (textText t))
+      (ap (λ (ls : List (List ℕ)). textText t ∷ ls) (bare-again u ts))
+
+  -- the pieces are the whole
+  piece-whole : (b : Bool) (c : ℕ) (ls : List (List ℕ)) → (b ≡ true → c ≡ sep) → (ls ≡ [] → ⊥) → joined sep (cut b c ls) ≡ c ∷ joined sep ls
+  unfolding cut onto joined
+  piece-whole b c [] e n = absurd (n refl)
+  piece-whole true c (l ∷ ls) e n = rw (e refl)
+  piece-whole false c (l ∷ []) e n = refl
+  piece-whole false c (l ∷ m ∷ ls) e n = refl
+
+  pieces-whole : (e : Bool) (s : List ℕ) → joined sep (bareFrom sep e s) ≡ s
+  unfolding bareFrom
+  pieces-whole e [] = unfold joined in refl
+  pieces-whole e (c ∷ s) =
+      piece-whole (not e and eqb c sep) c (bareFrom sep (escapesNext e c) s) (λ h. eqb-true c sep (both (not e) (eqb c sep) h .1)) (bare-filled sep (escapesNext e c) s)
+      ∙ ap (λ (l : List ℕ). c ∷ l) (pieces-whole (escapesNext e c) s)
+
+  bare-whole : (s : List ℕ) → joined sep (bareSplit sep s) ≡ s
+  unfolding bareSplit
+  bare-whole s = pieces-whole false s
+
+-- It is read again.
+octet-again : (c : ℕ) → textOctet c ≡ true → (rest : List ℕ) → unescapedFrom false (escapedOctet c ++ rest) ≡ both? _++_ (some (c ∷ [])) (unescapedFrom false rest)
+unfolding unescapedFrom unescapedOctet escapesNext escapedOctet when
+octet-again c h rest =
+    same? c (code "\\") (λ e. rw e (nothing-more _)) λ n₁.
+    same? c (code ";") (λ e. rw e (nothing-more _)) λ n₂.
+    same? c (code ",") (λ e. rw e (nothing-more _)) λ n₃.
+    same? c (code "\n") (λ e. rw e (nothing-more _)) λ n₄.
     rw (n₁, n₂, n₃, n₄, n₁, n₃, n₂, plain-octet c h n₄)
-octet-back semicolons c rest h =
-    same? c (code "\\") (λ e. rw e) λ n₁.
-    same? c (code ";") (λ e. rw e) λ n₂.
-    same? c (code ",") (λ e. rw e) λ n₃.
-    same? c (code "\n") (λ e. rw e) λ n₄.
-    rw (n₁, n₂, n₃, n₄, n₁, n₂, n₃, plain-octet c h n₄)
 
-next-back : {sep other : ℕ} → Separators sep other → (rest : List ℕ) (ts : List (List ℕ)) → textsFrom sep other false rest ≡ some ts
-    → textsFrom sep other false (sep ∷ rest) ≡ some ([] ∷ ts)
-unfolding textsFrom act escapes done map?
-next-back commas rest ts e = rw e
-next-back semicolons rest ts e = rw e
-
-module _ (sep other : ℕ) (seps : Separators sep other) where
-  text-back : (t rest l : List ℕ) (ls : List (List ℕ)) → Text t → textsFrom sep other false rest ≡ some (l ∷ ls)
-      → textsFrom sep other false (textText t ++ rest) ≡ some ((t ++ l) ∷ ls)
-  unfolding textText all
-  text-back [] rest l ls h e = e
-  text-back (c ∷ t) rest l ls h e =
-      let b = both-of c t h in
-      ap (textsFrom sep other false) (append-assoc (escapedOctet c) (textText t) rest) ∙ octet-back seps c (textText t ++ rest) (b .0)
-      ∙ ap (map? (onto c)) (text-back t rest l ls (b .1) e) ∙ (unfold map? onto in refl)
-    where
-      both-of : (c : ℕ) (t : List ℕ) → (textOctet c and all textOctet t) ≡ true → (textOctet c ≡ true) × Text t
-      both-of c t h = both (textOctet c) (all textOctet t) h
-
-  ended : textsFrom sep other false [] ≡ some ([] ∷ [])
-  unfolding textsFrom
-  ended = refl
-
-  pub texts-back : (t : List ℕ) (ts : List (List ℕ)) → All Text (t ∷ ts) → textsFrom sep other false (joined sep (map textText (t ∷ ts))) ≡ some (t ∷ ts)
-  unfolding joined
-  texts-back t [] h = rw (append-nil (textText t), append-nil t) at (text-back t [] [] [] (h .0) ended)
-  texts-back t (u ∷ ts) h =
-      rw (append-nil t) at (text-back t (sep ∷ joined sep (map textText (u ∷ ts))) [] (u ∷ ts) (h .0)
-      (next-back seps (joined sep (map textText (u ∷ ts))) (u ∷ ts) (texts-back u ts (h .1))))
-
--- What is read is texts, one at least.
-abbrev Texts : Option (List (List ℕ)) → Type 0
-Texts none = Unit {0}
-Texts (some []) = ⊥
-Texts (some (t ∷ ts)) = All Text (t ∷ ts)
-
-abbrev AddsText : Act → Type 0
-AddsText (add c) = textOctet c ≡ true
-AddsText next = Unit {0}
-AddsText escape = Unit {0}
-AddsText stop = Unit {0}
-
-text-plain : (c : ℕ) → not (plainOctet c) ≡ false → textOctet c ≡ true
-unfolding textOctet
-text-plain c h = or-first _ (double (plainOctet c) h)
+text-again : (t : List ℕ) → Text t → unescaped (textText t) ≡ some t
+unfolding unescaped textText all
+text-again [] h = unfold unescapedFrom when in refl
+text-again (c ∷ t) h =
+    let b = both-of c t h in
+    octet-again c (b .0) (textText t) ∙ rw (text-again t (b .1)) (unfold both? in refl)
   where
-    double : (b : Bool) → not b ≡ false → b ≡ true
-    double true h = refl
-    double false h = never refl h
+    both-of : (c : ℕ) (t : List ℕ) → (textOctet c and all textOctet t) ≡ true → (textOctet c ≡ true) × Text t
+    both-of c t h = both (textOctet c) (all textOctet t) h
 
-adds : (sep other : ℕ) (e : Bool) (c : ℕ) → AddsText (act sep other e c)
-unfolding act
-adds sep other false c =
-    cases (eqb c (code "\\")) (λ e. rw e tt) λ n₁.
-    cases (eqb c sep) (λ e. rw (n₁, e) tt) λ n₂.
-    cases (eqb c other) (λ e. rw (n₁, n₂, e) tt) λ n₃.
-    cases (not (plainOctet c)) (λ e. rw (n₁, n₂, n₃, e) tt) λ n₄. rw (n₁, n₂, n₃, n₄) (text-plain c n₄)
-adds sep other true c =
-    same? c (code "\\") (λ e. rw e (unfold textOctet plainOctet isControl in refl)) λ n₁.
-    same? c (code ";") (λ e. rw e (unfold textOctet plainOctet isControl in refl)) λ n₂.
-    same? c (code ",") (λ e. rw e (unfold textOctet plainOctet isControl in refl)) λ n₃.
-    cases (eqb c (code "n") or eqb c (code "N"))
-    (λ e. rw (n₁, n₂, n₃, e) (unfold textOctet plainOctet isControl in refl))
-    (λ e. rw (n₁, n₂, n₃, e) tt)
-
-done-texts : (a : Act) (r : Option (List (List ℕ))) → AddsText a → Texts r → Texts (done a r)
-unfolding done map? onto all
-done-texts (add c) none p h = tt
-done-texts (add c) (some []) p h = absurd h
-done-texts (add c) (some (t ∷ ts)) p h = (and-true p (h .0), h .1)
-done-texts next none p h = tt
-done-texts next (some []) p h = absurd h
-done-texts next (some (t ∷ ts)) p h = (refl, h)
-done-texts escape r p h = h
-done-texts stop r p h = tt
-
-pub texts-are : (sep other : ℕ) (e : Bool) (s : List ℕ) → Texts (textsFrom sep other e s)
-unfolding textsFrom
-texts-are sep other true [] = tt
-texts-are sep other false [] = (unfold all in refl, tt)
-texts-are sep other e (c ∷ s) =
-    done-texts (act sep other e c) (textsFrom sep other (escapes (act sep other e c)) s) (adds sep other e c) (texts-are sep other (escapes (act sep other e c)) s)
-
--- It is in UTF-8: the texts with separators between them are what a transducer makes of the text that is read.
-unfoldable made : ℕ → Act → ℕ → List ℕ
-made sep (add d) c = d ∷ []
-made sep next c = sep ∷ []
-made sep escape c = []
-made sep stop c = c ∷ []
-
-unfoldable run : ℕ → ℕ → Bool → List ℕ → List ℕ
-run sep other e [] = []
-run sep other e (c ∷ s) = made sep (act sep other e c) c ++ run sep other (escapes (act sep other e c)) s
-
-joined-onto : (sep c : ℕ) (ls : List (List ℕ)) → joined sep (onto c ls) ≡ c ∷ joined sep ls
-unfolding joined onto
-joined-onto sep c [] = refl
-joined-onto sep c (l ∷ []) = refl
-joined-onto sep c (l ∷ m ∷ ls) = refl
-
-done-joined : (sep c : ℕ) (a : Act) (r : Option (List (List ℕ))) (ts : List (List ℕ)) (rest : List ℕ) → Texts r → ((us : List (List ℕ)) → r ≡ some us → joined sep us ≡ rest)
-    → done a r ≡ some ts → joined sep ts ≡ made sep a c ++ rest
-unfolding done made
-done-joined sep c (add d) r ts rest h f e = map-is (onto d) r ts e (λ us q w. rw (← w) (joined-onto sep d us ∙ ap (λ (l : List ℕ). d ∷ l) (f us q)))
-done-joined sep c next r ts rest h f e = map-is (λ us. [] ∷ us) r ts e (λ us q w. rw (← w) (between us (rw q at h) ∙ ap (λ (l : List ℕ). sep ∷ l) (f us q)))
+-- What is read is text.
+octet-text : (e : Bool) (c : ℕ) (x : List ℕ) → unescapedOctet e c ≡ some x → Text x
+unfolding unescapedOctet textOctet plainOctet isControl
+octet-text true c x q =
+    same? c (code "\\") (λ e. bare (code "\\") refl (rw e at q)) λ n₁.
+    same? c (code ";") (λ e. bare (code ";") refl (rw e at q)) λ n₂.
+    same? c (code ",") (λ e. bare (code ",") refl (rw e at q)) λ n₃.
+    rw (← when-is (eqb c (code "n") or eqb c (code "N")) (octets "\n") x (rw (n₁, n₂, n₃) at q) .1) (unfold all textOctet plainOctet isControl in refl)
   where
-    between : (us : List (List ℕ)) → Texts (some us) → joined sep ([] ∷ us) ≡ sep ∷ joined sep us
-    between [] h = absurd h
-    between (u ∷ us) h = unfold joined in refl
-done-joined sep c escape r ts rest h f e = f ts e
-done-joined sep c stop r ts rest h f e = missing e
+    bare : (c : ℕ) → textOctet c ≡ true → _≡_ {A = Option (List ℕ)} (some (c ∷ [])) (some x) → Text x
+    bare c h q = rw (← some-same q) (unfold all in rw h)
+octet-text false c x q =
+    cases (eqb c (code "\\")) (λ e. rw (← some-same (rw e at q)) (unfold all in refl)) λ n.
+    let w = when-is (not (eqb c (code ",") or eqb c (code ";")) and plainOctet c) (c ∷ []) x (rw n at q) in
+    rw (← w .1) (plain c (both (not (eqb c (code ",") or eqb c (code ";"))) (plainOctet c) (w .0) .1))
+  where
+    plain : (c : ℕ) → plainOctet c ≡ true → Text (c ∷ [])
+    plain c h = unfold all textOctet in rw h
 
-texts-run : (sep other : ℕ) (e : Bool) (s : List ℕ) (ts : List (List ℕ)) → textsFrom sep other e s ≡ some ts → joined sep ts ≡ run sep other e s
-unfolding textsFrom run
-texts-run sep other true [] ts q = missing q
-texts-run sep other false [] ts q = rw (← (some-same q)) (unfold joined in refl)
-texts-run sep other e (c ∷ s) ts q =
-    done-joined sep c (act sep other e c) (textsFrom sep other (escapes (act sep other e c)) s) ts (run sep other (escapes (act sep other e c)) s)
-    (texts-are sep other (escapes (act sep other e c)) s) (λ us d. texts-run sep other (escapes (act sep other e c)) s us d) q
+read-text : (e : Bool) (s t : List ℕ) → unescapedFrom e s ≡ some t → Text t
+unfolding unescapedFrom
+read-text e [] t q = rw (← when-is (not e) [] t q .1) (unfold all in refl)
+read-text e (c ∷ s) t q =
+    both-is _++_ (unescapedOctet e c) (unescapedFrom (escapesNext e c) s) t q (λ x y p r w.
+    rw (← w) (all-append textOctet x y ∙ and-true (octet-text e c x p) (read-text (escapesNext e c) s y r)))
 
-sep-low : {sep other : ℕ} → Separators sep other → ascii sep ≡ true
-unfolding ascii
-sep-low commas = refl
-sep-low semicolons = refl
+-- It is in UTF-8, as what a transducer makes of the text.
+unfoldable made : Bool → ℕ → List ℕ
+made e c = given (c ∷ []) (λ x. x) (unescapedOctet e c)
 
-other-low : {sep other : ℕ} → Separators sep other → ascii other ≡ true
-unfolding ascii
-other-low commas = refl
-other-low semicolons = refl
+unfoldable run : Bool → List ℕ → List ℕ
+run e [] = []
+run e (c ∷ s) = made e c ++ run (escapesNext e c) s
 
-high-plain : (c : ℕ) → ascii c ≡ false → plainOctet c ≡ true
-unfolding plainOctet isControl
-high-plain c h = let l = ascii-high c h in rw (lt-leb c 31 (omega arith), ne-eqb c 127 (λ e. omega arith))
+read-run : (e : Bool) (s t : List ℕ) → unescapedFrom e s ≡ some t → t ≡ run e s
+unfolding unescapedFrom run made
+read-run e [] t q = sym (when-is (not e) [] t q .1)
+read-run e (c ∷ s) t q =
+    both-is _++_ (unescapedOctet e c) (unescapedFrom (escapesNext e c) s) t q (λ x y p r w.
+    rw (← w, p, read-run (escapesNext e c) s y r) (unfold given in refl))
 
-module _ (sep other : ℕ) (seps : Separators sep other) where
-  abbrev step : Bool → ℕ → Bool
-  step e c = escapes (act sep other e c)
+high : (e : Bool) (c : ℕ) → ascii c ≡ false → made e c ≡ c ∷ []
+unfolding made unescapedOctet when given ascii
+high false c h = rw (other (code "\\") refl, other (code ",") refl, other (code ";") refl, plain)
+  where
+    other : (k : ℕ) → ascii k ≡ true → eqb c k ≡ false
+    other k l = apart-not ascii c k h l
 
-  abbrev out : Bool → ℕ → List ℕ
-  out e c = made sep (act sep other e c) c
+    plain : plainOctet c ≡ true
+    plain = let l = ascii-high c h in unfold plainOctet isControl in rw (lt-leb c 31 (omega arith), ne-eqb c 127 (λ e. omega arith))
+high true c h = rw (other (code "\\") refl, other (code ";") refl, other (code ",") refl, other (code "n") refl, other (code "N") refl)
+  where
+    other : (k : ℕ) → ascii k ≡ true → eqb c k ≡ false
+    other k l = apart-not ascii c k h l
 
-  runs : Runs Bool step out (λ e. []) (run sep other)
-  unfolding run
-  runs = record { ends = λ e. refl; steps = λ e c s. refl }
+low : (e : Bool) (c : ℕ) → ascii c ≡ true → all ascii (made e c) ≡ true
+unfolding made unescapedOctet when given all
+low false c h =
+    cases (eqb c (code "\\")) (λ e. rw e) λ n.
+    cases (not (eqb c (code ",") or eqb c (code ";")) and plainOctet c) (λ e. rw (n, e, h)) (λ e. rw (n, e, h))
+low true c h =
+    cases (eqb c (code "\\") or eqb c (code ";") or eqb c (code ",")) (λ e. rw (e, h)) λ n.
+    cases (eqb c (code "n") or eqb c (code "N")) (λ e. rw (n, e) (unfold ascii in refl)) (λ e. rw (n, e, h))
 
-  other-than : (c k : ℕ) → ascii c ≡ false → ascii k ≡ true → eqb c k ≡ false
-  other-than c k h l = apart-not ascii c k h l
-
-  high : (e : Bool) (c : ℕ) → ascii c ≡ false → out e c ≡ c ∷ []
-  unfolding act made
-  high false c h = rw (
-    other-than c (code "\\") h (unfold ascii in refl),
-    other-than c sep h (sep-low seps),
-    other-than c other h (other-low seps),
-    high-plain c h,
-  )
-  high true c h = rw (
-    other-than c (code "\\") h (unfold ascii in refl),
-    other-than c (code ";") h (unfold ascii in refl),
-    other-than c (code ",") h (unfold ascii in refl),
-    other-than c (code "n") h (unfold ascii in refl),
-    other-than c (code "N") h (unfold ascii in refl),
-  )
-
-  lows : (e : Bool) (c : ℕ) → ascii c ≡ true → all ascii (out e c) ≡ true
-  unfolding act made all
-  lows false c h =
-      cases (eqb c (code "\\")) (λ e. rw e) λ n₁.
-      cases (eqb c sep) (λ e. rw (n₁, e, sep-low seps)) λ n₂.
-      cases (eqb c other or not (plainOctet c)) (λ e. rw (n₁, n₂, e, h)) λ n₃. rw (n₁, n₂, n₃, h)
-  lows true c h =
-      cases (eqb c (code "\\") or eqb c (code ";") or eqb c (code ",")) (λ e. rw (e, h)) λ n₁.
-      cases (eqb c (code "n") or eqb c (code "N")) (λ e. rw (n₁, e) (unfold ascii in refl)) λ n₂. rw (n₁, n₂, h)
-
-  keeps : Keeps Bool step out (λ e. []) (λ e. [])
-  keeps = record {
-    high = high;
-    calm = λ e c h. refl;
-    lows = lows;
-    pres = λ e. unfold all in refl;
-    lasts = λ e. unfold all in refl;
-  }
-
-  texts-utf8 : (s : List ℕ) (ts : List (List ℕ)) → textsFrom sep other false s ≡ some ts → utf8 s ≡ true → all utf8 ts ≡ true
-  texts-utf8 s ts q h =
-      sym (utf8-joined sep ts (sep-low seps)) ∙ ap utf8 (texts-run sep other false s ts q)
-      ∙ run-utf8 Bool step out (λ e. []) (run sep other) runs (λ e. []) keeps s false h
+read-utf8 : (s t : List ℕ) → unescapedFrom false s ≡ some t → utf8 s ≡ true → utf8 t ≡ true
+read-utf8 s t q h =
+    ap utf8 (read-run false s t q) ∙ run-utf8 Bool escapesNext made (λ e. []) run (record { ends = λ e. unfold run in refl; steps = λ e c s. unfold run in refl }) (λ e. [])
+    (record { high = high; calm = λ e c h. refl; lows = low; pres = λ e. unfold all in refl; lasts = λ e. unfold all in refl }) s false h
 
 -- What is written is clean: escaping as a transducer without state.
 escapes-runs : Runs (Unit {0}) (λ q c. q) (λ q c. escapedOctet c) (λ q. []) (λ q s. textText s)
@@ -288,31 +236,19 @@ pub text-clean : (t : List ℕ) → Textual t → clean (textText t) ≡ true
 unfolding clean
 text-clean t h = and-true (escaped-utf8 t (h .encoded)) (escaped-plain t (h .texts))
 
--- The texts that are read.
-pub record Reading (sep other : ℕ) (s : List ℕ) (ts : List (List ℕ)) : Type 0 where
-  pub again : textsFrom sep other false (joined sep (map textText ts)) ≡ some ts
-  pub are : All Text ts
-  pub one-or-more : filled ts ≡ true
-  pub textual : clean s ≡ true → All Textual ts
+-- no condition
+units : (ls : List (List ℕ)) → All (λ s. Unit {0}) ls
+units [] = tt
+units (l ∷ ls) = (tt, units ls)
 
-clean-utf8 : (s : List ℕ) → clean s ≡ true → utf8 s ≡ true
-unfolding clean
-clean-utf8 s h = both (utf8 s) (all plainOctet s) h .0
+-- A text that is read.
+module _ (s t : List ℕ) (q : unescaped s ≡ some t) where
+  is-text : Text t
+  unfolding unescaped
+  is-text = read-text false s t q
 
-textuals : (ts : List (List ℕ)) → All (λ t. utf8 t ≡ true) ts → All Text ts → All Textual ts
-textuals [] h k = tt
-textuals (t ∷ ts) h k = (record { encoded = h .0; texts = k .0 }, textuals ts (h .1) (k .1))
-
-pub texts-reading : {sep other : ℕ} → Separators sep other → (s : List ℕ) (ts : List (List ℕ)) → textsFrom sep other false s ≡ some ts → Reading sep other s ts
-texts-reading {sep} {other} seps s [] q = absurd (rw q at (texts-are sep other false s))
-texts-reading {sep} {other} seps s (t ∷ ts) q =
-    let h : All Text (t ∷ ts) = rw q at (texts-are sep other false s) in
-    record {
-      again = texts-back sep other seps t ts h;
-      are = h;
-      one-or-more = unfold filled in refl;
-      textual = λ c. textuals (t ∷ ts) (all-All utf8 (t ∷ ts) (texts-utf8 sep other seps s (t ∷ ts) q (clean-utf8 s c))) h;
-    }
+  textual : clean s ≡ true → Textual t
+  textual c = record { encoded = unfold unescaped in read-utf8 s t q (unfold clean in both (utf8 s) (all plainOctet s) c .0); texts = is-text }
 
 -- Text values
 string-text : (t : List ℕ) → valueText text (str t) ≡ textText t
@@ -323,59 +259,36 @@ string-is : (t : List ℕ) → Text t → isString textIs (str t) ≡ true
 unfolding isString holds string? textIs
 string-is t h = h
 
-text-is : (t : List ℕ) → Text t → valueIs text (str t) ≡ true
-unfolding valueIs
-text-is t h = string-is t h
+text-again-read : (t : List ℕ) → Text t → readText (textText t) ≡ some (str t)
+unfolding readText map?
+text-again-read t h = rw (text-again t h)
 
-text-splits : sortSplits text ≡ true
-unfolding sortSplits typed.typeSplits between
-text-splits = refl
+pub text-law : ItemLaw text readText
+unfolding readText
+text-law s j e = map-is str (unescaped s) j e (λ t q w. rw (← w) (record {
+  again = rw (string-text t) (text-again-read t (is-text s t q));
+  is = unfold valueIs in string-is t (is-text s t q);
+  line = λ c. rw (string-text t) (text-clean t (textual s t q c));
+  neat = λ c. n-str (textual s t q c);
+}))
 
-map-text : (ts : List (List ℕ)) → map (valueText text) (map str ts) ≡ map textText ts
-map-text [] = refl
-map-text (t ∷ ts) = rw (string-text t) (ap (λ (ls : List (List ℕ)). textText t ∷ ls) (map-text ts))
+-- what is written is a text with its escapes
+abbrev pub Escaped : List ℕ → Type 0
+Escaped l = (t : List ℕ) × (textText t ≡ l)
 
-values-text : (ts : List (List ℕ)) → valuesText text (map str ts) ≡ joined (code ",") (map textText ts)
-unfolding valuesText
-values-text ts = ap (joined (code ",")) (map-text ts)
+pub text-escaped : (s : List ℕ) (j : Json) → Unit {0} → readText s ≡ some j → Escaped (valueText text j)
+unfolding readText
+text-escaped s j u e = map-is str (unescaped s) j e (λ t q w. (t, sym (string-text t) ∙ ap (valueText text) w))
 
-written-clean : (sep : ℕ) → ascii sep ≡ true → plainOctet sep ≡ true → (ts : List (List ℕ)) → All Textual ts → clean (joined sep (map textText ts)) ≡ true
-written-clean sep l p ts h = clean-joined sep l p (map textText ts) ∙ All-all clean (map textText ts) (All-map (λ t. clean t ≡ true) textText ts (All-weaker text-clean ts h))
-
-strings-neat : (d : ℕ) (ts : List (List ℕ)) → All Textual ts → All (Neat d) (map str ts)
-strings-neat d [] h = tt
-strings-neat d (t ∷ ts) h = (n-str (h .0), strings-neat d ts (h .1))
-
-one-text : (t : List ℕ) → Text t → readValues text (valueText text (str t)) ≡ some (str t ∷ [])
-unfolding texts map?
-one-text t h = rw (string-text t, texts-read (textText t), alone t (texts-back (code ",") (code ";") commas t [] (h, tt)))
+pub at-bare-commas : Cuts (bareSplit (code ",")) (λ s. Unit {0}) Escaped
+at-bare-commas = record { pieces = λ s. units (bareSplit (code ",") s); filled = λ s. unfold bareSplit in bare-filled (code ",") false s; again = again; whole = bare-whole (code ",") (code ";") commas }
   where
-    alone : (t : List ℕ) → textsFrom (code ",") (code ";") false (joined (code ",") (textText t ∷ [])) ≡ some (t ∷ []) → textsFrom (code ",") (code ";") false (textText t) ≡ some (t ∷ [])
-    alone t e = unfold joined in e
+    texts : (ls : List (List ℕ)) → All Escaped ls → (ts : List (List ℕ)) × (map textText ts ≡ ls)
+    texts [] h = ([], refl)
+    texts (l ∷ ls) h = let r = texts ls (h .1) in (h .0 .0 ∷ r .0, rw (h .0 .1, r .1))
 
-texts-held : (raw : List ℕ) (ts : List (List ℕ)) → texts raw ≡ some ts → Held text raw (map str ts)
-texts-held raw ts q =
-    let r = texts-reading commas raw ts (unfold texts in q) in
-    record {
-      again = rw (values-text ts) (reads ts (r .again));
-      pieces = All-map (λ j. readValues text (valueText text j) ≡ some (j ∷ [])) str ts (All-weaker one-text ts (r .are));
-      are = All-all (valueIs text) (map str ts) (All-map (λ j. valueIs text j ≡ true) str ts (All-weaker text-is ts (r .are)));
-      one-or-more = filled-map ts (r .one-or-more);
-      only = λ n. never text-splits n;
-      line = λ c. rw (values-text ts) (written-clean (code ",") comma-low comma-plain ts (r .textual c));
-      neat = λ c. strings-neat 2 ts (r .textual c);
-    }
-  where
-    reads : (ts : List (List ℕ)) → textsFrom (code ",") (code ";") false (joined (code ",") (map textText ts)) ≡ some ts
-        → readValues text (joined (code ",") (map textText ts)) ≡ some (map str ts)
-    reads ts e = unfold texts map? in rw (texts-read (joined (code ",") (map textText ts)), e)
-
-    filled-map : (ts : List (List ℕ)) → filled ts ≡ true → filled (map str ts) ≡ true
-    filled-map [] h = never h (unfold filled in refl)
-    filled-map (t ∷ ts) h = unfold filled in refl
-
-pub text-held : (raw : List ℕ) (vs : List Json) → readValues text raw ≡ some vs → Held text raw vs
-text-held raw vs e = map-is (map str) (texts raw) vs (sym (texts-read raw) ∙ e) (λ ts q w. rw (← w) (texts-held raw ts q))
+    again : (l : List ℕ) (ls : List (List ℕ)) → All Escaped (l ∷ ls) → bareSplit (code ",") (joined (code ",") (l ∷ ls)) ≡ l ∷ ls
+    again l ls h = let r = texts ls (h .1) in rw (← h .0 .1, ← r .1) (bare-again (code ",") (code ";") commas (h .0 .0) (r .0))
 
 -- REQUEST-STATUS
 pub list-items : (js : List Json) → listOfItems (itemsOf js) ≡ js
@@ -415,15 +328,30 @@ semicolon-plain : plainOctet (code ";") ≡ true
 unfolding plainOctet isControl
 semicolon-plain = refl
 
+strings-neat : (d : ℕ) (ts : List (List ℕ)) → All Textual ts → All (Neat d) (map str ts)
+strings-neat d [] h = tt
+strings-neat d (t ∷ ts) h = (n-str (h .0), strings-neat d ts (h .1))
+
 fields-item : (s : List ℕ) (ts : List (List ℕ)) → fields s ≡ some ts → twoOrThree ts ≡ true → Item status readStatus s (arr (itemsOf (map str ts)))
-fields-item s ts q k =
-    let r = texts-reading semicolons s ts (sym (fields-walked s) ∙ q) in
-    record {
-      again = rw (status-text ts) (status-again ts (fields-walked _ ∙ r .again) k);
-      is = status-is ts (r .are) k;
-      line = λ c. rw (status-text ts) (written-clean (code ";") (sep-low semicolons) semicolon-plain ts (r .textual c));
-      neat = λ c. n-arr (neat-items 1 (map str ts) (strings-neat 1 ts (r .textual c)));
-    }
+unfolding fields
+fields-item s ts q k = record {
+  again = rw (status-text ts) (status-again ts (fields-again ts k are) k);
+  is = status-is ts are k;
+  line = λ c. rw (status-text ts) (clean-joined (code ";") (unfold ascii in refl) semicolon-plain (map textText ts)
+      ∙ All-all clean (map textText ts) (All-map (λ t. clean t ≡ true) textText ts (All-weaker text-clean ts (textuals c))));
+  neat = λ c. n-arr (neat-items 1 (map str ts) (strings-neat 1 ts (textuals c)));
+}
+  where
+    are : All Text ts
+    are = each-All unescaped (λ l. Unit {0}) Text (λ l t u e. is-text l t e) (bareSplit (code ";") s) ts (units (bareSplit (code ";") s)) q
+
+    textuals : clean s ≡ true → All Textual ts
+    textuals c = each-All unescaped (λ l. clean l ≡ true) Textual (λ l t d e. textual l t e d) (bareSplit (code ";") s) ts
+        (all-All clean (bareSplit (code ";") s) (sym (clean-joined (code ";") (unfold ascii in refl) semicolon-plain (bareSplit (code ";") s)) ∙ ap clean (bare-whole (code ";") (code ",") semicolons s) ∙ c)) q
+
+    fields-again : (ts : List (List ℕ)) → twoOrThree ts ≡ true → All Text ts → fields (joined (code ";") (map textText ts)) ≡ some ts
+    fields-again [] k h = never k (unfold twoOrThree in refl)
+    fields-again (t ∷ ts) k h = unfold fields in rw (bare-again (code ";") (code ",") semicolons t ts) (each-written unescaped textText (t ∷ ts) (All-weaker text-again (t ∷ ts) h))
 
 pub status-law : ItemLaw status readStatus
 unfolding readStatus

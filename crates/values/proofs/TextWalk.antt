@@ -45,6 +45,22 @@ does semicolons false c =
     cases (eqb c (code ",")) (λ e. rw (n₁, n₂, e) (rw (n₁, n₂, e) (refl, refl, refl))) λ n₃.
     cases (plainOctet c) (λ e. rw (n₁, n₂, n₃, e) (rw (n₁, n₂, n₃, e) (refl, refl, refl))) (λ e. rw (n₁, n₂, n₃, e) (rw (n₁, n₂, n₃, e) (refl, refl, refl)))
 
+-- a backslash adds nothing
+pub nothing-more : (o : Option (List ℕ)) → both? _++_ (some []) o ≡ o
+unfolding both?
+nothing-more none = refl
+nothing-more (some t) = refl
+
+pub bare-filled : (sep : ℕ) (e : Bool) (s : List ℕ) → bareFrom sep e s ≡ [] → ⊥
+unfolding bareFrom
+bare-filled sep e [] q = let z : _≡_ {A = Bool} true false = cc in never refl z
+bare-filled sep e (c ∷ s) q = cut-filled (not e and eqb c sep) (bareFrom sep (escapesNext e c) s) q
+  where
+    cut-filled : (b : Bool) (ls : List (List ℕ)) → cut b c ls ≡ [] → ⊥
+    cut-filled true ls q = unfold cut in let z : _≡_ {A = Bool} true false = cc in never refl z
+    cut-filled false [] q = unfold cut onto in let z : _≡_ {A = Bool} true false = cc in never refl z
+    cut-filled false (l ∷ ls) q = unfold cut onto in let z : _≡_ {A = Bool} true false = cc in never refl z
+
 module _ (sep other : ℕ) (seps : Separators sep other) where
   -- the pieces, where the first one begins behind a backslash or not
   abbrev pieces : Bool → List (List ℕ) → Option (List (List ℕ))
@@ -64,11 +80,7 @@ module _ (sep other : ℕ) (seps : Separators sep other) where
       ends : (r : Option (List (List ℕ))) → both? _∷_ (when (not false) []) r ≡ map? (λ ts. [] ∷ ts) r
       ends none = unfold both? map? when in refl
       ends (some ts) = unfold both? map? when in refl
-  piece-more e c escape l ls h = rw (h .1, h .0, h .2) (ap (λ (o : Option (List ℕ)). both? _∷_ o (each unescaped ls)) (same (unescapedFrom true l)))
-    where
-      same : (o : Option (List ℕ)) → both? _++_ (some []) o ≡ o
-      same none = unfold both? in refl
-      same (some t) = unfold both? in refl
+  piece-more e c escape l ls h = rw (h .1, h .0, h .2) (ap (λ (o : Option (List ℕ)). both? _∷_ o (each unescaped ls)) (nothing-more (unescapedFrom true l)))
   piece-more e c stop l ls h = rw (h .1, h .0) (unfold both? in refl)
 
   act-escapes : (e : Bool) (c : ℕ) (a : Act) → Does sep e c a → escapesNext e c ≡ escapes a
@@ -77,16 +89,6 @@ module _ (sep other : ℕ) (seps : Separators sep other) where
   act-escapes e c next h = h .2
   act-escapes e c escape h = h .2
   act-escapes e c stop h = h .2
-
-  bare-filled : (e : Bool) (s : List ℕ) → bareFrom sep e s ≡ [] → ⊥
-  unfolding bareFrom
-  bare-filled e [] q = let z : _≡_ {A = Bool} true false = cc in never refl z
-  bare-filled e (c ∷ s) q = cut-filled (not e and eqb c sep) (bareFrom sep (escapesNext e c) s) q
-    where
-      cut-filled : (b : Bool) (ls : List (List ℕ)) → cut b c ls ≡ [] → ⊥
-      cut-filled true ls q = unfold cut in let z : _≡_ {A = Bool} true false = cc in never refl z
-      cut-filled false [] q = unfold cut onto in let z : _≡_ {A = Bool} true false = cc in never refl z
-      cut-filled false (l ∷ ls) q = unfold cut onto in let z : _≡_ {A = Bool} true false = cc in never refl z
 
   pieces-more : (e : Bool) (c : ℕ) (a : Act) (ls : List (List ℕ)) → (ls ≡ [] → ⊥) → Does sep e c a → pieces e (cut (not e and eqb c sep) c ls) ≡ done a (pieces (escapes a) ls)
   pieces-more e c a [] n h = absurd (n refl)
@@ -99,7 +101,7 @@ module _ (sep other : ℕ) (seps : Separators sep other) where
   walked e (c ∷ s) =
       let a = act sep other e c in
       let h = does seps e c in
-      pieces-more e c a (bareFrom sep (escapesNext e c) s) (bare-filled (escapesNext e c) s) h
+      pieces-more e c a (bareFrom sep (escapesNext e c) s) (bare-filled sep (escapesNext e c) s) h
       ∙ ap (λ (b : Bool). done a (pieces (escapes a) (bareFrom sep b s))) (act-escapes e c a h)
       ∙ ap (done a) (walked (escapes a) s)
 
@@ -111,7 +113,7 @@ module _ (sep other : ℕ) (seps : Separators sep other) where
   -- THE LAW
   pub texts-walked : (s : List ℕ) → each unescaped (bareSplit sep s) ≡ textsFrom sep other false s
   unfolding bareSplit
-  texts-walked s = each-pieces (bareFrom sep false s) (bare-filled false s) ∙ walked false s
+  texts-walked s = each-pieces (bareFrom sep false s) (bare-filled sep false s) ∙ walked false s
 
 pub fields-walked : (s : List ℕ) → fields s ≡ textsFrom (code ";") (code ",") false s
 unfolding fields

@@ -1,6 +1,7 @@
 -- The laws of a property's values, whatever their sort: values that were read are taken by jCal's tests, are written, and are read again; those of a
 -- clean line are neat, and are written clean. The same by the property's name and the type's code.
 use Prim.Native.Nat.{ℕ}
+use Prim.Native.Char.{code}
 use mathlib.Core.Path.{_≡_, refl}
 use mathlib.Core.Bool.{Bool, true, false}
 use mathlib.Core.List.{List, [], _∷_}
@@ -17,33 +18,34 @@ use Rattle.calendar.specs.Durations.{durationOf}
 use Rattle.types.specs.Codes as typed
 use Rattle.json.specs.Tree.{Json, str, string?, number?, octetsOf}
 use Rattle.values.specs.Sorts.{Sort, plain, binary, boolean, date, dateTime, duration, float, geo, integer, period, recur, text, status, time, utcOffset, sortOf, isText, sortSplits}
+use Rattle.values.specs.Texts.{bareSplit}
 use Rattle.values.specs.Simple.{booleanOf, floatOf, integerOf}
 use Rattle.values.specs.Recur.{recurOf}
-use Rattle.values.specs.Read.{readPlain, readBinary, asString, asNumber, readPeriod, readGeo, readStatus, readOne, valuesIn, readValues, valuesOf}
+use Rattle.values.specs.Read.{readPlain, readBinary, asString, asNumber, readPeriod, readGeo, readStatus, readText, readOne, valuesIn, readValues, valuesOf}
 use Rattle.values.specs.Write.{valueText, valuesAre, valuesText}
-use Rattle.values.proofs.Lifting.{Held, alone-held, listed-held}
+use Rattle.values.proofs.ListLaws.{Held, alone-held, listed-held, split-held}
 use Rattle.values.proofs.FixedLaws.{plain-law, binary-law, date-law, time-law, date-time-law, offset-law, duration-law, boolean-law, period-law}
 use Rattle.values.proofs.NumberLaws.{float-law, integer-law, geo-law}
-use Rattle.values.proofs.TextLaws.{text-held, status-law}
+use Rattle.values.proofs.TextLaws.{at-bare-commas, text-law, text-escaped, status-law}
 use Rattle.values.proofs.RecurLaws.{recur-law}
 
 pub values-held : (sort : Sort) (raw : List ℕ) (vs : List Json) → readValues sort raw ≡ some vs → Held sort raw vs
 unfolding readValues valuesIn readOne isText sortSplits typed.typeSplits between
 values-held plain = alone-held plain readPlain plain-law (λ s. refl)
 values-held binary = alone-held binary readBinary binary-law (λ s. refl)
-values-held boolean = listed-held boolean (λ v. booleanOf (upper v)) boolean-law (λ s. refl) refl
-values-held date = listed-held date (asString dateOf) date-law (λ s. refl) refl
-values-held dateTime = listed-held dateTime (asString dateTimeOf) date-time-law (λ s. refl) refl
-values-held duration = listed-held duration (asString durationOf) duration-law (λ s. refl) refl
-values-held float = listed-held float (asNumber floatOf) float-law (λ s. refl) refl
+values-held boolean = split-held boolean (λ v. booleanOf (upper v)) boolean-law (λ s. refl) refl
+values-held date = split-held date (asString dateOf) date-law (λ s. refl) refl
+values-held dateTime = split-held dateTime (asString dateTimeOf) date-time-law (λ s. refl) refl
+values-held duration = split-held duration (asString durationOf) duration-law (λ s. refl) refl
+values-held float = split-held float (asNumber floatOf) float-law (λ s. refl) refl
 values-held geo = alone-held geo readGeo geo-law (λ s. refl)
-values-held integer = listed-held integer (asNumber integerOf) integer-law (λ s. refl) refl
-values-held period = listed-held period readPeriod period-law (λ s. refl) refl
+values-held integer = split-held integer (asNumber integerOf) integer-law (λ s. refl) refl
+values-held period = split-held period readPeriod period-law (λ s. refl) refl
 values-held recur = alone-held recur (λ s. recurOf (upper s)) recur-law (λ s. refl)
-values-held text = text-held
+values-held text = listed-held text readText (bareSplit (code ",")) at-bare-commas text-law text-escaped (λ s. refl) refl
 values-held status = alone-held status readStatus status-law (λ s. refl)
-values-held time = listed-held time (asString timeOf) time-law (λ s. refl) refl
-values-held utcOffset = listed-held utcOffset (asString offsetOf) offset-law (λ s. refl) refl
+values-held time = split-held time (asString timeOf) time-law (λ s. refl) refl
+values-held utcOffset = split-held utcOffset (asString offsetOf) offset-law (λ s. refl) refl
 
 -- jCal's tests, for a name that may have many values, or one that has one
 pub values-are : (sort : Sort) (raw : List ℕ) (vs : List Json) → Held sort raw vs → (many : Bool) → (many or single vs) ≡ true → valuesAre many sort vs ≡ true

@@ -12,7 +12,7 @@ use Rattle.octets.specs.Classes.{isControl, plainOctet}
 use Rattle.octets.specs.Utf8.{clean}
 use Rattle.octets.proofs.Cases.{and-true, never, all-All, All-all}
 use Rattle.octets.proofs.Optional.{each-none, each-is}
-use Rattle.octets.proofs.Pieces.{Free, split-last, split-free, split-filled, joined-split, list-again}
+use Rattle.octets.proofs.Pieces.{Free, split-joined, split-free, split-filled, joined-split}
 use Rattle.octets.proofs.Utf8.{ascii}
 use Rattle.json.specs.Tree.{Json}
 use Rattle.content.proofs.WrittenClean.{clean-joined}
@@ -49,11 +49,6 @@ pub record Held (sort : Sort) (raw : List ℕ) (vs : List Json) : Type 0 where
   pub only : sortSplits sort ≡ false → single vs ≡ true
   pub line : clean raw ≡ true → clean (valuesText sort vs) ≡ true
   pub neat : clean raw ≡ true → All (Neat 2) vs
-
--- clean pieces
-module _ (sep : ℕ) (low : ascii sep ≡ true) (plain : plainOctet sep ≡ true) where
-  pub clean-split : (s : List ℕ) → all clean (split sep s) ≡ clean s
-  clean-split s = sym (clean-joined sep low plain (split sep s)) ∙ ap clean (joined-split sep s)
 
 -- the separators of values
 pub comma-low : ascii (code ",") ≡ true
@@ -103,55 +98,69 @@ module _ (sort : Sort) (R : List ℕ → Option Json) (law : ItemLaw sort R) (re
   pub alone-held : (raw : List ℕ) (vs : List Json) → readValues sort raw ≡ some vs → Held sort raw vs
   alone-held raw vs e = each-is R raw [] vs (sym (reads raw) ∙ e) (λ j ws q u w. rw (← w, each-none R ws u) (single-held raw j (law raw j q)))
 
+-- a way to cut values at commas: what is cut is `From`, and pieces that are `To`, with commas between them, are cut into the same
+pub record Cuts (cuts : List ℕ → List (List ℕ)) (From To : List ℕ → Type 0) : Type 0 where
+  pub pieces : (s : List ℕ) → All From (cuts s)
+  pub filled : (s : List ℕ) → cuts s ≡ [] → ⊥
+  pub again : (l : List ℕ) (ls : List (List ℕ)) → All To (l ∷ ls) → cuts (joined (code ",") (l ∷ ls)) ≡ l ∷ ls
+  pub whole : (s : List ℕ) → joined (code ",") (cuts s) ≡ s
+
+pub at-commas : Cuts (split (code ",")) (Free (code ",")) (Free (code ","))
+at-commas = record { pieces = split-free (code ","); filled = split-filled (code ","); again = split-joined (code ","); whole = joined-split (code ",") }
+
 -- values between commas
-module _ (sort : Sort) (R : List ℕ → Option Json) (law : ListLaw sort R) (reads : (s : List ℕ) → readValues sort s ≡ each R (split (code ",") s))
-    (many : sortSplits sort ≡ true) where
-  one-piece : (j : Json) → R (valueText sort j) ≡ some j → Free (code ",") (valueText sort j) → readValues sort (valueText sort j) ≡ some (j ∷ [])
-  unfolding each both?
-  one-piece j e f = reads (valueText sort j) ∙ rw (split-last (code ",") (valueText sort j) f, e)
+pub each-written : {A : Type 0} (R : List ℕ → Option A) (W : A → List ℕ) (vs : List A) → All (λ v. R (W v) ≡ some v) vs → each R (map W vs) ≡ some vs
+unfolding each both?
+each-written R W [] h = refl
+each-written R W (v ∷ vs) h = rw (h .0, each-written R W vs (h .1))
 
-  module _ (raw : List ℕ) (vs : List Json) (e : each R (split (code ",") raw) ≡ some vs) where
-    list-is : All (λ j. valueIs sort j ≡ true) vs
-    list-is = each-All R (λ s. Unit {0}) (λ j. valueIs sort j ≡ true) (λ s j u q. law .0 s j q .is) (split (code ",") raw) vs (all-units (split (code ",") raw)) e
-      where
-        all-units : (ls : List (List ℕ)) → All (λ s. Unit {0}) ls
-        all-units [] = tt
-        all-units (l ∷ ls) = (tt, all-units ls)
+module _ (sort : Sort) (R : List ℕ → Option Json) (cuts : List ℕ → List (List ℕ)) {From To : List ℕ → Type 0} (way : Cuts cuts From To) (law : ItemLaw sort R)
+    (comma : (s : List ℕ) (j : Json) → From s → R s ≡ some j → To (valueText sort j)) (reads : (s : List ℕ) → readValues sort s ≡ each R (cuts s)) (many : sortSplits sort ≡ true) where
+  one-piece : (j : Json) → R (valueText sort j) ≡ some j → To (valueText sort j) → readValues sort (valueText sort j) ≡ some (j ∷ [])
+  unfolding each both? joined
+  one-piece j e f = reads (valueText sort j) ∙ rw (way .again (valueText sort j) [] (f, tt), e)
 
-    pieces : clean raw ≡ true → All (λ s. clean s ≡ true) (split (code ",") raw)
-    pieces c = all-All clean (split (code ",") raw) (clean-split (code ",") comma-low comma-plain raw ∙ c)
+  module _ (raw : List ℕ) (vs : List Json) (e : each R (cuts raw) ≡ some vs) where
+    -- what each value tells
+    told : (P : List ℕ → Type 0) (Q : Json → Type 0) → ((s : List ℕ) (j : Json) → P s → R s ≡ some j → Q j) → All P (cuts raw) → All Q vs
+    told P Q f h = each-All R P Q f (cuts raw) vs h e
+
+    from : (Q : Json → Type 0) → ((s : List ℕ) (j : Json) → From s → R s ≡ some j → Q j) → All Q vs
+    from Q f = told From Q f (way .pieces raw)
+
+    clean-pieces : clean raw ≡ true → All (λ s. clean s ≡ true) (cuts raw)
+    clean-pieces c = all-All clean (cuts raw) (sym (clean-joined (code ",") comma-low comma-plain (cuts raw)) ∙ ap clean (way .whole raw) ∙ c)
 
     list-line : clean raw ≡ true → clean (valuesText sort vs) ≡ true
     unfolding valuesText
     list-line c =
         clean-joined (code ",") comma-low comma-plain (map (valueText sort) vs)
         ∙ All-all clean (map (valueText sort) vs) (All-map (λ s. clean s ≡ true) (valueText sort) vs
-        (each-All R (λ s. clean s ≡ true) (λ j. clean (valueText sort j) ≡ true) (λ s j d q. law .0 s j q .line d) (split (code ",") raw) vs (pieces c) e))
+        (told (λ s. clean s ≡ true) (λ j. clean (valueText sort j) ≡ true) (λ s j d q. law s j q .line d) (clean-pieces c)))
 
-    list-neat : clean raw ≡ true → All (Neat 2) vs
-    list-neat c = each-All R (λ s. clean s ≡ true) (Neat 2) (λ s j d q. law .0 s j q .neat d) (split (code ",") raw) vs (pieces c) e
-
-    list-pieces : All (λ j. readValues sort (valueText sort j) ≡ some (j ∷ [])) vs
-    list-pieces =
-        each-All R (Free (code ",")) (λ j. readValues sort (valueText sort j) ≡ some (j ∷ [])) (λ s j f q. one-piece j (law .0 s j q .again) (law .1 s j f q))
-        (split (code ",") raw) vs (split-free (code ",") raw) e
-
-    list-again-held : each R (split (code ",") (joined (code ",") (map (valueText sort) vs))) ≡ some vs
-    list-again-held = list-again (code ",") R (valueText sort) (λ s j f q. (law .0 s j q .again, law .1 s j f q)) raw vs e
-
-  pieces-again : (vs : List Json) → each R (split (code ",") (joined (code ",") (map (valueText sort) vs))) ≡ some vs → readValues sort (valuesText sort vs) ≡ some vs
-  unfolding valuesText
-  pieces-again vs e = reads (valuesText sort vs) ∙ e
+    again : readValues sort (valuesText sort vs) ≡ some vs
+    unfolding valuesText
+    again = reads (joined (code ",") (map (valueText sort) vs)) ∙ cut-again vs (each-filled R (cuts raw) vs (way .filled raw) e) (from (λ j. To (valueText sort j)) comma)
+        ∙ each-written R (valueText sort) vs (from (λ j. R (valueText sort j) ≡ some j) (λ s j f q. law s j q .again))
+      where
+        cut-again : (vs : List Json) → filled vs ≡ true → All (λ j. To (valueText sort j)) vs → each R (cuts (joined (code ",") (map (valueText sort) vs))) ≡ each R (map (valueText sort) vs)
+        cut-again [] h f = never h (unfold filled in refl)
+        cut-again (v ∷ vs) h f = rw (way .again (valueText sort v) (map (valueText sort) vs) (f .0, All-map To (valueText sort) vs (f .1)))
 
   pub listed-held : (raw : List ℕ) (vs : List Json) → readValues sort raw ≡ some vs → Held sort raw vs
   listed-held raw vs e =
       let f = sym (reads raw) ∙ e in
       record {
-        again = pieces-again vs (list-again-held raw vs f);
-        pieces = list-pieces raw vs f;
-        are = All-all (valueIs sort) vs (list-is raw vs f);
-        one-or-more = each-filled R (split (code ",") raw) vs (split-filled (code ",") raw) f;
+        again = again raw vs f;
+        pieces = from raw vs f (λ j. readValues sort (valueText sort j) ≡ some (j ∷ [])) (λ s j h q. one-piece j (law s j q .again) (comma s j h q));
+        are = All-all (valueIs sort) vs (from raw vs f (λ j. valueIs sort j ≡ true) (λ s j h q. law s j q .is));
+        one-or-more = each-filled R (cuts raw) vs (way .filled raw) f;
         only = λ n. never many n;
-        line = λ c. list-line raw vs f c;
-        neat = λ c. list-neat raw vs f c;
+        line = list-line raw vs f;
+        neat = λ c. told raw vs f (λ s. clean s ≡ true) (Neat 2) (λ s j d q. law s j q .neat d) (clean-pieces raw vs f c);
       }
+
+-- values between any commas
+pub split-held : (sort : Sort) (R : List ℕ → Option Json) → ListLaw sort R → ((s : List ℕ) → readValues sort s ≡ each R (split (code ",") s)) → sortSplits sort ≡ true
+    → (raw : List ℕ) (vs : List Json) → readValues sort raw ≡ some vs → Held sort raw vs
+split-held sort R law = listed-held sort R (split (code ",")) at-commas (law .0) (law .1)
