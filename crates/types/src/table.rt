@@ -161,7 +161,7 @@ pub(crate) fn or_named(found: Found, name: &[u8], row: &[u8], code: u8, many: bo
 }
 
 // What these rows say of a name.
-pub fn find_in(rows: &[u8], name: &[u8]) -> Found
+fn find_in(rows: &[u8], name: &[u8]) -> Found
     ensures { λ r. ⌜ rowFound r ≡ find (rowsIn (now (rows .entry))) (now (name .entry)) ⌝ }
 {
     let mut at = 0;
