@@ -11,12 +11,12 @@ use Rattle.conversion_theory.specs.Tree.{Component}
 use Rattle.conversion_theory.specs.Jcal.{jcalOf}
 use Rattle.conversion_theory.specs.ToIcal as Ical
 use Rattle.conversion_theory.specs.Claim.{Side, older, newer, side, Demand3}
-use Rattle.conversion_theory.proofs.Carried.{Carried}
-use Rattle.conversion_theory.proofs.Carrying.{line-law, carried}
+use Rattle.conversion_theory.proofs.PropertyLaws.{Carried}
+use Rattle.conversion_theory.proofs.PropertyCarried.{line-law, carried}
 use Rattle.conversion_theory.proofs.Readings.{Short, reading-is, is-reading}
-use Rattle.conversion_theory.proofs.Held.{Held, lines-held}
+use Rattle.conversion_theory.proofs.OlderLines.{Held, lines-held}
 use Rattle.conversion_theory.proofs.Collected.{alike-list}
-use Rattle.conversion_theory.proofs.Alongside.{excepted-line, alongside}
+use Rattle.conversion_theory.proofs.JcalBeside.{excepted-line, alongside}
 use Rattle.conversion_theory.proofs.Routes.{forth, return, kept}
 
 pub tables-agree : Demand3

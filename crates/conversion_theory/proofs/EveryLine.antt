@@ -20,7 +20,7 @@ use Rattle.json.specs.Reads.{Out, ok, deep, bad}
 use Rattle.json.specs.Reader.{parseText}
 use Rattle.json.proofs.Decoding.{Decoded, parse-decoded}
 use Rattle.content.specs.Line.{Param}
-use Rattle.content.specs.Lines.{linesOf as unfolded}
+use Rattle.content.specs.Lines.{linesOf}
 use Rattle.content.specs.Parameters.{called, isEncoded, mayReturn}
 use Rattle.content.specs.Fold.{textOf}
 use Rattle.content.specs.Physical.{Physical}
@@ -39,7 +39,7 @@ use Rattle.conversion_theory.specs.Written.{LinesFit, Apart, LinesApart}
 use Rattle.conversion_theory.proofs.Shapes.{Made, made, MadeIn, nothing-more, made-more}
 use Rattle.conversion_theory.proofs.WrittenLines.{begin-tells, end-tells}
 use Rattle.conversion_theory.proofs.Routes.{Passes}
-use Rattle.conversion_theory.proofs.Stating.{shown-stated, with-writable, with-texts}
+use Rattle.conversion_theory.proofs.ValueParameter.{shown-stated, with-writable, with-texts}
 use Rattle.conversion_theory.proofs.FromJcal.{PropertyFine, calendar-fine}
 
 -- a clean line that does not begin with a space or tab
@@ -111,7 +111,7 @@ module _ (t : Table) where
 whole-clean : (ls : List (List ℕ)) → All Whole ls → All (λ l. clean l ≡ true) ls
 whole-clean ls h = All-weaker (λ l (k : Whole l). k .is-clean) ls h
 
-whole-back : (ls : List (List ℕ)) → All Whole ls → unfolded (textOf ls) ≡ ls
+whole-back : (ls : List (List ℕ)) → All Whole ls → linesOf (textOf ls) ≡ ls
 whole-back ls h = clean-lines-back ls (whole-clean ls h) (All-weaker (λ l (k : Whole l). k .upright) ls h)
 
 -- what is parsed of UTF-8
@@ -141,7 +141,7 @@ lined rows text out e =
     let q = accepted-same x in
     let h = lines-whole t (calendar-fine j c (json-decoded text (b .0) (parseText text) refl j ej) ec) (all-passed t (propertiesOf c) u eu) in
     record {
-      apart = record { table = t; tabled = et; json = j; parsed = ej; from = c; held = ec; folded = q; lines = ap unfolded (sym q) ∙ whole-back (componentLines t c) h };
+      apart = record { table = t; tabled = et; json = j; parsed = ej; from = c; held = ec; folded = q; lines = ap linesOf (sym q) ∙ whole-back (componentLines t c) h };
       whole = h;
     }))))
 

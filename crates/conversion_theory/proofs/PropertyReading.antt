@@ -1,6 +1,6 @@
 -- What an accepted property says of its line and of its name's row, and what makes one.
 use Prim.Native.Nat.{ℕ}
-use mathlib.Core.Path.{_≡_, refl, ap}
+use mathlib.Core.Path.{_≡_, refl}
 use mathlib.Core.Bool.{true, not}
 use mathlib.Core.List.{List}
 use mathlib.Core.Option.{Option, none, some}
@@ -49,12 +49,11 @@ read-alike row v w t name params raw = rw t
 -- a type that VALUE states does not hang on the row
 pub stated-type : (row : Option Row) (t : List ℕ) → typeOf row (some t) ≡ t
 unfolding typeOf
-stated-type none t = refl
-stated-type (some r) t = refl
+stated-type row t = refl
 
 pub stated-code : (row : Option Row) (t : List ℕ) → codeOf row (some t) ≡ codeNamed t
-unfolding codeOf
-stated-code row t = ap codeNamed (stated-type row t)
+unfolding codeOf typeOf
+stated-code row t = refl
 
 -- without a row and without VALUE the value is unprocessed
 pub unprocessed-code : codeOf none none ≡ unprocessed

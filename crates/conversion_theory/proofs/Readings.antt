@@ -23,7 +23,7 @@ use Rattle.conversion_theory.specs.Tree.{Property, Component}
 use Rattle.conversion_theory.specs.Structure.{Event, bounds, eventOf, fresh, closed, nestAfter, structured}
 use Rattle.conversion_theory.specs.Growth.{eachProperty, treeOf}
 use Rattle.conversion_theory.specs.ToJcal.{readLinesBy, readLines, reading}
-use Rattle.conversion_theory.proofs.Carried.{LineFine, LineLaw}
+use Rattle.conversion_theory.proofs.PropertyLaws.{LineFine, LineLaw}
 use Rattle.conversion_theory.proofs.Nesting.{structured-is, is-structured, Known}
 
 abbrev pub eventsAt : List (List ℕ) → List (Event Line)

@@ -13,20 +13,20 @@ use Rattle.types.specs.Table.{Table, find}
 use Rattle.types.specs.Rows.{tableOf}
 use Rattle.json.specs.Print.{print}
 use Rattle.content.specs.Fold.{textOf}
-use Rattle.content.specs.Lines.{linesOf as unfolded}
+use Rattle.content.specs.Lines.{linesOf}
 use Rattle.conversion_theory.specs.Tree.{Property, Component, Forest, propertiesOf, propertiesIn}
 use Rattle.conversion_theory.specs.Jcal.{jcalOf}
 use Rattle.conversion_theory.specs.Return.{checked}
 use Rattle.conversion_theory.specs.ToJcal.{readLines, reading, toJcal}
 use Rattle.conversion_theory.specs.ToIcal.{jsonOf, checkedAll, componentLines, written, toIcal}
 use Rattle.conversion_theory.specs.Claim.{Writes}
-use Rattle.conversion_theory.proofs.Carried.{Told, Returned, Carried}
+use Rattle.conversion_theory.proofs.PropertyLaws.{Told, Returned, Carried}
 use Rattle.conversion_theory.proofs.Shapes.{Alike, Made, made, MadeIn, nothing-more, made-more, alike-made, alike-weaker}
 use Rattle.conversion_theory.proofs.Skeletons.{jcal-utf8, jcal-parsed, jcal-back}
 use Rattle.conversion_theory.proofs.Nesting.{Top}
 use Rattle.conversion_theory.proofs.Readings.{is-reading}
 use Rattle.conversion_theory.proofs.WrittenLines.{lines-unfold, lines-read}
-use Rattle.conversion_theory.proofs.Held.{Held}
+use Rattle.conversion_theory.proofs.OlderLines.{Held}
 
 -- an accepted text in a buffer with room
 pub accepted-writes : (a : Answer (List ℕ)) (t : List ℕ) → a ≡ accepted t → Writes a t
@@ -80,7 +80,7 @@ unfolding toJcal then
 goes-forth rows s c e = rw e
 
 -- THE LAWS
-pub forth : (there s : List ℕ) (a new : Table) (c : Component) → tableOf there ≡ accepted a → length s ≤ mostText → (h : Held a new (unfolded s) c) → Writes (toJcal there s) (print (jcalOf (h .held)))
+pub forth : (there s : List ℕ) (a new : Table) (c : Component) → tableOf there ≡ accepted a → length s ≤ mostText → (h : Held a new (linesOf s) c) → Writes (toJcal there s) (print (jcalOf (h .held)))
 forth there s a new c ta l h = accepted-writes _ _ (goes-forth there s (h .held) (is-reading there s a (h .held) ta (record { short = l; lines = h .read })))
 
 module _ (a b new : Table) (laws : Carried a b new) (ls : List (List ℕ)) (c : Component) (h : Held a new ls c) where

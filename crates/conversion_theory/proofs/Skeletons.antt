@@ -25,8 +25,8 @@ use Rattle.values.proofs.TextLaws.{list-items}
 use Rattle.conversion_theory.specs.Tree.{Property, Component, component, Forest, forestOf, levels, levelsIn}
 use Rattle.conversion_theory.specs.Jcal.{propertyJson, jcalOf, jcalsOf}
 use Rattle.conversion_theory.specs.Skeleton.{isListOf, isProperty, isComponent, isCalendar, propertyFrom, componentFrom, calendarOf}
-use Rattle.conversion_theory.proofs.Carried.{Told}
-use Rattle.conversion_theory.proofs.Stating.{name-textual}
+use Rattle.conversion_theory.proofs.PropertyLaws.{Told}
+use Rattle.conversion_theory.proofs.ValueParameter.{name-textual}
 use Rattle.conversion_theory.proofs.Shapes.{Made, made, MadeIn, nothing-more, made-more}
 use Rattle.conversion_theory.proofs.Events.{IsTop}
 

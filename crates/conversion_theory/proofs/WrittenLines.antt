@@ -11,7 +11,7 @@ use Rattle.octets.proofs.Cases.{All-all}
 use Rattle.types.specs.Table.{Table}
 use Rattle.content.specs.Line.{lineOf}
 use Rattle.content.specs.Form.{formed}
-use Rattle.content.specs.Lines.{linesOf as unfolded}
+use Rattle.content.specs.Lines.{linesOf}
 use Rattle.content.specs.Fold.{textOf}
 use Rattle.content.specs.Write.{paramsText, lineText}
 use Rattle.octets.proofs.Classes.{lower-name, name-upper}
@@ -25,7 +25,7 @@ use Rattle.conversion_theory.specs.Structure.{Event, begins, ends, carri
 use Rattle.conversion_theory.specs.Property.{readProperty}
 use Rattle.conversion_theory.specs.ToIcal.{beginLine, endLine, propertyLine, componentLines, forestLines}
 use Rattle.conversion_theory.specs.ToJcal.{readLines}
-use Rattle.conversion_theory.proofs.Carried.{Returned}
+use Rattle.conversion_theory.proofs.PropertyLaws.{Returned}
 use Rattle.conversion_theory.proofs.Shapes.{Pairwise, no-pair, pair, pairs-append, pairs-all, Step, both-begin, both-end, both-hold, Steps, steps-nest, steps-read, Alike, alike, Alikes, no-more, one-more}
 use Rattle.conversion_theory.proofs.Events.{eventsOf, eventsIn, events-pair, events-grow}
 use Rattle.conversion_theory.proofs.Nesting.{Top}
@@ -105,7 +105,7 @@ told-steps (pair h r) = pair (h .event) (told-steps r)
 
 -- THE LAWS of the lines of a component h that goes back as c
 module _ {b new : Table} {h c : Component} (a : Alike (Returned b new) h c) where
-  pub lines-unfold : unfolded (textOf (componentLines b h)) ≡ componentLines b h
+  pub lines-unfold : linesOf (textOf (componentLines b h)) ≡ componentLines b h
   lines-unfold = clean-lines-back (componentLines b h) (pairs-all (λ l e t. t .is-clean) (lines-tell b new a)) (pairs-all (λ l e t. t .upright) (lines-tell b new a))
 
   pub lines-read : Top c → readLines new (componentLines b h) ≡ accepted c

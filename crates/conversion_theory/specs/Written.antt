@@ -7,7 +7,7 @@ use Rattle.types.specs.Table.{Table}
 use Rattle.types.specs.Rows.{tableOf}
 use Rattle.json.specs.Tree.{Json}
 use Rattle.json.specs.Reader.{parseText}
-use Rattle.content.specs.Lines.{linesOf as unfolded}
+use Rattle.content.specs.Lines.{linesOf}
 use Rattle.content.specs.Fold.{textOf}
 use Rattle.content.specs.Physical.{Physical}
 use Rattle.conversion_theory.specs.Tree.{Component}
@@ -27,7 +27,7 @@ pub record Apart (rows text out : List ℕ) : Type 0 where
   pub from : Component
   pub held : calendarOf json ≡ accepted from
   pub folded : textOf (componentLines table from) ≡ out
-  pub lines : unfolded out ≡ componentLines table from
+  pub lines : linesOf out ≡ componentLines table from
 
 -- nothing from a JSON string begins a line of its own
 abbrev pub LinesApart : Type 0

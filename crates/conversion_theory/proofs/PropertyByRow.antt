@@ -31,8 +31,8 @@ use Rattle.conversion_theory.specs.Tree.{Property, property}
 use Rattle.conversion_theory.specs.Property.{typeOf, codeOf, manyOf, encodingFits, readAs}
 use Rattle.conversion_theory.specs.Return.{isUnknown, statedType, writtenSort, firstOctets, takenBy, checked, isDefault, shown}
 use Rattle.conversion_theory.proofs.PropertyReading.{read-as, as-read, read-alike, stated-code, stated-type, unprocessed-code}
-use Rattle.conversion_theory.proofs.Older.{stated-older, unprocessed-older}
-use Rattle.conversion_theory.proofs.Stating.{Stated, StatedIf, shown-stated}
+use Rattle.conversion_theory.proofs.OlderProperty.{stated-older, unprocessed-older}
+use Rattle.conversion_theory.proofs.ValueParameter.{Stated, StatedIf, shown-stated}
 
 -- the newer's row, or none
 abbrev pub Below : Option Row → Option Row → Type 0

@@ -25,8 +25,8 @@ use Rattle.values.proofs.Naming.{same-case}
 use Rattle.conversion_theory.specs.Tree.{Property}
 use Rattle.conversion_theory.specs.Jcal.{propertyJson}
 use Rattle.conversion_theory.specs.Skeleton.{isJsonString, isListOf, isParameter, areParameters, isPropertyName, isProperty, valuesFrom, paramsFrom, propertyFrom}
-use Rattle.conversion_theory.proofs.Carried.{Told}
-use Rattle.conversion_theory.proofs.Stating.{name-textual}
+use Rattle.conversion_theory.proofs.PropertyLaws.{Told}
+use Rattle.conversion_theory.proofs.ValueParameter.{name-textual}
 
 -- a name that is neither BEGIN nor END
 pub property-name : (n : List ℕ) → isName n ≡ true → sameName n (octets "BEGIN") ≡ false → sameName n (octets "END") ≡ false → isPropertyName (lower n) ≡ true

@@ -30,11 +30,11 @@ use Rattle.conversion_theory.specs.Structure.{Event, begins, ends, carri
 use Rattle.conversion_theory.specs.Property.{readAs, readProperty}
 use Rattle.conversion_theory.specs.Return.{writtenSort, shown, withValue, writtenLine}
 use Rattle.conversion_theory.specs.ToIcal.{propertyLine}
-use Rattle.conversion_theory.proofs.Carried.{LineLaw, Twice, Told, Returned, Carried}
+use Rattle.conversion_theory.proofs.PropertyLaws.{LineLaw, Twice, Told, Returned, Carried}
 use Rattle.conversion_theory.proofs.PropertyReading.{read-line, line-read}
-use Rattle.conversion_theory.proofs.Stating.{value-states, Silent, without-silent, without-All, without-once, StatedIf, with-type, with-without, with-once, with-writable, with-texts, params-return}
-use Rattle.conversion_theory.proofs.ByRow.{Below, Typed, way, Passage, passage}
-use Rattle.conversion_theory.proofs.PropertyTold.{property-name, property-told}
+use Rattle.conversion_theory.proofs.ValueParameter.{value-states, Silent, without-silent, without-All, without-once, StatedIf, with-type, with-without, with-once, with-writable, with-texts, params-return}
+use Rattle.conversion_theory.proofs.PropertyByRow.{Below, Typed, way, Passage, passage}
+use Rattle.conversion_theory.proofs.PropertyJson.{property-name, property-told}
 
 -- a line that is neither BEGIN nor END
 module _ (l : Line) where

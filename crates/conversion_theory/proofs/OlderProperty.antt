@@ -23,8 +23,8 @@ use Rattle.values.proofs.ValueLaws.{unprocessed-read}
 use Rattle.conversion_theory.specs.Tree.{Property, property}
 use Rattle.conversion_theory.specs.Property.{typeOf, codeOf, manyOf, encodingFits, readAs, readProperty}
 use Rattle.conversion_theory.specs.Claim.{excepted, asUnknown, readAsOlder}
-use Rattle.conversion_theory.proofs.Carried.{LineFine}
-use Rattle.conversion_theory.proofs.Stating.{none-stated, some-stated}
+use Rattle.conversion_theory.proofs.PropertyLaws.{LineFine}
+use Rattle.conversion_theory.proofs.ValueParameter.{none-stated, some-stated}
 use Rattle.conversion_theory.proofs.PropertyReading.{read-as, as-read, stated-code, stated-type, unprocessed-code, read-line, line-read}
 
 -- where a name may have many, it may have what it had

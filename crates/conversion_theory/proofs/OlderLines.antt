@@ -14,14 +14,14 @@ use Rattle.conversion_theory.specs.Growth.{treeOf}
 use Rattle.conversion_theory.specs.Property.{readProperty}
 use Rattle.conversion_theory.specs.ToJcal.{readLinesBy, readLines}
 use Rattle.conversion_theory.specs.Claim.{excepted, readAsOlder, those, Rearranged}
-use Rattle.conversion_theory.proofs.Carried.{LineFine, LineLaw, Twice}
+use Rattle.conversion_theory.proofs.PropertyLaws.{LineFine, LineLaw, Twice}
 use Rattle.conversion_theory.proofs.Shapes.{no-pair, pair, both-begin, both-end, both-hold, Steps, steps-nest, steps-read, Alike}
 use Rattle.conversion_theory.proofs.Nesting.{Top, top-of, Reads, read-steps}
 use Rattle.conversion_theory.proofs.Readings.{eventsAt, lines-taken, taken-lines, lines-known}
-use Rattle.conversion_theory.proofs.Older.{older-reads}
+use Rattle.conversion_theory.proofs.OlderProperty.{older-reads}
 use Rattle.conversion_theory.proofs.Collected.{alike-list, steps-list, Collected, events-collected}
 use Rattle.conversion_theory.proofs.Exceptions.{exceptedIn, excepted-lines}
-use Rattle.conversion_theory.proofs.Alongside.{excepted-line}
+use Rattle.conversion_theory.proofs.JcalBeside.{excepted-line}
 
 -- the component that the table makes of the lines, beside the newer's
 pub record Held (a new : Table) (ls : List (List ℕ)) (c : Component) : Type 0 where

@@ -17,7 +17,7 @@ use Rattle.conversion_theory.specs.Tree.{Property, property, Component, 
 use Rattle.conversion_theory.specs.Property.{readProperty}
 use Rattle.conversion_theory.specs.Jcal.{propertyJson, jcalOf, jcalsOf}
 use Rattle.conversion_theory.specs.Claim.{excepted, asUnknown, propertyText, Beside, ended, shared, differs}
-use Rattle.conversion_theory.proofs.Carried.{Twice}
+use Rattle.conversion_theory.proofs.PropertyLaws.{Twice}
 use Rattle.conversion_theory.proofs.PropertyReading.{read-line, read-as}
 use Rattle.conversion_theory.proofs.Shapes.{Pairwise, no-pair, pair, Alike, alike, Alikes, no-more, one-more}
 use Rattle.conversion_theory.proofs.Collected.{pairs-list, alike-list, alikes-list}
