@@ -7,12 +7,12 @@ use mathlib.Core.List.{List}
 use borrow.Author.Tests.{eq-eqb}
 use Rattle.octets.specs.Basics.{all}
 use Rattle.octets.proofs.Cases.{same?, never, both}
-use Rattle.json.specs.Tree.{Json}
+use Rattle.json.specs.Tree.{Json, elements}
 use Rattle.json.specs.Tape.{tagArray, tagEnd}
 use Rattle.tape.specs.Decode.{tagAt, valueAt, listAt}
 use Rattle.tape.specs.Promise.{After, Next}
 use Rattle.tape.proofs.Values.{list-first, list-next}
-use Rattle.tape.proofs.Walks.{Along, along-start, along-next, along-end, next-inside}
+use Rattle.tape.proofs.Walks.{Along, along-start, along-next, along-end, next-inside, elements-inside}
 use Rattle.conversion_theory.specs.Skeleton.{isListOf, isProperty, isComponent}
 use Rattle.ical_skeleton.proofs.Lists.{list-of, list-not}
 use Rattle.ical_skeleton.proofs.Parts.{property-not, component-not}
@@ -30,6 +30,11 @@ module _ (t : List ℕ) (i : ℕ) where
 
   pub component-array : (d : ℕ) → isComponent d (valueAt t i) ≡ true → tagAt t i ≡ tagArray
   component-array d h = array-tag (isComponent d (valueAt t i)) h (λ n. component-not t i n d)
+
+-- its elements stand from a on
+pub elements-there : {A : Type 0} (f : List Json → A) (p : Json → Bool) (t : List ℕ) (i : ℕ) {a : ℕ} → isListOf p (valueAt t i) ≡ true → After t i a
+    → f (elements (valueAt t i)) ≡ f (listAt t a)
+elements-there f p t i h x = ap f (elements-inside x (list-array t i p h))
 
 -- i stands in the group that begins at a, and the elements from i on pass
 pub record Walking (p : Json → Bool) (t : List ℕ) (a i : ℕ) : Type 0 where

@@ -11,7 +11,7 @@ use Rattle.json.specs.Tree.{Json, array?, listOfItems, elements, element}
 use Rattle.values.proofs.CleanValues.{holds-is}
 use Rattle.conversion_theory.specs.Tree.{levels, levelsIn, forestOf}
 use Rattle.conversion_theory.specs.Skeleton.{isListOf, isComponent, componentFrom}
-use Rattle.ical.proofs.Composed.{composed}
+use Rattle.ical.proofs.ComponentParts.{composed}
 
 -- where an array stands, a test of it goes by its elements
 list-of : (p q : Json → Bool) (j : Json) → isListOf p j ≡ true → isListOf q j ≡ all q (elements j)

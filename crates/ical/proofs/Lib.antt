@@ -1,7 +1,7 @@
 pub mod Arrays
-pub mod Judging
-pub mod Composed
+pub mod PropertyTests
+pub mod ComponentParts
 pub mod Levels
-pub mod Lined
-pub mod Told
-pub mod OnTape
+pub mod LineTexts
+pub mod ParseAnswers
+pub mod Stages

@@ -18,7 +18,7 @@ ghost use Rattle.conversion_theory.specs.Skeleton.{isComponent, componentFrom};
 ghost use Rattle.conversion_theory.specs.ToIcal.{checkedAll, componentLines};
 ghost use Rattle.ical.specs.Converts.{Converts};
 
-// Writes the component at `at`, which has at most `left` levels, up to the first property in fault.
+// Writes the component at `at`, which has at most `left` levels, up to the first property in fault. Recurrence rules are laid into `rule`.
 pub(crate) fn convert_component(
     t: &[u8],
     at: usize,
@@ -26,17 +26,16 @@ pub(crate) fn convert_component(
     rows: &[u8],
     out: &mut [u8],
     to: usize,
-    text: &mut [u8],
     rule: &mut [u8],
 ) -> Conversion
-    requires { ⌜ (isComponent left (valueAt (now t) at) ≡ true) × (length (now t) ≤ length (now text)) × (length (now t) ≤ length (now rule)) ⌝ }
+    requires { ⌜ (isComponent left (valueAt (now t) at) ≡ true) × (length (now t) ≤ length (now rule)) ⌝ }
     ensures { λ r. ⌜ Converts (now (t .entry)) at (checkedAll (tableIn (now (rows .entry))) (propertiesOf (componentFrom left (valueAt (now (t .entry)) at))))
         (now (out .entry)) to (componentLines (tableIn (now (rows .entry))) (componentFrom left (valueAt (now (t .entry)) at))) (now (out .exit)) r ⌝ }
 {
     let a = after(&*t, at);
     let name = text_at(&*t, a);
     let begun = write_mark(out, to, b"BEGIN:", &*t, name);
-    let p = convert_properties(&*t, name.next, &*rows, out, begun, text, rule);
+    let p = convert_properties(&*t, name.next, &*rows, out, begun, rule);
     let Conversion::Passed(c, first) = p else {
         return p;
     };
@@ -49,7 +48,7 @@ pub(crate) fn convert_component(
             let ended = write_mark(out, q, b"END:", &*t, name);
             return Conversion::Passed(f, ended);
         }
-        let s = convert_component(&*t, i, left - 1, &*rows, out, q, text, rule);
+        let s = convert_component(&*t, i, left - 1, &*rows, out, q, rule);
         let Conversion::Passed(e, n) = s else {
             return s;
         };

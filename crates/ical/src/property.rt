@@ -59,17 +59,16 @@ fn write_stood(
     name: &[u8],
     at: usize,
     k: Ruling,
-    text: &mut [u8],
     rule: &mut [u8],
 ) -> Valued
-    requires { ⌜ (length (now t) ≤ length (now text)) × (length (now t) ≤ length (now rule)) ⌝ }
+    requires { ⌜ length (now t) ≤ length (now rule) ⌝ }
     ensures { λ r. ⌜ ValuesWritten k (lower (now (name .entry))) (now (t .entry)) at (folding (now (out .entry)) p) (now (out .exit)) r ⌝ }
 {
     if !is_taken(t, name, at, k) {
         return Valued::Invalid;
     }
     let sort = k.sort;
-    write_tested(out, p, t, at, sort, k.many, text, rule)
+    write_tested(out, p, t, at, sort, k.many, rule)
 }
 
 // The content line of the property at `at`.
@@ -79,10 +78,9 @@ fn convert_property(
     rows: &[u8],
     out: &mut [u8],
     to: usize,
-    text: &mut [u8],
     rule: &mut [u8],
 ) -> Conversion
-    requires { ⌜ (isProperty (valueAt (now t) at) ≡ true) × (length (now t) ≤ length (now text)) × (length (now t) ≤ length (now rule)) ⌝ }
+    requires { ⌜ (isProperty (valueAt (now t) at) ≡ true) × (length (now t) ≤ length (now rule)) ⌝ }
     ensures { λ r. ⌜ Converts (now (t .entry)) at (checkedIn (tableIn (now (rows .entry))) (propertyFrom (valueAt (now (t .entry)) at)))
         (now (out .entry)) to (propertyLine (tableIn (now (rows .entry))) (propertyFrom (valueAt (now (t .entry)) at)) ∷ []) (now (out .exit)) r ⌝ }
 {
@@ -103,7 +101,7 @@ fn convert_property(
     }
     let start = Folder { at: to, column: 0 };
     let h = write_head(out, start, &t[a..b], k.shown, &t[c..d], t, params);
-    let w = write_stood(out, h, t, &t[a..b], p.values, k, text, rule);
+    let w = write_stood(out, h, t, &t[a..b], p.values, k, rule);
     match w {
         Valued::Invalid => Conversion::Refused(Refusal::BadValue),
         Valued::Wrote(e, q) => {
@@ -120,10 +118,9 @@ pub(crate) fn convert_properties(
     rows: &[u8],
     out: &mut [u8],
     to: usize,
-    text: &mut [u8],
     rule: &mut [u8],
 ) -> Conversion
-    requires { ⌜ (isListOf isProperty (valueAt (now t) at) ≡ true) × (length (now t) ≤ length (now text)) × (length (now t) ≤ length (now rule)) ⌝ }
+    requires { ⌜ (isListOf isProperty (valueAt (now t) at) ≡ true) × (length (now t) ≤ length (now rule)) ⌝ }
     ensures { λ r. ⌜ Converts (now (t .entry)) at (checkedAll (tableIn (now (rows .entry))) (map propertyFrom (elements (valueAt (now (t .entry)) at))))
         (now (out .entry)) to (map (propertyLine (tableIn (now (rows .entry)))) (map propertyFrom (elements (valueAt (now (t .entry)) at)))) (now (out .exit)) r ⌝ }
 {
@@ -134,7 +131,7 @@ pub(crate) fn convert_properties(
             let e = after(t, i);
             return Conversion::Passed(e, q);
         }
-        let p = convert_property(t, i, rows, out, q, text, rule);
+        let p = convert_property(t, i, rows, out, q, rule);
         match p {
             Conversion::Passed(e, n) => {
                 i = e;

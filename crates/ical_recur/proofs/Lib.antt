@@ -1,7 +1,7 @@
-pub mod Room
-pub mod Tests
-pub mod Parting
+pub mod KindTests
+pub mod ObjectTexts
 pub mod Laying
-pub mod Sizing
-pub mod Lengths
-pub mod Ruling
+pub mod ObjectLengths
+pub mod RuleTexts
+pub mod Integers
+pub mod Shown

@@ -1,7 +1,6 @@
 pub mod Sorts
 pub mod Places
 pub mod Arrays
-pub mod Bared
-pub mod Grouped
-pub mod Told
-pub mod Integers
+pub mod TextRuns
+pub mod ValueGroups
+pub mod PropertyValues

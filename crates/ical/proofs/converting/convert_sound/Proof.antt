@@ -2,7 +2,7 @@
 use mathlib.Core.Path.{sym, _∙_}
 use borrow.Author.Tests.{not-true, not-false}
 use Rattle.octets.proofs.Pen.{front-same}
-use Rattle.ical.proofs.OnTape.{unsound, other-shape, too-deep, shallow, component-on, component-there, calendar-told, other-told}
+use Rattle.ical.proofs.Stages.{unsound, other-shape, too-deep, shallow, component-on, component-there, calendar-told, other-told}
 use borrow.Author.Needs.{needs}
 use Rattle.ical.proofs.converting.convert_sound.Statement.{statement}
 use Rattle.ical.proofs.converting.convert_sound.Tie as tie
@@ -20,13 +20,13 @@ returns-3 c =
 
 convert-component-requires : tie.Need-convert-component-requires
 convert-component-requires c κs =
-    let k = calendar-told _ _ (c .before .before .before .before .before .before .before .shape-of .ensures) (c .before .before .before .before .before .s .given .1) in
-    (component-there _ (k .0) (k .1) (c .before .before .before .if2 .left), c .before .before .before .before .before .before .before .before .before .before .before .before .before .before .before .pre .0, c .before .before .before .before .before .before .before .before .before .before .before .before .before .before .before .pre .1)
+    let k = calendar-told _ _ (c .before .before .before .before .before .before .shape-of .ensures) (c .before .before .before .before .s .given .1) in
+    (component-there _ (k .0) (k .1) (c .before .before .if2 .left), c .before .before .before .before .before .before .before .before .before .before .before .before .before .pre)
 
 returns-4 : tie.Need-returns-4
 returns-4 c =
-    let k = calendar-told _ _ (c .before .before .before .before .before .before .before .before .before .before .before .before .before .before .shape-of .ensures) (c .before .before .before .before .before .before .before .before .before .before .before .before .s .given .1) in
-    rw (shallow _ _ (sym (c .before .before .before .before .before .before .before .before .before .before .before .before .before .before .before .before .is-sound .ensures) ∙ not-false _ (c .before .before .before .before .before .before .before .before .before .before .before .before .before .before .before .if1 .left)) (k .0) (k .1) (c .before .before .before .before .before .before .before .before .before .before .if2 .left), component-on _ (k .0) (k .1) (c .before .before .before .before .before .before .before .before .before .before .if2 .left)) (c .before .before .before .before .before .before .convert-component .ensures)
+    let k = calendar-told _ _ (c .before .before .before .before .before .before .before .before .before .before .before .shape-of .ensures) (c .before .before .before .before .before .before .before .before .before .s .given .1) in
+    rw (shallow _ _ (sym (c .before .before .before .before .before .before .before .before .before .before .before .before .before .is-sound .ensures) ∙ not-false _ (c .before .before .before .before .before .before .before .before .before .before .before .before .if1 .left)) (k .0) (k .1) (c .before .before .before .before .before .before .before .if2 .left), component-on _ (k .0) (k .1) (c .before .before .before .before .before .before .before .if2 .left)) (c .before .before .before .before .convert-component .ensures)
 
 pub convert-sound-spec : {M : Type 1} → statement M
 convert-sound-spec =
@@ -40,7 +40,6 @@ convert-sound-spec =
     returns-2
     returns-3
     convert-component-requires
-    (λ c. search needs)
     (λ c. search needs)
     (λ c. search needs)
     returns-4)

@@ -2,22 +2,22 @@
 use mathlib.Core.Path.{sym, ap, _∙_}
 use Rattle.octets.specs.Answers.{answer}
 use Rattle.octets.proofs.Answers.{finished-answer}
-use Rattle.ical.proofs.Judging.{passes, refuses}
-use Rattle.ical.proofs.OnTape.{refused-alike, text-refused, text-accepted}
+use Rattle.ical.proofs.PropertyTests.{passes, refuses}
+use Rattle.ical.proofs.Stages.{refused-alike, text-refused, text-accepted}
 use borrow.Author.Needs.{needs}
 use Rattle.ical.proofs.converting.convert_tape.Statement.{statement}
 use Rattle.ical.proofs.converting.convert_tape.Tie as tie
 
 convert-sound-requires : tie.Need-convert-sound-requires
-convert-sound-requires c κs = (c .before .before .before .before .before .before .before .before .pre .0, c .before .before .before .before .before .before .before .before .pre .1)
+convert-sound-requires c κs = c .before .before .before .before .before .before .pre
 
 returns : tie.Need-returns
-returns c = c .before .before .refuse .ensures ∙ refused-alike _ _ _ (c .before .before .before .before .before .before .before .before .before .before .before .before .before .convert-sound .kept .1 .1 .0) ∙ ap (λ a. answer a (c .before .before .before .before .before .before .before .before .before .before .before .before .before .before .before .before .before .before .before .before .before .before .args .out .now)) (sym (text-refused _ _ (refuses _ _ _ _ _ _ _ _ (c .before .before .before .before .before .before .before .before .before .before .before .before .before .convert-sound .ensures) (c .before .before .before .before .before .c .given .1) .0)))
+returns c = c .before .before .refuse .ensures ∙ refused-alike _ _ _ (c .before .before .before .before .before .before .before .before .before .before .before .convert-sound .kept .1 .1 .0) ∙ ap (λ a. answer a (c .before .before .before .before .before .before .before .before .before .before .before .before .before .before .before .before .before .before .args .out .now)) (sym (text-refused _ _ (refuses _ _ _ _ _ _ _ _ (c .before .before .before .before .before .before .before .before .before .before .before .convert-sound .ensures) (c .before .before .before .before .before .c .given .1) .0)))
 
 returns-2 : tie.Need-returns-2
 returns-2 c =
-    let y = passes _ _ _ _ _ _ _ _ (c .before .before .before .before .before .before .before .before .before .before .before .before .before .convert-sound .ensures) (c .before .before .before .before .before .c2 .given .1) in
-    c .before .before .finish .ensures ∙ finished-answer _ _ _ _ (y .wrote) ∙ ap (λ a. answer a (c .before .before .before .before .before .before .before .before .before .before .before .before .before .before .before .before .before .before .before .before .before .before .args .out .now)) (sym (text-accepted _ _ (y .faultless)))
+    let y = passes _ _ _ _ _ _ _ _ (c .before .before .before .before .before .before .before .before .before .before .before .convert-sound .ensures) (c .before .before .before .before .before .c2 .given .1) in
+    c .before .before .finish .ensures ∙ finished-answer _ _ _ _ (y .wrote) ∙ ap (λ a. answer a (c .before .before .before .before .before .before .before .before .before .before .before .before .before .before .before .before .before .before .args .out .now)) (sym (text-accepted _ _ (y .faultless)))
 
 pub convert-tape-spec : {M : Type 1} → statement M
 convert-tape-spec =
@@ -30,9 +30,7 @@ convert-tape-spec =
     (λ c κs. search needs)
     (λ c. search needs)
     (λ c. search needs)
-    (λ c. search needs)
     returns
-    (λ c. search needs)
     (λ c. search needs)
     (λ c. search needs)
     returns-2)

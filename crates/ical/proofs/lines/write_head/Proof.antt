@@ -1,6 +1,6 @@
 -- `ical::lines::write_head` meets its contract.
 use Rattle.content.proofs.Folding.{then, as-folded}
-use Rattle.ical.proofs.Lined.{head-is}
+use Rattle.ical.proofs.LineTexts.{head-is}
 use borrow.Author.Needs.{needs}
 use Rattle.ical.proofs.lines.write_head.Statement.{statement}
 use Rattle.ical.proofs.lines.write_head.Tie as tie

@@ -2,7 +2,7 @@
 use mathlib.Core.Path.{sym}
 use borrow.Author.Tests.{not-true, not-false}
 use Rattle.content.proofs.Folding.{none, then, as-folded}
-use Rattle.ical.proofs.Lined.{hidden-kind, shown-kind}
+use Rattle.ical.proofs.LineTexts.{hidden-kind, shown-kind}
 use borrow.Author.Needs.{needs}
 use Rattle.ical.proofs.lines.write_kind.Statement.{statement}
 use Rattle.ical.proofs.lines.write_kind.Tie as tie

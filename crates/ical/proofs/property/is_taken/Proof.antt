@@ -1,7 +1,7 @@
 -- `ical::property::is_taken` meets its contract.
 use mathlib.Core.Path.{_∙_}
 use borrow.Author.Tests.{not-true, not-false}
-use Rattle.ical.proofs.Judging.{first-octets, taken-by-sort}
+use Rattle.ical.proofs.PropertyTests.{first-octets, taken-by-sort}
 use borrow.Author.Needs.{needs}
 use Rattle.ical.proofs.property.is_taken.Statement.{statement}
 use Rattle.ical.proofs.property.is_taken.Tie as tie

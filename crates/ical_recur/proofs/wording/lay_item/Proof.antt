@@ -5,8 +5,8 @@ use borrow.Author.Tests.{not-true, not-false}
 use Rattle.octets.proofs.Pen.{as-text, front-same}
 use Rattle.values.specs.Recur.{itemText}
 use Rattle.ical_recur.specs.Kinds.{itemIs}
-use Rattle.ical_recur.proofs.Parting.{string-wording, number-wording}
-use Rattle.ical_recur.proofs.Tests.{string-value, number-value, no-item}
+use Rattle.ical_recur.proofs.ObjectTexts.{string-wording, number-wording}
+use Rattle.ical_recur.proofs.KindTests.{string-value, number-value, no-item}
 use Rattle.ical_recur.proofs.wording.lay_item.Statement.{statement}
 use Rattle.ical_recur.proofs.wording.lay_item.Tie as tie
 

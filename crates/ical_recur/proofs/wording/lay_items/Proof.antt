@@ -15,8 +15,8 @@ use Rattle.tape.specs.Decode.{tagAt, itemsAt}
 use Rattle.values.specs.Recur.{allItems, someItems}
 use Rattle.ical_recur.specs.Kinds.{itemIs}
 use Rattle.ical_recur.specs.Wording.{itemsText}
-use Rattle.ical_recur.proofs.Parting.{items-last, items-more}
-use Rattle.ical_recur.proofs.Tests.{all-end, all-on, all-stop, some-end, some-all}
+use Rattle.ical_recur.proofs.ObjectTexts.{items-last, items-more}
+use Rattle.ical_recur.proofs.KindTests.{all-end, all-on, all-stop, some-end, some-all}
 use Rattle.ical_recur.proofs.wording.lay_items.Statement.{statement}
 use Rattle.ical_recur.proofs.wording.lay_items.Tie as tie
 

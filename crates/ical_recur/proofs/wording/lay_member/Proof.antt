@@ -5,8 +5,8 @@ use borrow.Author.Tests.{not-true, not-false}
 use Rattle.octets.proofs.Pen.{then, front-same}
 use Rattle.tape.specs.Promise.{Next}
 use Rattle.ical_recur.proofs.Laying.{laid-behind}
-use Rattle.ical_recur.proofs.Parting.{member-keyed}
-use Rattle.ical_recur.proofs.Tests.{member-case, member-unknown, member-known}
+use Rattle.ical_recur.proofs.ObjectTexts.{member-keyed}
+use Rattle.ical_recur.proofs.KindTests.{member-case, member-unknown, member-known}
 use Rattle.ical_recur.proofs.wording.lay_member.Statement.{statement}
 use Rattle.ical_recur.proofs.wording.lay_member.Tie as tie
 

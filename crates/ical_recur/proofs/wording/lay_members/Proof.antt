@@ -12,8 +12,8 @@ use Rattle.tape.proofs.Scans.{Keyed, member-on}
 use Rattle.tape.specs.Decode.{tagAt, membersAt}
 use Rattle.values.specs.Recur.{kindsAre}
 use Rattle.ical_recur.specs.Wording.{objectText}
-use Rattle.ical_recur.proofs.Parting.{members-none, members-last, members-more}
-use Rattle.ical_recur.proofs.Tests.{kinds-end, member-stops, member-stands}
+use Rattle.ical_recur.proofs.ObjectTexts.{members-none, members-last, members-more}
+use Rattle.ical_recur.proofs.KindTests.{kinds-end, member-stops, member-stands}
 use Rattle.ical_recur.proofs.wording.lay_members.Statement.{statement}
 use Rattle.ical_recur.proofs.wording.lay_members.Tie as tie
 

@@ -7,8 +7,8 @@ use Rattle.octets.proofs.Pen.{nothing, front-same}
 use Rattle.tape.proofs.Walks.{next-inside}
 use Rattle.tape.specs.Promise.{Next, Left}
 use Rattle.ical_recur.proofs.Laying.{laid-behind}
-use Rattle.ical_recur.proofs.Parting.{values-plain, values-array}
-use Rattle.ical_recur.proofs.Tests.{plain-kind, one-kind, many-kind}
+use Rattle.ical_recur.proofs.ObjectTexts.{values-plain, values-array}
+use Rattle.ical_recur.proofs.KindTests.{plain-kind, one-kind, many-kind}
 use Rattle.ical_recur.proofs.wording.lay_values.Statement.{statement}
 use Rattle.ical_recur.proofs.wording.lay_values.Tie as tie
 

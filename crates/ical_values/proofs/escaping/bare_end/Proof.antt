@@ -5,7 +5,7 @@ use borrow.Author.Tests.{not-false}
 use borrow.Author.Needs.{needs}
 use lib.ListN.{length}
 use Rattle.ical_values.specs.Bare.{Bare}
-use Rattle.ical_values.proofs.Bared.{bare-more}
+use Rattle.ical_values.proofs.TextRuns.{bare-more}
 use Rattle.ical_values.proofs.escaping.bare_end.Tie as tie
 use Rattle.ical_values.proofs.escaping.bare_end.Statement.{statement}
 

@@ -1,5 +1,5 @@
 -- `ical_values::escaping::fold_escaped` meets its contract.
-use Rattle.ical_values.proofs.Bared.{escaped, stays, text-plain}
+use Rattle.ical_values.proofs.TextRuns.{escaped, stays, text-plain}
 use Rattle.octets.proofs.Pen.{front-same}
 use Rattle.octets.specs.Classes.{isControl, plainOctet, textOctet}
 use Rattle.values.specs.Texts.{escapedOctet}

@@ -4,7 +4,7 @@ use mathlib.Core.Path.{sym, _∙_}
 use native.Mathlib.Omega.{arith}
 use borrow.Author.Needs.{needs}
 use lib.ListN.{length}
-use Rattle.ical_values.proofs.Bared.{bare-none, bare-block}
+use Rattle.ical_values.proofs.TextRuns.{bare-none, bare-block}
 use Rattle.ical_values.specs.Bare.{Bare}
 use Rattle.ical_values.proofs.escaping.past_blocks.Tie as tie
 use Rattle.ical_values.proofs.escaping.past_blocks.Statement.{statement}

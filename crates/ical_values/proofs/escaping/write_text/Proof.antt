@@ -7,7 +7,7 @@ use borrow.Author.Needs.{needs}
 use lib.ListN.{length, drop}
 use Rattle.octets.proofs.Pen.{kept, front-behind}
 use Rattle.values.specs.Texts.{textIs, textText}
-use Rattle.ical_values.proofs.Bared.{run-is, run-text, text-here, text-on, text-stop, text-ended}
+use Rattle.ical_values.proofs.TextRuns.{run-is, run-text, text-here, text-on, text-stop, text-ended}
 use Rattle.content.specs.Folding.{folding, Folded}
 use Rattle.content.proofs.Folding.{none, then, Leads, leads-start, leads-on, leads-end}
 use Rattle.ical_values.proofs.escaping.write_text.Tie as tie

@@ -1,6 +1,6 @@
 -- `ical_values::single::period_at` meets its contract.
 use Rattle.ical_values.proofs.Arrays.{no-period, no-start, no-end, more-than-two, period-whole, period-text}
-use Rattle.ical_values.proofs.Grouped.{group-start}
+use Rattle.ical_values.proofs.ValueGroups.{group-start}
 use Rattle.ical_values.proofs.Places.{lettered-is, no-lettered, string-there}
 use Rattle.values.specs.Coded.{sortSaid}
 use Rattle.values.specs.Write.{valueIs}

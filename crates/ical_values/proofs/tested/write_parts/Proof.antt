@@ -1,6 +1,6 @@
 -- `ical_values::tested::write_parts` meets its contract.
 use Rattle.ical_values.proofs.Arrays.{no-null, no-parts, parts-text, too-few, too-full, parts-there, parts-taken}
-use Rattle.ical_values.proofs.Grouped.{alone-stop, alone-more, alone}
+use Rattle.ical_values.proofs.ValueGroups.{alone-stop, alone-more, alone}
 use Rattle.tape.proofs.Walks.{next-inside}
 use Rattle.octets.proofs.Pen.{front-same, front-wrote}
 use Rattle.content.proofs.Folding.{as-folded}

@@ -1,5 +1,5 @@
 -- `ical_values::tested::write_some` meets its contract.
-use Rattle.ical_values.proofs.Grouped.{group-start, taken-stop, taken-last, taken-several, taken-on, joined-last, joined-more}
+use Rattle.ical_values.proofs.ValueGroups.{group-start, taken-stop, taken-last, taken-several, taken-on, joined-last, joined-more}
 use Rattle.ical_values.specs.Valued.{allTaken}
 use Rattle.content.specs.Folding.{folding, Folded}
 use Rattle.content.proofs.Folding.{none, then, Leads, leads-start, leads-on, leads-last}

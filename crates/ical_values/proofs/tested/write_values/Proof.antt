@@ -1,6 +1,6 @@
 -- `ical_values::tested::write_values` meets its contract.
-use Rattle.ical_values.proofs.Told.{as-valued, geo-valued, status-valued}
-use Rattle.ical_values.proofs.Grouped.{left-here, taken-none, joined-none}
+use Rattle.ical_values.proofs.PropertyValues.{as-valued, geo-valued, status-valued}
+use Rattle.ical_values.proofs.ValueGroups.{left-here, taken-none, joined-none}
 use Rattle.ical_values.proofs.Sorts.{simple-left}
 use Rattle.ical_values.specs.Valued.{allTaken}
 use Rattle.ical_values.specs.Parts.{simple}

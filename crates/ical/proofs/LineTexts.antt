@@ -25,7 +25,7 @@ use Rattle.content.proofs.Folding.{text-append}
 use Rattle.values.specs.Coded.{sortSaid}
 use Rattle.values.specs.Write.{valuesText}
 use Rattle.conversion_theory.specs.Tree.{Property, forestOf}
-use Rattle.conversion_theory.specs.Skeleton.{isListOf, isProperty, isComponent, paramsFrom, propertyFrom, componentFrom}
+use Rattle.conversion_theory.specs.Skeleton.{isProperty, isComponent, paramsFrom, propertyFrom, componentFrom}
 use Rattle.conversion_theory.specs.Return.{isUnknown, isDefault, shown, withValue, writtenSort, writtenLine}
 use Rattle.conversion_theory.specs.ToIcal.{beginLine, endLine, propertyLine, componentLines, forestLines}
 use Rattle.ical_properties.specs.Standing.{PartsAt}
@@ -33,9 +33,9 @@ use Rattle.ical_properties.specs.Ruled.{Rules}
 use Rattle.ical_properties.specs.declared.Parts.{Parts}
 use Rattle.ical_properties.specs.declared.Ruling.{Ruling}
 use Rattle.ical.specs.Writes.{valueParamText, headText}
-use Rattle.ical.proofs.Arrays.{list-array, component-array}
-use Rattle.ical.proofs.Judging.{octetsIn, RuledAt, ruled-there}
-use Rattle.ical.proofs.Composed.{component-is, composed, subs-tag}
+use Rattle.ical.proofs.Arrays.{component-array}
+use Rattle.ical.proofs.PropertyTests.{octetsIn, RuledAt, ruled-there}
+use Rattle.ical.proofs.ComponentParts.{component-is, composed, subs-tag}
 use Rattle.ical_skeleton.proofs.Parts.{first-is, second-is, third-is}
 
 -- VALUE
@@ -86,10 +86,6 @@ module _ (T : Table) (t : List ℕ) (i : ℕ) where
   pub lines-on : {e : ℕ} → ((tagAt t i ≡ tagEnd) → ⊥) → Next t i e
       → textOf (map (propertyLine T) (map propertyFrom (listAt t i))) ≡ textOf (propertyLine T (propertyFrom (valueAt t i)) ∷ []) ++ textOf (map (propertyLine T) (map propertyFrom (listAt t e)))
   lines-on {e} n y = rw (list-next y n) (text-append (propertyLine T (propertyFrom (valueAt t i)) ∷ []) (map (propertyLine T) (map propertyFrom (listAt t e))))
-
-pub lines-inside : (T : Table) (p : Json → Bool) (t : List ℕ) (i : ℕ) {a : ℕ} → isListOf p (valueAt t i) ≡ true → After t i a
-    → textOf (map (propertyLine T) (map propertyFrom (listAt t a))) ≡ textOf (map (propertyLine T) (map propertyFrom (elements (valueAt t i))))
-lines-inside T p t i h x = ap (λ js. textOf (map (propertyLine T) (map propertyFrom js))) (sym (elements-inside x (list-array t i p h)))
 
 -- lines of sub-components
 abbrev pub subLines : Table → ℕ → List Json → List (List ℕ)

@@ -1,9 +1,9 @@
--- `ical_values::writing::fold_minus` meets its contract.
+-- `ical_recur::writing::fold_minus` meets its contract.
 use Rattle.content.proofs.Folding.{none}
 use Rattle.octets.specs.Decimal.{minusIf}
 use borrow.Author.Needs.{needs}
-use Rattle.ical_values.proofs.writing.fold_minus.Statement.{statement}
-use Rattle.ical_values.proofs.writing.fold_minus.Tie as tie
+use Rattle.ical_recur.proofs.writing.fold_minus.Statement.{statement}
+use Rattle.ical_recur.proofs.writing.fold_minus.Tie as tie
 
 returns : tie.Need-returns
 unfolding minusIf

@@ -75,12 +75,12 @@ sized (b ∷ s) false =
     rw u (omega (arith, sized s false, total-push null (groups false s))))))))))))
 
 -- numbers and dates are written no longer
-pub trim-length : (s : List ℕ) → length (trim s) ≤ length s
+trim-length : (s : List ℕ) → length (trim s) ≤ length s
 unfolding trim
 trim-length [] = omega arith
 trim-length (c ∷ s) = let h = trim-length s in cases (eqb c (code "0") and isDigit (getD s 0 0)) (λ e. rw e (omega arith)) (λ e. rw e (omega arith))
 
-pub integer-length : (s : List ℕ) → length (integerText s) ≤ length s
+integer-length : (s : List ℕ) → length (integerText s) ≤ length s
 unfolding integerText minusIf minus unsigned isSign
 integer-length [] = unfold trim in omega arith
 integer-length (c ∷ s) = same? c (code "-")

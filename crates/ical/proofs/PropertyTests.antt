@@ -1,5 +1,5 @@
 -- Properties tested for 7, 8 and 9 by what their ruling says.
-use Prim.Native.Nat.{ℕ, _-_, _≤_}
+use Prim.Native.Nat.{ℕ, _-_}
 use mathlib.Core.Path.{_≡_, refl, sym, ap, _∙_}
 use mathlib.Core.Bool.{Bool, true, false, not}
 use mathlib.Core.List.{List, [], _∷_, _++_, map}
@@ -22,18 +22,16 @@ use Rattle.types.specs.Table.{Row, Table, find}
 use Rattle.json.specs.Tree.{Json, null, falsity, truth, num, str, arr, obj, string?, number?, array?, object?, listOfItems, octetsOf, elements, element}
 use Rattle.json.specs.Tape.{tagEnd}
 use Rattle.tape.specs.Decode.{otherItems, tagAt, valueAt, itemsAt, listAt, membersAt}
-use Rattle.tape.specs.Promise.{After, Next, Left}
+use Rattle.tape.specs.Promise.{Next, Left}
 use Rattle.tape.specs.declared.Text.{Text}
 use Rattle.tape.proofs.Values.{list-end, list-first, list-next, no-text}
-use Rattle.tape.proofs.Walks.{elements-inside, next-group}
+use Rattle.tape.proofs.Walks.{next-group}
 use Rattle.content.specs.Folding.{FoldPen}
 use Rattle.content.specs.Parameters.{isEncoded, mayReturn}
 use Rattle.content.specs.declared.fold.Folder.{Folder}
 use Rattle.values.specs.Sorts.{sortOf}
 use Rattle.values.specs.Coded.{sortSaid}
 use Rattle.values.specs.declared.sorts.Sort.{Sort as SortCode}
-use Rattle.ical_recur.specs.Room.{hasRoom}
-use Rattle.ical_recur.proofs.Room.{room}
 use Rattle.values.specs.Read.{readValues, valuesOf}
 use Rattle.values.specs.Write.{valuesAre}
 use Rattle.ical_values.specs.Valued.{ValuedAs}
@@ -41,7 +39,7 @@ use Rattle.ical_values.specs.declared.Valued.{Valued}
 use Rattle.ical_values.specs.declared.Valued.the-variants.{Wrote, Invalid}
 use Rattle.conversion_theory.specs.Tree.{Property}
 use Rattle.conversion_theory.specs.Property.{codeOf, manyOf, encodingFits, readAs}
-use Rattle.conversion_theory.specs.Skeleton.{areParameters, isPropertyName, isListOf, isProperty, paramsFrom, propertyFrom}
+use Rattle.conversion_theory.specs.Skeleton.{areParameters, isPropertyName, isProperty, paramsFrom, propertyFrom}
 use Rattle.conversion_theory.specs.Return.{isUnknown, statedType, writtenSort, firstOctets, takenBy, checked}
 use Rattle.conversion_theory.specs.ToIcal.{checkedAll}
 use Rattle.ical_properties.specs.Standing.{InGroup, PartsAt}
@@ -52,7 +50,7 @@ use Rattle.ical.specs.Writes.{standing, ValuesWritten}
 use Rattle.ical.specs.Converts.{checkedIn, Puts, Converts}
 use Rattle.ical.specs.declared.Conversion.{Conversion}
 use Rattle.ical.specs.declared.Conversion.the-variants.{Passed, Refused}
-use Rattle.ical.proofs.Arrays.{list-array, property-array}
+use Rattle.ical.proofs.Arrays.{property-array}
 
 -- a string's test is passed by its octets
 holds-octets : (p : List ℕ → Bool) (j : Json) → holds p (string? j) ≡ true → p (octetsOf j) ≡ true
@@ -107,7 +105,7 @@ pub taken-by-sort : (s : SortCode) (n : List ℕ) (c : ℕ) (m : Bool) {raw got 
 unfolding valuesOf
 taken-by-sort s n c m e f = rw (e, f)
 
--- the values of a ruling, where there is room for them
+-- the values of a ruling
 module _ (k : Ruling) (n : List ℕ) where
   pub not-taken : (vs : List Json) {b : Bool} → b ≡ (not (k .taken) or isSome (valuesOf n (k .code) (k .many) (firstOctets vs))) → b ≡ false → standing k n vs ≡ false
   unfolding standing
@@ -117,10 +115,10 @@ module _ (k : Ruling) (n : List ℕ) where
   unfolding standing
   is-standing vs e f g = rw (sym e ∙ f, g) (and-true-right _)
 
-  pub stood : (t s u : List ℕ) (i : ℕ) (f : FoldPen) (out : List ℕ) {b : Bool} (r : Valued) → b ≡ (not (k .taken) or isSome (valuesOf n (k .code) (k .many) (firstOctets (listAt t i)))) → b ≡ true
-      → length t ≤ length s → length t ≤ length u → ValuedAs (hasRoom t s and hasRoom t u) (k .many) (sortSaid (k .sort)) t i f out r → ValuesWritten k n t i f out r
-  stood t s u i f out (Wrote e q) g h a b v = (is-standing (listAt t i) g h (rw (room t s a, room t u b) at (v .0)), v .1, v .2)
-  stood t s u i f out Invalid g h a b v = (is-standing (listAt t i) g h (rw (room t s a, room t u b) at (v .0)), v .1)
+  pub stood : (t : List ℕ) (i : ℕ) (f : FoldPen) (out : List ℕ) {b : Bool} (r : Valued) → b ≡ (not (k .taken) or isSome (valuesOf n (k .code) (k .many) (firstOctets (listAt t i)))) → b ≡ true
+      → ValuedAs (k .many) (sortSaid (k .sort)) t i f out r → ValuesWritten k n t i f out r
+  stood t i f out (Wrote e q) g h v = (is-standing (listAt t i) g h (v .0), v .1, v .2)
+  stood t i f out Invalid g h v = (is-standing (listAt t i) g h (v .0), v .1)
 
   -- by the answer
   module _ (t : List ℕ) (i : ℕ) (f : FoldPen) (out : List ℕ) (r : Valued) (v : ValuesWritten k n t i f out r) where
@@ -270,10 +268,6 @@ module _ (T : Table) (t : List ℕ) (i : ℕ) where
 
     pub properties-off : {m : ℕ} → checkedIn T (propertyFrom (valueAt t i)) ≡ refused m → checkedAll T (map propertyFrom (listAt t i)) ≡ refused m
     properties-off h = rw (list-first t i n) (checked-off T (propertyFrom (valueAt t i)) _ h)
-
-pub array-checked : (T : Table) (p : Json → Bool) (t : List ℕ) (i : ℕ) {a : ℕ} → isListOf p (valueAt t i) ≡ true → After t i a
-    → checkedAll T (map propertyFrom (elements (valueAt t i))) ≡ checkedAll T (map propertyFrom (listAt t a))
-array-checked T p t i h x = ap (λ js. checkedAll T (map propertyFrom js)) (elements-inside x (list-array t i p h))
 
 -- what an answer tells
 module _ (t : List ℕ) (i : ℕ) (a : Answer (Unit {0})) (out : List ℕ) (to : ℕ) (lines : List (List ℕ)) (out′ : List ℕ) (r : Conversion) (c : Converts t i a out to lines out′ r) where

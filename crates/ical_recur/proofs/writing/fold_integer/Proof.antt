@@ -1,9 +1,9 @@
--- `ical_values::writing::fold_integer` meets its contract.
-use Rattle.ical_values.proofs.Integers.{integer-text}
+-- `ical_recur::writing::fold_integer` meets its contract.
+use Rattle.ical_recur.proofs.Integers.{integer-text}
 use Rattle.content.proofs.Folding.{then, as-folded}
 use borrow.Author.Needs.{needs}
-use Rattle.ical_values.proofs.writing.fold_integer.Statement.{statement}
-use Rattle.ical_values.proofs.writing.fold_integer.Tie as tie
+use Rattle.ical_recur.proofs.writing.fold_integer.Statement.{statement}
+use Rattle.ical_recur.proofs.writing.fold_integer.Tie as tie
 
 returns : tie.Need-returns
 returns c =

@@ -39,9 +39,9 @@ use Rattle.conversion_theory.specs.Tree.{levels, propertiesOf}
 use Rattle.conversion_theory.specs.Skeleton.{isComponent, isCalendar, componentFrom, calendarOf}
 use Rattle.conversion_theory.specs.ToIcal.{jsonOf, checkedAll, componentLines, written, toIcal}
 use Rattle.ical.specs.Stages.{componentOn, judged, tapeText, parsedText}
-use Rattle.ical.proofs.Judging.{ok}
+use Rattle.ical.proofs.PropertyTests.{ok}
 use Rattle.ical.proofs.Levels.{fewer}
-use Rattle.ical.proofs.Told.{IsTape}
+use Rattle.ical.proofs.ParseAnswers.{IsTape}
 
 -- the component on a tape, which has at most eight levels
 module _ (t : List ℕ) (c : isCalendar (valueAt t 0) ≡ true) {n : ℕ} (l : n ≡ levels (componentFrom mostOpen (valueAt t 0))) (h : n ≤ 8) where

@@ -24,7 +24,7 @@ use Rattle.conversion_theory.specs.Skeleton.{isListOf, isProperty, isComponent,
 use Rattle.conversion_theory.specs.ToIcal.{checkedAll}
 use Rattle.ical_skeleton.proofs.Parts.{second-is, third-is}
 use Rattle.ical.proofs.Arrays.{list-array, component-array}
-use Rattle.ical.proofs.Judging.{ok, checked-none, both-checked, first-refused}
+use Rattle.ical.proofs.PropertyTests.{ok, checked-none, both-checked, first-refused}
 
 -- what the test of a component tells
 pub record Composed (d : ℕ) (j : Json) : Type 0 where

@@ -1,8 +1,8 @@
 -- A recurrence object as a rule: its text in lent memory, what the recurrence reader says of it, and its normal form.
 use Prim.Native.Nat.{ℕ, _-_, _≤_}
-use mathlib.Core.Path.{_≡_, sym, ap, _∙_}
+use mathlib.Core.Path.{_≡_, _∙_}
 use mathlib.Core.Bool.{true, false}
-use mathlib.Core.List.{List, []}
+use mathlib.Core.List.{List}
 use native.Mathlib.Omega.{arith}
 use lib.ListN.{length, take, drop}
 use Rattle.octets.specs.Optional.{isSome, holds, given}
@@ -23,18 +23,13 @@ use Rattle.values.specs.Sorts.{recur}
 use Rattle.values.specs.Recur.{kindsAre, ruleParts, recurIs, recurText}
 use Rattle.values.specs.Write.{valueIs, valueText}
 use Rattle.ical_recur.specs.Wording.{objectText}
-use Rattle.ical_recur.proofs.Sizing.{object-length}
-use Rattle.ical_recur.proofs.Lengths.{rule-length}
+use Rattle.ical_recur.proofs.ObjectLengths.{object-length}
 
 -- where there is no object
 module _ (t : List ℕ) (at : ℕ) (n : (tagAt t at ≡ tagObject) → ⊥) where
   pub no-object-rule : valueIs recur (valueAt t at) ≡ false
   unfolding valueIs holds
   no-object-rule = rw (no-object t at n)
-
-  pub no-object-text : valueText recur (valueAt t at) ≡ []
-  unfolding valueText given
-  no-object-text = rw (no-object t at n)
 
 -- the members of an object
 module _ {t : List ℕ} {at i : ℕ} (o : tagAt t at ≡ tagObject) (x : After t at i) where
@@ -69,21 +64,7 @@ module _ {t : List ℕ} {at i : ℕ} (o : tagAt t at ≡ tagObject) (x : After t
     unfolding recurIs
     rule-stands k = rw (is-rule, k, parts)
 
-    -- it is a rule, and its normal form is laid into lent memory
-    module _ {rule after : List ℕ} {m : ℕ} (k : length t ≤ length rule) (e : isSome (partsOf (upper (take (n - 0) (drop 0 later)))) ≡ true)
-        (v : Wrote (pen rule 0) (ruleShown (take (n - 0) (drop 0 later))) (pen after m)) where
-      shorter : length (ruleShown (take (n - 0) (drop 0 later))) ≤ length rule
-      shorter = some-is (partsOf (upper (take (n - 0) (drop 0 later)))) e (λ ps q. omega (arith, rule-length (take (n - 0) (drop 0 later)) ps q, ap length laid, object-length t i))
-
-      shown : Landed rule (ruleShown (take (n - 0) (drop 0 later))) after m
-      shown = landed rule (ruleShown (take (n - 0) (drop 0 later))) after m shorter v
-
-      pub shown-within : m ≤ length after
-      shown-within = omega (arith, shown .count, shorter, kept v)
-
-      normal : valueText recur (valueAt t at) ≡ ruleShown (take (n - 0) (drop 0 later))
-      unfolding recurText given
-      normal = some-is (partsOf (upper (take (n - 0) (drop 0 later)))) e (λ ps q. rw (text-of, parts, q) (sym (rule-shown (take (n - 0) (drop 0 later)) ps q)))
-
-      pub normal-text : take (m - 0) (drop 0 after) ≡ valueText recur (valueAt t at)
-      normal-text = upto after m ∙ shown .front ∙ sym normal
+    -- it is a rule, and this is its normal form
+    pub normal-text : isSome (partsOf (upper (take (n - 0) (drop 0 later)))) ≡ true → ruleShown (take (n - 0) (drop 0 later)) ≡ valueText recur (valueAt t at)
+    unfolding recurText given
+    normal-text e = some-is (partsOf (upper (take (n - 0) (drop 0 later)))) e (λ ps q. rw (text-of, parts, q) (rule-shown (take (n - 0) (drop 0 later)) ps q))
