@@ -28,9 +28,9 @@ use Rattle.conversion_theory.specs.Tree.{Property, forestOf}
 use Rattle.conversion_theory.specs.Skeleton.{isProperty, isComponent, paramsFrom, propertyFrom, componentFrom}
 use Rattle.conversion_theory.specs.Return.{isUnknown, isDefault, shown, withValue, writtenSort, writtenLine}
 use Rattle.conversion_theory.specs.ToIcal.{beginLine, endLine, propertyLine, componentLines, forestLines}
-use Rattle.ical_properties.specs.Standing.{PartsAt}
+use Rattle.ical_properties.specs.PartPlaces.{PartsAt}
 use Rattle.ical_properties.specs.Ruled.{Rules}
-use Rattle.ical_properties.specs.declared.Parts.{Parts}
+use Rattle.ical_properties.specs.declared.PropertyParts.{PropertyParts}
 use Rattle.ical_properties.specs.declared.Ruling.{Ruling}
 use Rattle.ical.specs.Writes.{valueParamText, headText}
 use Rattle.ical.proofs.Arrays.{component-array}
@@ -71,7 +71,7 @@ head-then n b t ps v =
     append-assoc (upper n) (valueParamText b t ++ (paramsText ps ++ octets ":")) v
     ∙ ap (λ l. upper n ++ l) (append-assoc (valueParamText b t) (paramsText ps ++ octets ":") v ∙ ap (λ l. valueParamText b t ++ l) (append-assoc (paramsText ps) (octets ":") v))
 
-pub line-there : (T : Table) {t : List ℕ} {i : ℕ} {p : Parts} {k : Ruling} → isProperty (valueAt t i) ≡ true → PartsAt t i p → RuledAt T t p k
+pub line-there : (T : Table) {t : List ℕ} {i : ℕ} {p : PropertyParts} {k : Ruling} → isProperty (valueAt t i) ≡ true → PartsAt t i p → RuledAt T t p k
     → headText (octetsIn t (p .name)) (k .shown) (octetsIn t (p .kind)) (paramsFrom (membersAt t (p .params))) ++ valuesText (sortSaid (k .sort)) (listAt t (p .values)) ≡ propertyLine T (propertyFrom (valueAt t i))
 line-there T {t} {i} {p} {k} h x g =
     let q = propertyFrom (valueAt t i) in

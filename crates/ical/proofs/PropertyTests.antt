@@ -42,8 +42,8 @@ use Rattle.conversion_theory.specs.Property.{codeOf, manyOf, encodingFits, read
 use Rattle.conversion_theory.specs.Skeleton.{areParameters, isPropertyName, isProperty, paramsFrom, propertyFrom}
 use Rattle.conversion_theory.specs.Return.{isUnknown, statedType, writtenSort, firstOctets, takenBy, checked}
 use Rattle.conversion_theory.specs.ToIcal.{checkedAll}
-use Rattle.ical_properties.specs.Standing.{InGroup, PartsAt}
-use Rattle.ical_properties.specs.declared.Parts.{Parts}
+use Rattle.ical_properties.specs.PartPlaces.{InGroup, PartsAt}
+use Rattle.ical_properties.specs.declared.PropertyParts.{PropertyParts}
 use Rattle.ical_properties.specs.Ruled.{Rules}
 use Rattle.ical_properties.specs.declared.Ruling.{Ruling}
 use Rattle.ical.specs.Writes.{standing, ValuesWritten}
@@ -208,7 +208,7 @@ module _ (T : Table) (p : Property) where
 abbrev pub octetsIn : List ℕ → Text → List ℕ
 octetsIn t x = take (x .to - x .from) (drop (x .from) t)
 
-abbrev pub RuledAt : Table → List ℕ → Parts → Ruling → Type 0
+abbrev pub RuledAt : Table → List ℕ → PropertyParts → Ruling → Type 0
 RuledAt T t p k = Rules (find T (octetsIn t (p .name))) (lower (octetsIn t (p .name))) (lower (octetsIn t (p .kind))) k
 
 -- the ruling of a property in lowercase
@@ -278,7 +278,7 @@ module _ (t : List ℕ) (i : ℕ) (a : Answer (Unit {0})) (out : List ℕ) (to :
   refuses z = rw z at c
 
 -- the property at i of a tape, by its parts
-module _ (T : Table) {t : List ℕ} {i : ℕ} {p : Parts} (h : isProperty (valueAt t i) ≡ true) (x : PartsAt t i p) where
+module _ (T : Table) {t : List ℕ} {i : ℕ} {p : PropertyParts} (h : isProperty (valueAt t i) ≡ true) (x : PartsAt t i p) where
   abbrev answered : Answer (Unit {0})
   answered = checkedIn T (propertyFrom (valueAt t i))
 

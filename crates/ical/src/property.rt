@@ -4,10 +4,10 @@ use super::lines::write_head;
 use content::Folder;
 use content::end_line;
 use ical_properties::Ruling;
+use ical_properties::any_encodes;
 use ical_properties::encoding_fits;
-use ical_properties::is_encoded;
 use ical_properties::may_return;
-use ical_properties::parts_of;
+use ical_properties::property_parts;
 use ical_properties::ruling_of;
 use ical_values::Valued;
 use ical_values::write_tested;
@@ -84,7 +84,7 @@ fn convert_property(
     ensures { λ r. ⌜ Converts (now (t .entry)) at (checkedIn (tableIn (now (rows .entry))) (propertyFrom (valueAt (now (t .entry)) at)))
         (now (out .entry)) to (propertyLine (tableIn (now (rows .entry))) (propertyFrom (valueAt (now (t .entry)) at)) ∷ []) (now (out .exit)) r ⌝ }
 {
-    let p = parts_of(t, at);
+    let p = property_parts(t, at);
     let params = p.params;
     if !may_return(t, params) {
         return Conversion::Refused(Refusal::BadParameter);
@@ -96,7 +96,7 @@ fn convert_property(
     let c = kind.from;
     let d = kind.to;
     let k = ruling_of(rows, &t[a..b], &t[c..d]);
-    if !encoding_fits(k.code, is_encoded(t, params)) {
+    if !encoding_fits(k.code, any_encodes(t, params)) {
         return Conversion::Refused(Refusal::BadEncoding);
     }
     let start = Folder { at: to, column: 0 };

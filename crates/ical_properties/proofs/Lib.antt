@@ -1,3 +1,3 @@
-pub mod Into
-pub mod ParamWalk
+pub mod PropertyPlaces
+pub mod Parameters
 pub mod RowAnswers

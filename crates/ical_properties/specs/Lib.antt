@@ -1,3 +1,3 @@
-pub mod Standing
+pub mod PartPlaces
 pub mod Ruled
 pub mod ParamValues

@@ -4,9 +4,9 @@ mod places;
 mod rulings;
 mod writing;
 
-pub use params::is_encoded;
+pub use params::any_encodes;
 pub use params::may_return;
-pub use places::parts_of;
+pub use places::property_parts;
 pub use rulings::encoding_fits;
 pub use rulings::ruling_of;
 use tape::Text;
@@ -14,7 +14,7 @@ use values::Sort;
 pub use writing::write_params;
 
 // Where the parts of a property stand: its name, its parameters, its type, and its values up to the end of its array.
-pub struct Parts {
+pub struct PropertyParts {
     pub name: Text,
     pub params: usize,
     pub kind: Text,

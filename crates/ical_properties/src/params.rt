@@ -103,7 +103,7 @@ fn encodes(t: &[u8], name: &[u8], at: usize) -> bool
 }
 
 // ENCODING=BASE64 is among the parameters from `at` on.
-pub fn is_encoded(t: &[u8], at: usize) -> bool
+pub fn any_encodes(t: &[u8], at: usize) -> bool
     ensures { λ r. ⌜ r ≡ isEncoded (paramsFrom (membersAt (now (t .entry)) at)) ⌝ }
 {
     let mut i = at;

@@ -1,12 +1,12 @@
 // The parts of a property on the tape.
-use super::Parts;
+use super::PropertyParts;
 use tape::ARRAY;
 use tape::OBJECT;
 use tape::after;
 use tape::behind;
 use tape::tag;
 use tape::text_at;
-ghost use Rattle.ical_properties.specs.Standing.{IntoArray, IntoObject, PartsAt};
+ghost use Rattle.ical_properties.specs.PartPlaces.{IntoArray, IntoObject, PartsAt};
 
 // The place of the first element of the array at `at`; of nothing, where there is no array.
 pub fn into_array(t: &[u8], at: usize) -> usize
@@ -31,7 +31,7 @@ fn into_object(t: &[u8], at: usize) -> usize
 }
 
 // The parts of the property at `at`; what is missing is empty. Of its name and its type the octets are told, and the place behind them is free.
-pub fn parts_of(t: &[u8], at: usize) -> Parts
+pub fn property_parts(t: &[u8], at: usize) -> PropertyParts
     ensures { λ r. ⌜ PartsAt (now (t .entry)) at r ⌝ }
 {
     let a = into_array(t, at);
@@ -40,7 +40,7 @@ pub fn parts_of(t: &[u8], at: usize) -> Parts
     let params = into_object(t, b);
     let c = behind(t, b);
     let kind = text_at(t, c);
-    Parts {
+    PropertyParts {
         name: name,
         params: params,
         kind: kind,

@@ -1,4 +1,4 @@
 pub mod Lists
-pub mod Named
+pub mod Names
 pub mod Parts
 pub mod Depths

@@ -7,7 +7,7 @@ use mathlib.Core.List.{List}
 use native.Mathlib.Omega.{arith}
 use borrow.Author.Tests.{le-leb}
 use lib.Dec.{leb}
-use lib.ListN.{length, drop}
+use lib.ListN.{length}
 use Rattle.octets.specs.Optional.{isSome, holds}
 use Rattle.octets.specs.Classes.{isLowerName}
 use Rattle.octets.proofs.Cases.{never}
@@ -16,14 +16,14 @@ use Rattle.json.specs.Tape.{tagArray, tagEnd}
 use Rattle.tape.specs.Decode.{tagAt, valueAt, listAt}
 use Rattle.tape.specs.Promise.{After, Next, Left}
 use Rattle.tape.proofs.Tags.{on-tape}
-use Rattle.tape.proofs.Values.{no-array, list-end, list-first, list-next, list-head, list-tail, list-behind}
+use Rattle.tape.proofs.Values.{no-array, list-end, list-first, list-next, list-head, list-tail}
 use Rattle.tape.proofs.Walks.{Along, along-start, along-next, along-left, array-some, elements-inside, element-inside, next-inside}
 use Rattle.conversion_theory.specs.Skeleton.{areParameters, isPropertyName, isListOf, isProperty, isComponent}
 use Rattle.ical_skeleton.specs.Checks.{Checks, Head, Heads}
 use Rattle.ical_skeleton.specs.declared.Checked.{Checked}
 use Rattle.ical_skeleton.specs.declared.Checked.the-variants.{Passed, Failed}
 use Rattle.ical_skeleton.proofs.Lists.{list-not}
-use Rattle.ical_skeleton.proofs.Named.{held-on, object-on}
+use Rattle.ical_skeleton.proofs.Names.{held-on, object-on}
 
 pub property-not : (t : List ℕ) (i : ℕ) → ((tagAt t i ≡ tagArray) → ⊥) → isProperty (valueAt t i) ≡ false
 unfolding isProperty isSome
@@ -63,17 +63,11 @@ module _ {t : List ℕ} {i a : ℕ} (x : After t i a) (q : tagAt t i ≡ tagArra
       pub third-is : element 2 (valueAt t i) ≡ valueAt t c
       third-is = element-inside x q 2 ∙ list-tail y 1 ∙ list-tail z 0 ∙ list-head t c
 
-      pub behind-second : drop 2 (elements (valueAt t i)) ≡ listAt t c
-      behind-second = ap (drop 2) (elements-inside x q) ∙ list-behind y 1 ∙ list-behind z 0
-
       along-second : Along t a c
       along-second = along-next (along-next (along-start (x .high)) y) z
 
       two-more : ((tagAt t a ≡ tagEnd) → ⊥) → ((tagAt t b ≡ tagEnd) → ⊥) → length (elements (valueAt t i)) ≡ suc (suc (length (listAt t c)))
       two-more n m = ap length (elements-inside x q) ∙ ap length (list-next y n) ∙ ap suc (ap length (list-next z m))
-
-      pub behind-third : {d : ℕ} → Next t c d → drop 3 (elements (valueAt t i)) ≡ listAt t d
-      behind-third w = ap (drop 3) (elements-inside x q) ∙ list-behind y 2 ∙ list-behind z 1 ∙ list-behind w 0
 
     module _ (n : holds isPropertyName (string? (valueAt t a)) ≡ true) where
       pub property-no-parameters : holds areParameters (object? (valueAt t b)) ≡ false → isProperty (valueAt t i) ≡ false

@@ -9,7 +9,7 @@ use Rattle.octets.specs.Basics.{all}
 use Rattle.octets.specs.Classes.{textOctet}
 use Rattle.json.specs.Tree.{octetsOf}
 use Rattle.tape.specs.Decode.{listAt}
-use Rattle.ical_properties.proofs.ParamWalk.{values-of, texts-end, texts-next, texts-on, texts-off, texts-none}
+use Rattle.ical_properties.proofs.Parameters.{values-of, texts-end, texts-next, texts-on, texts-off, texts-none}
 use borrow.Author.Needs.{needs}
 use Rattle.ical_properties.proofs.params.are_texts.Statement.{statement}
 use Rattle.ical_properties.proofs.params.are_texts.Tie as tie

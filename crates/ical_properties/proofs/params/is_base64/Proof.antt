@@ -1,7 +1,7 @@
 -- `ical_properties::params::is_base64` meets its contract.
 use mathlib.Core.Path.{sym, ap, _∙_}
 use Rattle.content.specs.Parameters.{isBase64}
-use Rattle.ical_properties.proofs.ParamWalk.{value-one, values-of, texts-end, base64-one, base64-none, base64-alone, base64-several}
+use Rattle.ical_properties.proofs.Parameters.{value-one, values-of, texts-end, base64-one, base64-none, base64-alone, base64-several}
 use borrow.Author.Needs.{needs}
 use Rattle.ical_properties.proofs.params.is_base64.Statement.{statement}
 use Rattle.ical_properties.proofs.params.is_base64.Tie as tie

@@ -9,7 +9,7 @@ use Rattle.octets.specs.Classes.{textOctet}
 use Rattle.tape.specs.Decode.{membersAt}
 use Rattle.content.specs.Parameters.{mayReturn}
 use Rattle.conversion_theory.specs.Skeleton.{paramsFrom}
-use Rattle.ical_properties.proofs.ParamWalk.{value-one, texts-one, params-end, params-first, params-next, return-none, return-value, return-off, return-on}
+use Rattle.ical_properties.proofs.Parameters.{value-one, texts-one, params-end, params-first, params-next, return-none, return-value, return-off, return-on}
 use borrow.Author.Needs.{needs}
 use Rattle.ical_properties.proofs.params.may_return.Statement.{statement}
 use Rattle.ical_properties.proofs.params.may_return.Tie as tie

@@ -1,6 +1,6 @@
 -- `ical_properties::places::into_array` meets its contract.
 use mathlib.Core.Path.{sym, _∙_}
-use Rattle.ical_properties.proofs.Into.{into-array, into-no-array}
+use Rattle.ical_properties.proofs.PropertyPlaces.{into-array, into-no-array}
 use borrow.Author.Needs.{needs}
 use Rattle.ical_properties.proofs.places.into_array.Statement.{statement}
 use Rattle.ical_properties.proofs.places.into_array.Tie as tie

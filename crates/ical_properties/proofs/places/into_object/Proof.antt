@@ -1,6 +1,6 @@
 -- `ical_properties::places::into_object` meets its contract.
 use mathlib.Core.Path.{sym, _∙_}
-use Rattle.ical_properties.proofs.Into.{into-object, into-no-object}
+use Rattle.ical_properties.proofs.PropertyPlaces.{into-object, into-no-object}
 use borrow.Author.Needs.{needs}
 use Rattle.ical_properties.proofs.places.into_object.Statement.{statement}
 use Rattle.ical_properties.proofs.places.into_object.Tie as tie

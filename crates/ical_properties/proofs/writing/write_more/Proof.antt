@@ -9,7 +9,7 @@ use Rattle.tape.specs.Decode.{listAt}
 use Rattle.content.specs.Write.{moreValues}
 use Rattle.content.specs.Folding.{folding}
 use Rattle.content.proofs.Folding.{Leads, leads-start, leads-on, leads-end}
-use Rattle.ical_properties.proofs.ParamWalk.{texts-end, texts-next, more-none, more-next}
+use Rattle.ical_properties.proofs.Parameters.{texts-end, texts-next, more-none, more-next}
 use borrow.Author.Needs.{needs}
 use Rattle.ical_properties.proofs.writing.write_more.Statement.{statement}
 use Rattle.ical_properties.proofs.writing.write_more.Tie as tie

@@ -2,7 +2,7 @@
 use mathlib.Core.Path.{sym, ap, _∙_}
 use Rattle.content.proofs.Folding.{none, then, as-folded}
 use Rattle.ical_properties.specs.ParamValues.{paramValuesText}
-use Rattle.ical_properties.proofs.ParamWalk.{values-of, texts-end, texts-next, values-none, values-more}
+use Rattle.ical_properties.proofs.Parameters.{values-of, texts-end, texts-next, values-none, values-more}
 use borrow.Author.Needs.{needs}
 use Rattle.ical_properties.proofs.writing.write_param_values.Statement.{statement}
 use Rattle.ical_properties.proofs.writing.write_param_values.Tie as tie

@@ -9,7 +9,7 @@ use Rattle.content.specs.Write.{paramsText}
 use Rattle.content.proofs.Folding.{Leads, leads-start, leads-on, leads-end, as-folded}
 use Rattle.conversion_theory.specs.Skeleton.{paramsFrom}
 use Rattle.ical_properties.specs.ParamValues.{paramValuesText}
-use Rattle.ical_properties.proofs.ParamWalk.{value-one, values-one, params-end, params-next, params-none, params-more}
+use Rattle.ical_properties.proofs.Parameters.{value-one, values-one, params-end, params-next, params-none, params-more}
 use borrow.Author.Needs.{needs}
 use Rattle.ical_properties.proofs.writing.write_params.Statement.{statement}
 use Rattle.ical_properties.proofs.writing.write_params.Tie as tie

@@ -2,7 +2,7 @@
 use borrow.Author.Tests.{not-true, not-false}
 use mathlib.Core.Path.{sym, _∙_}
 use Rattle.octets.specs.Classes.{isLowerName}
-use Rattle.ical_skeleton.proofs.Named.{held-not, held-text}
+use Rattle.ical_skeleton.proofs.Names.{held-not, held-text}
 use borrow.Author.Needs.{needs}
 use Rattle.ical_skeleton.proofs.parameters.check_name.Statement.{statement}
 use Rattle.ical_skeleton.proofs.parameters.check_name.Tie as tie

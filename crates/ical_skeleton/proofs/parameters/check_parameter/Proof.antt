@@ -1,6 +1,6 @@
 -- `ical_skeleton::parameters::check_parameter` meets its contract.
 use mathlib.Core.Path.{sym, _∙_}
-use Rattle.ical_skeleton.proofs.Named.{parameter-string, parameter-empty, parameter-array}
+use Rattle.ical_skeleton.proofs.Names.{parameter-string, parameter-empty, parameter-array}
 use borrow.Author.Needs.{needs}
 use Rattle.ical_skeleton.proofs.parameters.check_parameter.Statement.{statement}
 use Rattle.ical_skeleton.proofs.parameters.check_parameter.Tie as tie

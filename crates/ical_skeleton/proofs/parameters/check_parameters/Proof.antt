@@ -5,7 +5,7 @@ use mathlib.Core.Path.{sym, _∙_}
 use native.Mathlib.Omega.{arith}
 use lib.ListN.{length}
 use Rattle.ical_skeleton.proofs.Lists.{passed, failed}
-use Rattle.ical_skeleton.proofs.Named.{object-not, Naming, naming-start, naming-end, naming-unnamed, naming-off, naming-next}
+use Rattle.ical_skeleton.proofs.Names.{object-not, Naming, naming-start, naming-end, naming-unnamed, naming-off, naming-next}
 use borrow.Author.Needs.{needs}
 use Rattle.ical_skeleton.proofs.parameters.check_parameters.Statement.{statement}
 use Rattle.ical_skeleton.proofs.parameters.check_parameters.Tie as tie

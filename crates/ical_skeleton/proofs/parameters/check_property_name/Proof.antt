@@ -2,7 +2,7 @@
 use borrow.Author.Tests.{not-true, not-false}
 use mathlib.Core.Path.{sym, ap, _∙_}
 use mathlib.Core.Bool.{not}
-use Rattle.ical_skeleton.proofs.Named.{held-not, held-text, no-name, named-begin, named-other}
+use Rattle.ical_skeleton.proofs.Names.{held-not, held-text, no-name, named-begin, named-other}
 use Rattle.conversion_theory.specs.Skeleton.{isPropertyName}
 use borrow.Author.Needs.{needs}
 use Rattle.ical_skeleton.proofs.parameters.check_property_name.Statement.{statement}

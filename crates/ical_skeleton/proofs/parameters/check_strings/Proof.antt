@@ -5,7 +5,7 @@ use native.Mathlib.Omega.{arith}
 use lib.ListN.{length}
 use Rattle.conversion_theory.specs.Skeleton.{isJsonString}
 use Rattle.ical_skeleton.proofs.Lists.{Passing, list-not, passing-start, passing-next, passing-off, passing-end}
-use Rattle.ical_skeleton.proofs.Named.{string-is, string-not}
+use Rattle.ical_skeleton.proofs.Names.{string-is, string-not}
 use borrow.Author.Needs.{needs}
 use Rattle.ical_skeleton.proofs.parameters.check_strings.Statement.{statement}
 use Rattle.ical_skeleton.proofs.parameters.check_strings.Tie as tie

@@ -8,7 +8,7 @@ use Rattle.json.specs.Tape.{tagArray}
 use Rattle.tape.specs.Decode.{pop, view, tagAt, valueAt, listAt, membersAt}
 use Rattle.tape.specs.declared.Text.{Text}
 use Rattle.conversion_theory.specs.Skeleton.{paramsFrom, propertyFrom}
-use Rattle.ical_properties.specs.declared.Parts.{Parts}
+use Rattle.ical_properties.specs.declared.PropertyParts.{PropertyParts}
 
 -- a stands in the group of the array at i, if an array stands there
 pub record InGroup (t : List ℕ) (i a : ℕ) : Type 0 where
@@ -31,7 +31,7 @@ pub record OctetsAre (t : List ℕ) (x : Text) (s : List ℕ) : Type 0 where
   pub within : x .to ≤ length t
 
 -- the parts of the property at i
-pub record PartsAt (t : List ℕ) (i : ℕ) (r : Parts) : Type 0 where
+pub record PartsAt (t : List ℕ) (i : ℕ) (r : PropertyParts) : Type 0 where
   pub name : OctetsAre t (r .name) (propertyFrom (valueAt t i) .name)
   pub params : paramsFrom (membersAt t (r .params)) ≡ propertyFrom (valueAt t i) .params
   pub kind : OctetsAre t (r .kind) (propertyFrom (valueAt t i) .type)

@@ -13,7 +13,7 @@ use Rattle.tape.proofs.Tags.{on-tape, past-tag}
 use Rattle.tape.proofs.Values.{pop-skip, no-elements, no-members, list-end, members-end, list-head, list-tail, list-behind}
 use Rattle.tape.proofs.Walks.{elements-inside, members-inside}
 use Rattle.conversion_theory.specs.Skeleton.{paramsFrom, propertyFrom}
-use Rattle.ical_properties.specs.Standing.{InGroup, IntoArray, IntoObject, OctetsAre, PartsAt}
+use Rattle.ical_properties.specs.PartPlaces.{InGroup, IntoArray, IntoObject, OctetsAre, PartsAt}
 
 module _ (t : List ℕ) (i : ℕ) where
   pub into-array : {a : ℕ} → After t i a → tagAt t i ≡ tagArray → IntoArray t i a

@@ -21,7 +21,7 @@ use Rattle.content.specs.Parameters.{called, isBase64, encodes, isEncoded, mayR
 use Rattle.content.specs.Write.{paramValueText, moreValues, paramText, paramsText}
 use Rattle.content.proofs.ParamText.{joined-values}
 use Rattle.conversion_theory.specs.Skeleton.{valuesFrom, paramsFrom}
-use Rattle.ical_properties.specs.Standing.{IntoArray}
+use Rattle.ical_properties.specs.PartPlaces.{IntoArray}
 use Rattle.ical_properties.specs.ParamValues.{paramValuesText}
 
 -- the octets that were read at a place

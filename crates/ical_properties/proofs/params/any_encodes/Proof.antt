@@ -1,4 +1,4 @@
--- `ical_properties::params::is_encoded` meets its contract.
+-- `ical_properties::params::any_encodes` meets its contract.
 use Prim.Native.Nat.{_-_}
 use mathlib.Core.Path.{_≡_, refl, sym, ap, _∙_}
 use native.Mathlib.Omega.{arith}
@@ -6,10 +6,10 @@ use lib.ListN.{length}
 use Rattle.tape.specs.Decode.{membersAt}
 use Rattle.content.specs.Parameters.{isEncoded}
 use Rattle.conversion_theory.specs.Skeleton.{paramsFrom}
-use Rattle.ical_properties.proofs.ParamWalk.{params-end, params-first, params-next, encoded-none, encoded-here, encoded-on}
+use Rattle.ical_properties.proofs.Parameters.{params-end, params-first, params-next, encoded-none, encoded-here, encoded-on}
 use borrow.Author.Needs.{needs}
-use Rattle.ical_properties.proofs.params.is_encoded.Statement.{statement}
-use Rattle.ical_properties.proofs.params.is_encoded.Tie as tie
+use Rattle.ical_properties.proofs.params.any_encodes.Statement.{statement}
+use Rattle.ical_properties.proofs.params.any_encodes.Tie as tie
 
 abbrev Inv-loop : tie.InvT-loop
 Inv-loop t at i₀ i = isEncoded (paramsFrom (membersAt t i)) ≡ isEncoded (paramsFrom (membersAt t at))
@@ -31,8 +31,8 @@ loop-less c =
 loop-again : tie.Need-loop-again Inv-loop μ-loop
 loop-again c = sym (ap isEncoded (params-next _ _ (λ e. c .before .before .before .before .before .if1 .left (c .before .before .before .before .before .before .tag .ensures ∙ e)) (c .before .before .before .before .text-at .ensures) (c .behind .ensures)) ∙ encoded-on _ _ _ (sym (c .before .before .encodes .ensures) ∙ c .before .if2 .left)) ∙ c .before .before .before .before .before .before .before .loop .inv
 
-pub is-encoded-spec : {M : Type 1} → statement M
-is-encoded-spec =
+pub any-encodes-spec : {M : Type 1} → statement M
+any-encodes-spec =
     tie.close
     (tie.spec
     Inv-loop
