@@ -15,19 +15,17 @@ use Rattle.octets.proofs.Limits.{most-levels}
 use Rattle.content.specs.Line.{Line}
 use Rattle.conversion_theory.specs.Tree.{Property, levels, levelsIn}
 use Rattle.conversion_theory.specs.Structure.{Event, begins, ends, carries, stray, Nest, fresh, closed, inside, fault, left, nest, nestAfter}
-use Rattle.jcal.specs.Walk.{behindEnd, levelAt, componentAt}
+use Rattle.jcal.specs.Components.{behindEnd, levelAt, componentAt}
+use Rattle.jcal.proofs.OpenComponents.{nest-closed, nest-fault}
 use Rattle.jcal.proofs.Levels.{level-ends, level-left, level-holds, level-passed, level-begins, level-entered}
 
 pub not-fresh {ℓ} : {P : Type ℓ} → _≡_ {A = Nest} fresh closed → P
 not-fresh e = let z : _≡_ {A = ℕ} 0 1 = cc in absurd (omega arith)
 
 fault-stays : (k : ℕ) (es : List (Event Line)) → nestAfter (fault k) es ≡ fault k
-unfolding nestAfter nest
+unfolding nestAfter
 fault-stays k [] = refl
-fault-stays k (begins n ∷ es) = fault-stays k es
-fault-stays k (ends n ∷ es) = fault-stays k es
-fault-stays k (carries l ∷ es) = fault-stays k es
-fault-stays k (stray ∷ es) = fault-stays k es
+fault-stays k (e ∷ es) = rw (nest-fault k e) (fault-stays k es)
 
 -- a fault on the way is none that closes
 faulty {ℓ} : {P : Type ℓ} (k : ℕ) (es : List (Event Line)) → nestAfter (fault k) es ≡ closed → P
@@ -81,12 +79,9 @@ module _ (f : Line → Answer Property) where
 
 -- nothing stands behind the END of the outermost component
 closed-none : (es : List (Event Line)) → nestAfter closed es ≡ closed → es ≡ []
-unfolding nestAfter nest
+unfolding nestAfter
 closed-none [] h = refl
-closed-none (begins n ∷ es) h = faulty 5 es h
-closed-none (ends n ∷ es) h = faulty 5 es h
-closed-none (carries l ∷ es) h = faulty 5 es h
-closed-none (stray ∷ es) h = faulty 5 es h
+closed-none (e ∷ es) h = faulty 5 es (rw (nest-closed e) at h)
 
 closed-behind : (es : List (Event Line)) (n : List ℕ) (ns : List (List ℕ)) → nestAfter (inside n ns) es ≡ closed → behindEnd (length ns) es ≡ []
 unfolding nestAfter nest left behindEnd

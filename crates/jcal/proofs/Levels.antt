@@ -16,7 +16,7 @@ use Rattle.conversion_theory.specs.Tree.{Property, leaf, grow, levels, levelsIn
 use Rattle.conversion_theory.specs.Structure.{Event, begins, ends, carries, stray}
 use Rattle.conversion_theory.specs.Growth.{behindEvent, eachProperty, Level, level, innermost, around, withProperty, withComponent, levelsFrom, outermost, treeOf}
 use Rattle.conversion_theory.specs.Jcal.{propertyJson, jcalOf, jcalsOf}
-use Rattle.jcal.specs.Walk.{propertyOr, isAccepted, readEvent, reads, behindEnd, outward, levelAt, componentAt, comma, itemsRest, propertiesText, subsText, nameText}
+use Rattle.jcal.specs.Components.{propertyOr, isAccepted, readEvent, reads, behindEnd, outward, levelAt, componentAt, comma, itemsRest, propertiesText, subsText, nameText}
 
 outward-none : (k : ℕ) → outward k [] ≡ []
 unfolding outward around

@@ -1,11 +1,11 @@
 pub mod Heads
-pub mod Telling
-pub mod Stacks
+pub mod LineKinds
+pub mod OpenComponents
 pub mod Levels
 pub mod Depths
 pub mod Order
-pub mod Turns
-pub mod Ahead
-pub mod Walking
+pub mod PropertyTests
+pub mod NextLines
+pub mod Properties
 pub mod Subcomponents
 pub mod Stages

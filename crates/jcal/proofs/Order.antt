@@ -14,8 +14,8 @@ use Rattle.conversion_theory.specs.Structure.{Event, begins, ends, carries, str
 use Rattle.jcal.specs.Events.{eventsIn, LineAt, lineTold, TellsLine}
 use Rattle.jcal.specs.Order.{mayStand, endsHere, orderedFrom, OrderKept, EndTold}
 use Rattle.jcal.specs.declared.events.LineKind.{LineKind}
-use Rattle.jcal.specs.Walk.{behindEnd, levelAt, propertiesText}
-use Rattle.jcal.proofs.Stacks.{events-none, events-told}
+use Rattle.jcal.specs.Components.{behindEnd, levelAt, propertiesText}
+use Rattle.jcal.proofs.OpenComponents.{events-none, events-told}
 use Rattle.jcal.proofs.Levels.{level-none, level-begins, level-entered, level-ends, level-left, level-passed, level-stray, listed-none}
 
 pub ordered-behind : (b : Bool) (k : ℕ) (es : List (Event Line)) → orderedFrom b es ≡ true → orderedFrom true (behindEnd k es) ≡ true

@@ -39,8 +39,8 @@ use Rattle.conversion_theory.specs.Jcal.{jcalOf}
 use Rattle.conversion_theory.specs.Property.{readProperty}
 use Rattle.conversion_theory.specs.ToJcal.{readLinesBy, readLines, reading, toJcal}
 use Rattle.jcal.specs.Events.{eventsIn, lineFrom, LineAt, nameFrom, lineTold, TellsLine}
-use Rattle.jcal.specs.Walk.{isAccepted, reads, eventTested, eachTested, behindEnd, nextOf, componentAt}
-use Rattle.jcal.specs.Walked.{ready, placeOf, PartWritten}
+use Rattle.jcal.specs.Components.{isAccepted, reads, eventTested, eachTested, behindEnd, nextOf, componentAt}
+use Rattle.jcal.specs.Placing.{ready, placeOf, PartWritten}
 use Rattle.jcal.specs.declared.components.Next.{Next}
 use Rattle.jcal.specs.Order.{mayStand, endsHere, orderedFrom, ordered}
 use Rattle.jcal.specs.Stages.{propertiesJcal, eventsJcal, linesJcal}
@@ -52,8 +52,8 @@ use Rattle.jcal.specs.declared.events.LineKind.the-variants.{Opens, Clos
 use Rattle.jcal.proofs.events.LineKind.{the-type}
 use Rattle.jcal.proofs.Levels.{grown, tree-is}
 use Rattle.jcal.proofs.Depths.{not-fresh, Passes, passes}
-use Rattle.jcal.proofs.Stacks.{events-told}
-use Rattle.jcal.proofs.Turns.{turn-passed}
+use Rattle.jcal.proofs.OpenComponents.{events-told}
+use Rattle.jcal.proofs.PropertyTests.{turn-passed}
 
 refused-same : {A : Type 0} {m n : ℕ} → _≡_ {A = Answer A} (refused m) (refused n) → m ≡ n
 refused-same e = cc
@@ -127,20 +127,6 @@ module _ (f : Line → Answer Property) (es : List (Event Line)) where
   pairs h = rw h
 
 -- 3 and 4
-tested-refused : (a b : Bool) (ls : List (List ℕ)) {C : Type 0} (g : Unit {0} → Answer Component) (h : Component → Answer C) (n : ℕ)
-    → refused n ≡ unless 3 a (λ _. unless 4 b (λ _. accepted ls)) → refused n ≡ then (unless 3 a (λ _. unless 4 b g)) h
-unfolding unless then
-tested-refused true true ls g h n e = not-accepted e
-tested-refused true false ls g h n e = ap refused (refused-same e)
-tested-refused false b ls g h n e = ap refused (refused-same e)
-
-tested-accepted : (a b : Bool) (ls ms : List (List ℕ)) {C : Type 0} (g : Unit {0} → Answer Component) (h : Component → Answer C)
-    → accepted ms ≡ unless 3 a (λ _. unless 4 b (λ _. accepted ls)) → (ms ≡ ls) × (then (unless 3 a (λ _. unless 4 b g)) h ≡ then (g tt) h)
-unfolding unless then
-tested-accepted true true ls ms g h e = (accepted-same e, refl)
-tested-accepted true false ls ms g h e = not-accepted (sym e)
-tested-accepted false b ls ms g h e = not-accepted (sym e)
-
 module _ (f : Line → Answer Property) where
   properties-tree : (a : Answer (List (Event Property))) → then (then a (λ ps. accepted (treeOf ps))) (λ c. accepted (print (jcalOf c))) ≡ then a (λ ps. accepted (print (jcalOf (treeOf ps))))
   unfolding then
@@ -158,17 +144,14 @@ module _ (f : Line → Answer Property) where
     told-tested = rw (le-leb (length (laidOut (linesOf text))) (length b) (omega (arith, laid-short text))) at (k .told)
 
     pub lines-failed : (n : ℕ) → linesTold after r ≡ refused n → refused n ≡ linesJcal f (linesOf text)
-    unfolding linesJcal readLinesBy contentLines
-    lines-failed n e = tested-refused (all clean (linesOf text)) (all formed (linesOf text)) (linesOf text) _ _ n (sym e ∙ told-tested)
-
-    lines-accepted : (n : ℕ) → linesTold after r ≡ accepted (cutLines (take n after)) → eventsJcal f (eventsIn (take (n - 0) (drop 0 after))) ≡ linesJcal f (linesOf text)
-    unfolding linesJcal readLinesBy contentLines eventsJcal eventsIn
-    lines-accepted n e =
-        let t = tested-accepted (all clean (linesOf text)) (all formed (linesOf text)) (linesOf text) (cutLines (take n after)) _ (λ c. accepted (print (jcalOf c))) (sym e ∙ told-tested) in
-        sym (t .1 ∙ events-tree _ ∙ rw (upto after n, t .0))
+    unfolding linesJcal readLinesBy then
+    lines-failed n e = rw (sym told-tested ∙ e)
 
     pub lines-laid : (n : ℕ) → r ≡ Laid n → eventsJcal f (eventsIn (take (n - 0) (drop 0 after))) ≡ linesJcal f (linesOf text)
-    lines-laid n q = lines-accepted n (unfold linesTold in rw q)
+    unfolding linesJcal readLinesBy eventsJcal eventsIn
+    lines-laid n q =
+        let t : contentLines (linesOf text) ≡ accepted (cutLines (take n after)) = sym told-tested ∙ (unfold linesTold in rw q) in
+        sym (rw t (unfold then in events-tree _) ∙ rw (upto after n))
 
 pub laid-within : (m n : ℕ) (r : Lines) → LaidWithin m r → r ≡ Laid n → n ≤ m
 laid-within m n r h q = rw q at h
@@ -233,18 +216,14 @@ module _ (f : Line → Answer Property) (s : List ℕ) (e : ℕ) (h : LineAt s 0
     unfolding lineTold
     first-opens = events-told s 0 e (Opens n) h t
 
+    begun-first : (begun .name ≡ nameFrom s n) × (begun .body ≡ next)
+    begun-first = let a : begins (begun .name) ∷ begun .body ≡ begins (nameFrom s n) ∷ next = sym (begun .begun) ∙ first-opens in ((cc), (cc))
+
     pub calendar-few : levels (componentAt f (nameFrom s n) next) ≤ mostLevels
-    calendar-few =
-        let a : begins (begun .name) ∷ begun .body ≡ begins (nameFrom s n) ∷ next = sym (begun .begun) ∙ first-opens in
-        let b : begun .name ≡ nameFrom s n = cc in
-        let c : begun .body ≡ next = cc in
-        rw (← b, ← c) (begun .few)
+    calendar-few = rw (← (begun-first .0), ← (begun-first .1)) (begun .few)
 
     calendar-alone : behindEnd 0 next ≡ []
-    calendar-alone =
-        let a : begins (begun .name) ∷ begun .body ≡ begins (nameFrom s n) ∷ next = sym (begun .begun) ∙ first-opens in
-        let c : begun .body ≡ next = cc in
-        rw (← c) (begun .alone)
+    calendar-alone = rw (← (begun-first .1)) (begun .alone)
 
     calendar-grows : isAccepted (eachProperty f (eventsIn s)) ≡ true → accepted (print (jcalOf (componentAt f (nameFrom s n) next))) ≡ propertiesJcal f (eventsIn s)
     unfolding propertiesJcal then

@@ -16,14 +16,14 @@ use Rattle.conversion_theory.specs.Structure.{Event, begins, ends}
 use Rattle.conversion_theory.specs.Jcal.{jcalOf}
 use Rattle.jcal.specs.Events.{eventsIn, nameFrom, Named}
 use Rattle.jcal.specs.Order.{mayStand, endsHere, orderedFrom}
-use Rattle.jcal.specs.Walk.{reads, eventTested, eachTested, behindEnd, nextOf, levelAt, componentAt, comma, propertiesText, subsText, nameText}
-use Rattle.jcal.specs.Walked.{ready, Finds, placeOf, Found, PartWritten, PartPlaced}
+use Rattle.jcal.specs.Components.{reads, eventTested, eachTested, behindEnd, nextOf, levelAt, componentAt, comma, propertiesText, subsText, nameText}
+use Rattle.jcal.specs.Placing.{ready, Finds, placeOf, Found, PartWritten, PartPlaced}
 use Rattle.jcal.specs.declared.components.Next.{Next}
 use Rattle.jcal.specs.declared.components.Next.the-variants.{Sub, End, Refused}
 use Rattle.jcal.proofs.Levels.{few-opens, behind-within, subs-ends, subs-begins, component-text}
-use Rattle.jcal.proofs.Turns.{turn-passed}
-use Rattle.jcal.proofs.Ahead.{next-subs, next-text, next-behind, ready-next, ready-behind, next-tested}
-use Rattle.jcal.proofs.Walking.{finds-from, places-found}
+use Rattle.jcal.proofs.PropertyTests.{turn-passed}
+use Rattle.jcal.proofs.NextLines.{next-subs, next-text, next-behind, ready-next, ready-behind, next-tested}
+use Rattle.jcal.proofs.Properties.{finds-from, places-found}
 
 -- no refusal
 abbrev Told : Next → Type 0

@@ -1,6 +1,6 @@
 pub mod Events
 pub mod Nesting
 pub mod Order
-pub mod Walk
-pub mod Walked
+pub mod Components
+pub mod Placing
 pub mod Stages

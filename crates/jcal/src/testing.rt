@@ -6,7 +6,7 @@ ghost use Rattle.conversion_theory.specs.Property.{readProperty};
 ghost use Rattle.conversion_theory.specs.Growth.{eachProperty};
 ghost use Rattle.jcal.specs.Events.{eventAt, eventsIn, lineFrom, LineAt};
 ghost use Rattle.jcal_properties.specs.Passed.{testSaid};
-ghost use Rattle.jcal.specs.Walk.{eventTested};
+ghost use Rattle.jcal.specs.Components.{eventTested};
 use crate::events::LineKind;
 use crate::events::end_at;
 use crate::events::kind_at;

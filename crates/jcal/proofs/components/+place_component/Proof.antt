@@ -49,21 +49,6 @@ place-component-Inv-loop buf rows name e in-order left out₀ at a next₀ first
 abbrev place-component-μ-loop : place-component-lts.MeasureT-loop
 place-component-μ-loop buf rows name e in-order left out₀ at a next₀ first₀ t20 out next first = behindIt buf next
 
-place-component-open-component-requires : (t : ℕ) → place-component-lts.Need-open-component-requires (claims-place-component t) (place-component-at t) place-component.Post place-component-Inv-loop place-component-μ-loop
-place-component-open-component-requires t c κs =
-    let at-start = c .before .before .before .before in
-    at-start .pre .1 .0
-
-place-component-add-place-properties : (t : ℕ) → place-component-lts.Need-add-place-properties (claims-place-component t) (place-component-at t) place-component.Post place-component-Inv-loop place-component-μ-loop
-place-component-add-place-properties t c =
-    let at-start = c .before .before .before .before .before .before .before in
-    omega (arith, at-start .pre .1 .0 .high)
-
-place-component-place-properties-requires : (t : ℕ) → place-component-lts.Need-place-properties-requires (claims-place-component t) (place-component-at t) place-component.Post place-component-Inv-loop place-component-μ-loop
-place-component-place-properties-requires t c κs =
-    let at-start = c .before .before .before .before .before .before .before .before in
-    at-start .pre .1 .1 .0
-
 place-component-loop-holds : (t : ℕ) → place-component-lts.Need-loop-holds (claims-place-component t) (place-component-at t) place-component.Post place-component-Inv-loop place-component-μ-loop
 place-component-loop-holds t c =
     let at-place-properties = c .before .before in
@@ -73,23 +58,20 @@ place-component-loop-holds t c =
 place-component-sub-place-component : (t : ℕ) → place-component-lts.Need-sub-place-component (claims-place-component t) (place-component-at t) place-component.Post place-component-Inv-loop place-component-μ-loop
 place-component-sub-place-component t c =
     let at-next = c .before .before .before .before .before in
-    let at-loop = at-next .before .before in
-    left-some _ _ _ _ _ _ _ _ _ _ _ _ _ (rw (at-next .next .given .1) at (at-loop .loop .inv .1))
+    left-some _ _ _ _ _ _ _ _ _ _ _ _ _ (rw (at-next .next .given .1) at (at-next .before .before .loop .inv .1))
 
 place-component-place-component-requires : (t : ℕ) → place-component-lts.Need-place-component-requires (claims-place-component t) (place-component-at t) place-component.Post place-component-Inv-loop place-component-μ-loop
 place-component-place-component-requires t c κs =
     let at-next = c .before .before .before .before .before .before in
     let at-loop = at-next .before .before in
-    let at-start = at-loop .before .before .before .before .before .before .before .before .before .before .before .before in
     let g = rw (at-next .next .given .1) at (at-loop .loop .inv .1) in
-    (omega (arith, at-start .pre .0, left-some _ _ _ _ _ _ _ _ _ _ _ _ _ g), (g .0, (sub-ready _ _ _ _ _ _ _ _ _ _ _ _ _ g, sub-few _ _ _ _ _ _ _ _ _ _ _ _ _ g)))
+    (omega (arith, at-loop .before .before .before .before .before .before .before .before .before .before .before .before .pre .0, left-some _ _ _ _ _ _ _ _ _ _ _ _ _ g), (g .0, (sub-ready _ _ _ _ _ _ _ _ _ _ _ _ _ g, sub-few _ _ _ _ _ _ _ _ _ _ _ _ _ g)))
 
 place-component-loop-less : (t : ℕ) → place-component-lts.Need-loop-less (claims-place-component t) (place-component-at t) place-component.Post place-component-Inv-loop place-component-μ-loop
 place-component-loop-less t c =
     let at-place-component = c .before .before in
     let at-next = at-place-component .before .before .before .before .before .before .before in
-    let at-loop = at-next .before .before in
-    let g = rw (at-next .next .given .1) at (at-loop .loop .inv .1) in
+    let g = rw (at-next .next .given .1) at (at-next .before .before .loop .inv .1) in
     rw (at-next .next .given .1) (sub-less _ _ _ _ _ _ _ _ _ _ _ _ _ g _ _ (at-place-component .place-component .result) (at-place-component .place-component .ensures))
 
 place-component-loop-again : (t : ℕ) → place-component-lts.Need-loop-again (claims-place-component t) (place-component-at t) place-component.Post place-component-Inv-loop place-component-μ-loop
@@ -107,14 +89,12 @@ place-component-returns t c =
     let at-next2 = at-put-all .before .before .before .before in
     let at-loop = at-next2 .before .before in
     let at-place-properties = at-loop .before .before .before in
-    let at-open-component = at-place-properties .before .before .before .before in
-    sub-ends _ _ _ _ _ _ _ _ _ _ _ _ (rw (at-next2 .next2 .given .1) at (at-loop .loop .inv .1)) _ _ _ (at-open-component .open-component .ensures) (at-place-properties .place-properties .ensures) _ _ (at-put-all .put-all .ensures) _ (c .next-at .ensures)
+    sub-ends _ _ _ _ _ _ _ _ _ _ _ _ (rw (at-next2 .next2 .given .1) at (at-loop .loop .inv .1)) _ _ _ (at-place-properties .before .before .before .before .open-component .ensures) (at-place-properties .place-properties .ensures) _ _ (at-put-all .put-all .ensures) _ (c .next-at .ensures)
 
 place-component-returns-2 : (t : ℕ) → place-component-lts.Need-returns-2 (claims-place-component t) (place-component-at t) place-component.Post place-component-Inv-loop place-component-μ-loop
 place-component-returns-2 t c =
     let at-next3 = c .before in
-    let at-loop = at-next3 .before .before in
-    rw (at-next3 .next3 .given .1) at (at-loop .loop .inv .1)
+    rw (at-next3 .next3 .given .1) at (at-next3 .before .before .loop .inv .1)
 
 pub +place-component-spec : {M : Type 1} → statement M
 +place-component-spec = close μ-place-component λ t. place-component-lts.spec (claims-place-component t)
@@ -122,9 +102,9 @@ pub +place-component-spec : {M : Type 1} → statement M
     place-component.Post
     place-component-Inv-loop
     place-component-μ-loop
-    (place-component-open-component-requires t)
-    (place-component-add-place-properties t)
-    (place-component-place-properties-requires t)
+    (λ c κs. c .before .before .before .before .pre .1 .0)
+    (λ c. omega (arith, c .before .before .before .before .before .before .before .pre .1 .0 .high))
+    (λ c κs. c .before .before .before .before .before .before .before .before .pre .1 .1 .0)
     (place-component-loop-holds t)
     (λ c. search needs)
     (λ c κs. search needs)

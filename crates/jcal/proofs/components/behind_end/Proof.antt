@@ -5,9 +5,9 @@ use native.Mathlib.Omega.{arith}
 use borrow.Author.Needs.{needs}
 use lib.ListN.{length, drop}
 use Rattle.jcal.specs.Events.{eventsIn}
-use Rattle.jcal.specs.Walk.{behindEnd}
-use Rattle.jcal.proofs.Telling.{told-as}
-use Rattle.jcal.proofs.Ahead.{over-opens, over-closes, over-end, over-other, over-none}
+use Rattle.jcal.specs.Components.{behindEnd}
+use Rattle.jcal.proofs.LineKinds.{told-as}
+use Rattle.jcal.proofs.NextLines.{over-opens, over-closes, over-end, over-other, over-none}
 use Rattle.jcal.proofs.components.behind_end.Statement.{statement}
 use Rattle.jcal.proofs.components.behind_end.Tie as tie
 
@@ -48,24 +48,8 @@ pub behind-end-spec : {M : Type 1} → statement M
 behind-end-spec =
     tie.close
     (tie.spec
-    Inv-loop
-    μ-loop
-    (λ c. (omega arith, omega arith, refl))
-    (λ c κs. search needs)
-    (λ c κs. search needs)
-    (λ c. search needs)
-    (λ c. omega arith)
-    (λ c. omega arith)
-    (λ c. omega arith)
-    loop-again
-    (λ c. search needs)
-    (λ c. omega arith)
-    returns
-    (λ c. omega arith)
-    (λ c. omega arith)
-    (λ c. omega arith)
-    loop-again-2
-    (λ c. omega arith)
-    (λ c. omega arith)
-    loop-again-3
+    Inv-loop μ-loop (λ c. (omega arith, omega arith, refl)) (λ c κs. search needs) (λ c κs. search needs)
+    (λ c. search needs) (λ c. omega arith) (λ c. omega arith) (λ c. omega arith) loop-again (λ c. search needs)
+    (λ c. omega arith) returns (λ c. omega arith) (λ c. omega arith) (λ c. omega arith) loop-again-2 (λ c. omega arith)
+    (λ c. omega arith) loop-again-3
     (λ c. let inv = c .before .loop .inv in over-none _ _ _ (inv .0) _ (inv .2) (c .loop-test .left)))

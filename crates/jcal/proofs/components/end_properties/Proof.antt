@@ -6,22 +6,14 @@ use Rattle.jcal.proofs.components.end_properties.Tie as tie
 returns : tie.Need-returns
 returns c =
     let at-put-all = c .before .before .before in
-    let at-start = at-put-all .before .before .before .before .before in
-    record { finds = at-start .pre (c .if1 .taken); wrote = at-put-all .put-all .ensures }
+    record { finds = at-put-all .before .before .before .before .before .pre (c .if1 .taken); wrote = at-put-all .put-all .ensures }
 
 returns-2 : tie.Need-returns-2
-returns-2 c =
-    let at-put-all = c .before .before .before .before in
-    record { finds = c .next-at .ensures .finds; wrote = rw (c .next-at .ensures .place) (at-put-all .put-all .ensures) }
+returns-2 c = record { finds = c .next-at .ensures .finds; wrote = rw (c .next-at .ensures .place) (c .before .before .before .before .put-all .ensures) }
 
 pub end-properties-spec : {M : Type 1} → statement M
 end-properties-spec =
     tie.close
     (tie.spec
-    (λ c. search needs)
-    (λ c κs. search needs)
-    (λ c. search needs)
-    returns
-    (λ c κs. search needs)
-    (λ c. search needs)
+    (λ c. search needs) (λ c κs. search needs) (λ c. search needs) returns (λ c κs. search needs) (λ c. search needs)
     returns-2)

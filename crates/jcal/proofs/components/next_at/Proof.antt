@@ -5,9 +5,9 @@ use native.Mathlib.Omega.{arith}
 use borrow.Author.Needs.{needs}
 use lib.ListN.{length, drop}
 use Rattle.jcal.specs.Events.{eventsIn}
-use Rattle.jcal.specs.Walk.{nextOf}
-use Rattle.jcal.proofs.Telling.{told-as}
-use Rattle.jcal.proofs.Ahead.{next-other, next-opens, next-closes, next-none}
+use Rattle.jcal.specs.Components.{nextOf}
+use Rattle.jcal.proofs.LineKinds.{told-as}
+use Rattle.jcal.proofs.NextLines.{next-other, next-opens, next-closes, next-none}
 use Rattle.jcal.proofs.components.next_at.Statement.{statement}
 use Rattle.jcal.proofs.components.next_at.Tie as tie
 
@@ -46,17 +46,5 @@ pub next-at-spec : {M : Type 1} → statement M
 next-at-spec =
     tie.close
     (tie.spec
-    Inv-loop
-    μ-loop
-    (λ c. (omega arith, refl))
-    (λ c κs. search needs)
-    (λ c κs. search needs)
-    (λ c. search needs)
-    returns
-    (λ c. search needs)
-    (λ c. omega arith)
-    returns-2
-    (λ c. omega arith)
-    (λ c. omega arith)
-    loop-again
-    returns-3)
+    Inv-loop μ-loop (λ c. (omega arith, refl)) (λ c κs. search needs) (λ c κs. search needs) (λ c. search needs) returns
+    (λ c. search needs) (λ c. omega arith) returns-2 (λ c. omega arith) (λ c. omega arith) loop-again returns-3)

@@ -6,8 +6,8 @@ use Rattle.octets.proofs.Pen.{then, as-text}
 use Rattle.octets.specs.Basics.{octets}
 use Rattle.json.specs.Print.{printString}
 use Rattle.jcal.specs.Events.{nameFrom}
-use Rattle.jcal.specs.Walk.{nameText}
-use Rattle.jcal.proofs.Stacks.{name-part}
+use Rattle.jcal.specs.Components.{nameText}
+use Rattle.jcal.proofs.OpenComponents.{name-part}
 use Rattle.jcal.proofs.components.open_component.Statement.{statement}
 use Rattle.jcal.proofs.components.open_component.Tie as tie
 
@@ -24,12 +24,5 @@ pub open-component-spec : {M : Type 1} → statement M
 open-component-spec =
     tie.close
     (tie.spec
-    (λ c κs. search needs)
-    (λ c. search needs)
-    (λ c. search needs)
-    (λ c. search needs)
-    (λ c κs. search needs)
-    (λ c. search needs)
-    (λ c κs. search needs)
-    (λ c. search needs)
-    returns)
+    (λ c κs. search needs) (λ c. search needs) (λ c. search needs) (λ c. search needs) (λ c κs. search needs)
+    (λ c. search needs) (λ c κs. search needs) (λ c. search needs) returns)

@@ -26,8 +26,7 @@ returns c =
     let at-place-component = at-at .before .before .before .before in
     let at-outermost-name = at-place-component .before .before in
     let at-end-at = at-outermost-name .before in
-    let at-start = at-end-at .before .before .before .before in
-    at-finish .finish .ensures ∙ calendar-placed _ _ _ (at-end-at .end-at .ensures) (at-start .pre .0) _ (at-outermost-name .outermost-name .ensures) _ _ (Sub _ _ _) (rw (at-at .at .given .1) at (at-place-component .place-component .ensures))
+    at-finish .finish .ensures ∙ calendar-placed _ _ _ (at-end-at .end-at .ensures) (at-end-at .before .before .before .before .pre .0) _ (at-outermost-name .outermost-name .ensures) _ _ (Sub _ _ _) (rw (at-at .at .given .1) at (at-place-component .place-component .ensures))
 
 returns-2 : tie.Need-returns-2
 returns-2 c =
@@ -36,8 +35,7 @@ returns-2 c =
     let at-place-component = at-at2 .before .before .before .before in
     let at-outermost-name = at-place-component .before .before in
     let at-end-at = at-outermost-name .before in
-    let at-start = at-end-at .before .before .before .before in
-    at-finish2 .finish2 .ensures ∙ calendar-placed _ _ _ (at-end-at .end-at .ensures) (at-start .pre .0) _ (at-outermost-name .outermost-name .ensures) _ _ (End _ _) (rw (at-at2 .at2 .given .1) at (at-place-component .place-component .ensures))
+    at-finish2 .finish2 .ensures ∙ calendar-placed _ _ _ (at-end-at .end-at .ensures) (at-end-at .before .before .before .before .pre .0) _ (at-outermost-name .outermost-name .ensures) _ _ (End _ _) (rw (at-at2 .at2 .given .1) at (at-place-component .place-component .ensures))
 
 returns-3 : tie.Need-returns-3
 returns-3 c =
@@ -54,17 +52,6 @@ place-calendar-spec =
     tie.close
     (tie.spec
     (λ c κs. some-line _ (c .before .before .before .pre .0))
-    (λ c κs. (c .end-at .ensures, c .before .before .before .before .pre .0))
-    place-component-requires
-    (λ c. search needs)
-    (λ c κs. search needs)
-    (λ c. search needs)
-    (λ c κs. search needs)
-    (λ c. search needs)
-    (λ c κs. search needs)
-    (λ c. search needs)
-    returns
-    (λ c. search needs)
-    returns-2
-    (λ c. search needs)
-    returns-3)
+    (λ c κs. (c .end-at .ensures, c .before .before .before .before .pre .0)) place-component-requires
+    (λ c. search needs) (λ c κs. search needs) (λ c. search needs) (λ c κs. search needs) (λ c. search needs)
+    (λ c κs. search needs) (λ c. search needs) returns (λ c. search needs) returns-2 (λ c. search needs) returns-3)

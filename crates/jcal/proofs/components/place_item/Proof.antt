@@ -2,7 +2,7 @@
 use borrow.Author.Needs.{needs}
 use Rattle.types.specs.Laid.{tableIn}
 use Rattle.content.specs.Line.{lineOf}
-use Rattle.jcal.proofs.Walking.{item-placed}
+use Rattle.jcal.proofs.Properties.{item-placed}
 use Rattle.jcal.proofs.components.place_item.Statement.{statement}
 use Rattle.jcal.proofs.components.place_item.Tie as tie
 

@@ -1,7 +1,7 @@
 -- `jcal::components::put_comma` meets its contract.
 use borrow.Author.Needs.{needs}
 use Rattle.octets.proofs.Pen.{nothing}
-use Rattle.jcal.specs.Walk.{comma}
+use Rattle.jcal.specs.Components.{comma}
 use Rattle.jcal.proofs.components.put_comma.Statement.{statement}
 use Rattle.jcal.proofs.components.put_comma.Tie as tie
 
@@ -9,12 +9,10 @@ returns-2 : tie.Need-returns-2
 unfolding comma
 returns-2 c =
     let at-put = c .before .before in
-    let at-if1 = at-put .before .before in
-    rw (at-if1 .if1 .left) (at-put .put .ensures)
+    rw (at-put .before .before .if1 .left) (at-put .put .ensures)
 
 pub put-comma-spec : {M : Type 1} → statement M
 put-comma-spec =
     tie.close
     (tie.spec
-    (λ c. unfold comma in rw (c .if1 .taken) nothing) (λ c κs. search needs) (λ c. search needs)
-    returns-2)
+    (λ c. unfold comma in rw (c .if1 .taken) nothing) (λ c κs. search needs) (λ c. search needs) returns-2)

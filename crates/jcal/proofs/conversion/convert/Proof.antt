@@ -12,13 +12,7 @@ part-convert-text-end : tie.Need-part-convert-text-end
 part-convert-text-end c =
     let at-n = c .before .before in
     let at-read-rows = at-n .before .before .before .before in
-    let at-start = at-read-rows .before .before .before .before .before .before .before in
-    rows-read _ _ _ _ (at-start .pre .0) (at-read-rows .read-rows .ensures) _ (at-n .n .given .1) .within
-
-convert-text-requires : tie.Need-convert-text-requires
-convert-text-requires c κs =
-    let at-start = c .before .before .before .before .before .before .before .before .before .before .before .before .before .before .before .before in
-    at-start .pre .1 .0
+    rows-read _ _ _ _ (at-read-rows .before .before .before .before .before .before .before .pre .0) (at-read-rows .read-rows .ensures) _ (at-n .n .given .1) .within
 
 returns : tie.Need-returns
 returns c =
@@ -40,18 +34,7 @@ pub convert-spec : {M : Type 1} → statement M
 convert-spec =
     tie.close
     (tie.spec
-    (λ c κs. search needs)
-    (λ c. search needs)
-    (λ c. search needs)
-    (λ c. search needs)
-    part-convert-text-end
-    convert-text-requires
-    (λ c. search needs)
-    (λ c κs. search needs)
-    (λ c. search needs)
-    (λ c. search needs)
-    (λ c. search needs)
-    returns
-    (λ c. search needs)
-    (λ c. search needs)
-    returns-2)
+    (λ c κs. search needs) (λ c. search needs) (λ c. search needs) (λ c. search needs) part-convert-text-end
+    (λ c κs. c .before .before .before .before .before .before .before .before .before .before .before .before .before .before .before .before .pre .1 .0)
+    (λ c. search needs) (λ c κs. search needs) (λ c. search needs) (λ c. search needs) (λ c. search needs) returns
+    (λ c. search needs) (λ c. search needs) returns-2)

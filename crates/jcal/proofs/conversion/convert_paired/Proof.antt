@@ -7,7 +7,7 @@ use borrow.Author.Needs.{needs}
 use borrow.Author.Tests.{not-true, not-false}
 use Rattle.octets.specs.Answers.{Answer, answer}
 use Rattle.jcal.proofs.Stages.{properties-failed, ready-tested, ready-ordered}
-use Rattle.jcal.proofs.Turns.{passed-as, failed-as}
+use Rattle.jcal.proofs.PropertyTests.{passed-as, failed-as}
 use Rattle.jcal.proofs.conversion.convert_paired.Statement.{statement}
 use Rattle.jcal.proofs.conversion.convert_paired.Tie as tie
 
@@ -16,8 +16,7 @@ returns c =
     let at-refuse = c .before .before in
     let at-why = at-refuse .before .before .before in
     let at-test-properties = at-why .before .before in
-    let at-start = at-test-properties .before .before .before .before .before in
-    at-refuse .refuse .ensures ∙ ap (λ (a : Answer (List ℕ)). answer a (at-start .args .out .now)) (properties-failed _ _ _ (failed-as (at-test-properties .test-properties .ensures) (at-why .why .given .1)))
+    at-refuse .refuse .ensures ∙ ap (λ (a : Answer (List ℕ)). answer a (at-test-properties .before .before .before .before .before .args .out .now)) (properties-failed _ _ _ (failed-as (at-test-properties .test-properties .ensures) (at-why .why .given .1)))
 
 place-calendar-requires : tie.Need-place-calendar-requires
 place-calendar-requires c κs =
@@ -27,12 +26,5 @@ pub convert-paired-spec : {M : Type 1} → statement M
 convert-paired-spec =
     tie.close
     (tie.spec
-    (λ c κs. search needs)
-    (λ c. search needs)
-    (λ c κs. search needs)
-    (λ c. search needs)
-    returns
-    (λ c. search needs)
-    place-calendar-requires
-    (λ c. search needs)
-    (λ c. search needs))
+    (λ c κs. search needs) (λ c. search needs) (λ c κs. search needs) (λ c. search needs) returns (λ c. search needs)
+    place-calendar-requires (λ c. search needs) (λ c. search needs))

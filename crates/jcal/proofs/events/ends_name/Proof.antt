@@ -6,9 +6,6 @@ use Rattle.jcal.proofs.Heads.{ends-none, ends-semicolon, ends-colon, no
 use Rattle.jcal.proofs.events.ends_name.Statement.{statement}
 use Rattle.jcal.proofs.events.ends_name.Tie as tie
 
-returns : tie.Need-returns
-returns c = sym (ap not (ends-none (c .before .args .line .now) (c .before .args .n) (c .if1 .taken)))
-
 returns-2 : tie.Need-returns-2
 returns-2 c =
     let at-if1 = c .before .before in
@@ -24,4 +21,7 @@ returns-3 c =
 
 pub ends-name-spec : {M : Type 1} → statement M
 ends-name-spec =
-    tie.close (tie.spec returns (λ c. search needs) returns-2 (λ c. search needs) returns-3)
+    tie.close
+    (tie.spec
+    (λ c. sym (ap not (ends-none (c .before .args .line .now) (c .before .args .n) (c .if1 .taken))))
+    (λ c. search needs) returns-2 (λ c. search needs) returns-3)

@@ -21,19 +21,10 @@ returns-2 c =
     let at-start = at-if1 .before .before in
     sym (bounds-semicolon (at-start .args .line .now) (at-start .args .n) (at-start .pre) (at-if1 .if1 .taken) (c .if2 .left))
 
-returns-3 : tie.Need-returns-3
-returns-3 c = sym (bounds-none (c .before .before .args .line .now) (c .before .before .args .n) (c .before .before .pre) (c .if1 .left))
-
 pub has-bounds-spec : {M : Type 1} → statement M
 has-bounds-spec =
     tie.close
     (tie.spec
-    (λ c. search needs)
-    (λ c. search needs)
-    (λ c. search needs)
-    (λ c. search needs)
-    (λ c. search needs)
-    (λ c κs. search needs)
-    returns
-    returns-2
-    returns-3)
+    (λ c. search needs) (λ c. search needs) (λ c. search needs) (λ c. search needs) (λ c. search needs)
+    (λ c κs. search needs) returns returns-2
+    (λ c. sym (bounds-none (c .before .before .args .line .now) (c .before .before .args .n) (c .before .before .pre) (c .if1 .left))))

@@ -2,27 +2,24 @@
 use mathlib.Core.Path.{sym, _∙_}
 use native.Mathlib.Omega.{arith}
 use borrow.Author.Needs.{needs}
-use Rattle.jcal.proofs.Stacks.{first-else, first-opens, first-other}
+use Rattle.jcal.proofs.OpenComponents.{first-else, first-opens, first-other}
 use Rattle.jcal.proofs.nesting.after_first.Statement.{statement}
 use Rattle.jcal.proofs.nesting.after_first.Tie as tie
 
 sub-same-name : tie.Need-sub-same-name
 sub-same-name c =
     let at-kind = c .before in
-    let at-start = at-kind .before .before .before in
-    omega (arith, (rw (at-kind .kind .given .1) at (at-start .pre .0)) .low)
+    omega (arith, (rw (at-kind .kind .given .1) at (at-kind .before .before .before .pre .0)) .low)
 
 part-same-name-start : tie.Need-part-same-name-start
 part-same-name-start c =
     let at-kind = c .before in
-    let at-start = at-kind .before .before .before in
-    (rw (at-kind .kind .given .1) at (at-start .pre .0)) .low
+    (rw (at-kind .kind .given .1) at (at-kind .before .before .before .pre .0)) .low
 
 part-same-name-end : tie.Need-part-same-name-end
 part-same-name-end c =
     let at-kind = c .before in
-    let at-start = at-kind .before .before .before in
-    (rw (at-kind .kind .given .1) at (at-start .pre .0)) .high
+    (rw (at-kind .kind .given .1) at (at-kind .before .before .before .pre .0)) .high
 
 returns : tie.Need-returns
 returns c =
@@ -47,13 +44,5 @@ pub after-first-spec : {M : Type 1} → statement M
 after-first-spec =
     tie.close
     (tie.spec
-    (λ c. search needs)
-    sub-same-name
-    part-same-name-start
-    part-same-name-end
-    (λ c. search needs)
-    (λ c κs. search needs)
-    (λ c. search needs)
-    returns
-    returns-2
-    returns-3)
+    (λ c. search needs) sub-same-name part-same-name-start part-same-name-end (λ c. search needs) (λ c κs. search needs)
+    (λ c. search needs) returns returns-2 returns-3)

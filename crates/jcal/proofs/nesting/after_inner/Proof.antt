@@ -4,7 +4,7 @@ use native.Mathlib.Omega.{arith}
 use borrow.Author.Tests.{not-true, not-false}
 use borrow.Author.Needs.{needs}
 use Rattle.octets.proofs.Limits.{most-levels}
-use Rattle.jcal.proofs.Stacks.{inner-opens, inner-deep, inner-other, inner-last, inner-closes, inner-plain, inner-broken}
+use Rattle.jcal.proofs.OpenComponents.{inner-opens, inner-deep, inner-other, inner-last, inner-closes, inner-plain, inner-broken}
 use Rattle.jcal.proofs.nesting.after_inner.Statement.{statement}
 use Rattle.jcal.proofs.nesting.after_inner.Tie as tie
 
@@ -17,20 +17,17 @@ returns c =
 sub-is-named : tie.Need-sub-is-named
 sub-is-named c =
     let at-kind2 = c .before .before in
-    let at-start = at-kind2 .before .before .before in
-    omega (arith, (rw (at-kind2 .kind2 .given .1) at (at-start .pre .0)) .low)
+    omega (arith, (rw (at-kind2 .kind2 .given .1) at (at-kind2 .before .before .before .pre .0)) .low)
 
 part-is-named-start : tie.Need-part-is-named-start
 part-is-named-start c =
     let at-kind2 = c .before .before in
-    let at-start = at-kind2 .before .before .before in
-    (rw (at-kind2 .kind2 .given .1) at (at-start .pre .0)) .low
+    (rw (at-kind2 .kind2 .given .1) at (at-kind2 .before .before .before .pre .0)) .low
 
 part-is-named-end : tie.Need-part-is-named-end
 part-is-named-end c =
     let at-kind2 = c .before .before in
-    let at-start = at-kind2 .before .before .before in
-    (rw (at-kind2 .kind2 .given .1) at (at-start .pre .0)) .high
+    (rw (at-kind2 .kind2 .given .1) at (at-kind2 .before .before .before .pre .0)) .high
 
 returns-2 : tie.Need-returns-2
 returns-2 c =
@@ -75,24 +72,7 @@ pub after-inner-spec : {M : Type 1} → statement M
 after-inner-spec =
     tie.close
     (tie.spec
-    (λ c. search needs)
-    (λ c. omega (arith, most-levels))
-    (λ c. search needs)
-    (λ c. search needs)
-    returns
-    (λ c. search needs)
-    (λ c. omega (arith, most-levels))
-    (λ c. omega (arith, most-levels))
-    sub-is-named
-    part-is-named-start
-    part-is-named-end
-    (λ c κs. search needs)
-    returns-2
-    returns-3
-    (λ c. search needs)
-    (λ c. search needs)
-    (λ c. search needs)
-    returns-4
-    returns-5
-    returns-6
-    returns-7)
+    (λ c. search needs) (λ c. omega (arith, most-levels)) (λ c. search needs) (λ c. search needs) returns
+    (λ c. search needs) (λ c. omega (arith, most-levels)) (λ c. omega (arith, most-levels)) sub-is-named
+    part-is-named-start part-is-named-end (λ c κs. search needs) returns-2 returns-3 (λ c. search needs)
+    (λ c. search needs) (λ c. search needs) returns-4 returns-5 returns-6 returns-7)

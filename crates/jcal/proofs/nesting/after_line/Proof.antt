@@ -1,7 +1,7 @@
 -- `jcal::nesting::after_line` meets its contract.
 use borrow.Author.Needs.{needs}
 use Rattle.jcal.specs.Nesting.{nestOf}
-use Rattle.jcal.proofs.Stacks.{complete-on, wrong-on, few-as}
+use Rattle.jcal.proofs.OpenComponents.{complete-on, wrong-on, few-as}
 use Rattle.jcal.proofs.nesting.after_line.Statement.{statement}
 use Rattle.jcal.proofs.nesting.after_line.Tie as tie
 
@@ -10,18 +10,6 @@ after-inner-requires c κs =
     let at-nesting = c .before .before in
     let at-start = at-nesting .before .before .before in
     (at-start .pre .0, (few-as (at-start .pre .1 .0) (at-nesting .nesting .given .1), at-start .pre .1 .1))
-
-returns : tie.Need-returns
-unfolding nestOf
-returns c =
-    let at-enum-told = c .before .before in
-    rw (at-enum-told .enum-told .given .1) (c .after-first .ensures)
-
-returns-2 : tie.Need-returns-2
-unfolding nestOf
-returns-2 c =
-    let at-nesting = c .before .before .before in
-    rw (at-nesting .nesting .given .1) (c .after-inner .ensures)
 
 returns-3 : tie.Need-returns-3
 returns-3 c =
@@ -38,13 +26,7 @@ pub after-line-spec : {M : Type 1} → statement M
 after-line-spec =
     tie.close
     (tie.spec
-    (λ c. search needs)
-    (λ c κs. search needs)
-    (λ c. search needs)
-    after-inner-requires
-    (λ c. search needs)
-    (λ c. search needs)
-    returns
-    returns-2
-    returns-3
+    (λ c. search needs) (λ c κs. search needs) (λ c. search needs) after-inner-requires (λ c. search needs)
+    (λ c. search needs) (λ c. unfold nestOf in rw (c .before .before .enum-told .given .1) (c .after-first .ensures))
+    (λ c. unfold nestOf in rw (c .before .before .before .nesting .given .1) (c .after-inner .ensures)) returns-3
     returns-4)

@@ -2,7 +2,7 @@
 use mathlib.Core.Path.{sym, _∙_}
 use native.Mathlib.Omega.{arith}
 use borrow.Author.Needs.{needs}
-use Rattle.jcal.proofs.Stacks.{named-none, named-part, same-empty}
+use Rattle.jcal.proofs.OpenComponents.{named-none, named-part, same-empty}
 use Rattle.jcal.proofs.nesting.is_named.Statement.{statement}
 use Rattle.jcal.proofs.nesting.is_named.Tie as tie
 
@@ -21,10 +21,5 @@ pub is-named-spec : {M : Type 1} → statement M
 is-named-spec =
     tie.close
     (tie.spec
-    returns
-    (λ c κs. search needs)
-    (λ c. omega arith)
-    (λ c. omega arith)
-    (λ c. search needs)
-    (λ c κs. search needs)
+    returns (λ c κs. search needs) (λ c. omega arith) (λ c. omega arith) (λ c. search needs) (λ c κs. search needs)
     returns-2)

@@ -12,7 +12,7 @@ use Rattle.jcal.specs.Order.{ordered, orderedFrom}
 use Rattle.jcal.specs.Nesting.{nestOf, aroundOf}
 use Rattle.jcal.specs.Events.{eventsIn}
 use Rattle.jcal.proofs.Order.{order-on, order-end}
-use Rattle.jcal.proofs.Stacks.{nests-on, nests-end}
+use Rattle.jcal.proofs.OpenComponents.{nests-on, nests-end}
 use Rattle.jcal.proofs.nesting.test_structure.Statement.{statement}
 use Rattle.jcal.proofs.nesting.test_structure.Tie as tie
 
@@ -21,10 +21,6 @@ Inv-loop buf names₀ nesting₀ in-order₀ behind₀ i₀ names nesting in-ord
 
 abbrev μ-loop : tie.MeasureT-loop
 μ-loop buf names₀ nesting₀ in-order₀ behind₀ i₀ names nesting in-order behind i = length buf - i
-
-loop-holds : tie.Need-loop-holds Inv-loop μ-loop
-unfolding nestOf ordered
-loop-holds c = (refl, rw most-levels (omega arith), sym most-levels, refl)
 
 after-line-requires : tie.Need-after-line-requires Inv-loop μ-loop
 after-line-requires c κs =
@@ -55,16 +51,6 @@ pub test-structure-spec : {M : Type 1} → statement M
 test-structure-spec =
     tie.close
     (tie.spec
-    Inv-loop
-    μ-loop
-    loop-holds
-    (λ c κs. search needs)
-    (λ c κs. search needs)
-    after-line-requires
-    (λ c κs. search needs)
-    (λ c κs. search needs)
-    (λ c. omega arith)
-    (λ c. omega arith)
-    loop-again
-    (λ c κs. search needs)
-    returns)
+    Inv-loop μ-loop (λ c. unfold nestOf ordered in (refl, rw most-levels (omega arith), sym most-levels, refl))
+    (λ c κs. search needs) (λ c κs. search needs) after-line-requires (λ c κs. search needs) (λ c κs. search needs)
+    (λ c. omega arith) (λ c. omega arith) loop-again (λ c κs. search needs) returns)

@@ -2,8 +2,8 @@
 use mathlib.Core.Path.{_∙_}
 use borrow.Author.Needs.{needs}
 use Rattle.jcal_properties.specs.Passed.{testSaid}
-use Rattle.jcal.proofs.Turns.{other-tested, plain-tested}
-use Rattle.jcal.proofs.Telling.{told-as, line-is}
+use Rattle.jcal.proofs.PropertyTests.{other-tested, plain-tested}
+use Rattle.jcal.proofs.LineKinds.{told-as, line-is}
 use Rattle.jcal.proofs.testing.test_line.Statement.{statement}
 use Rattle.jcal.proofs.testing.test_line.Tie as tie
 
@@ -18,11 +18,6 @@ pub test-line-spec : {M : Type 1} → statement M
 test-line-spec =
     tie.close
     (tie.spec
-    (λ c κs. c .before .before .pre)
-    (λ c. search needs)
-    (λ c. search needs)
-    (λ c. search needs)
-    (λ c. search needs)
-    (λ c κs. search needs)
-    returns
+    (λ c κs. c .before .before .pre) (λ c. search needs) (λ c. search needs) (λ c. search needs) (λ c. search needs)
+    (λ c κs. search needs) returns
     (λ c. unfold testSaid in other-tested _ _ _ _ _ (c .match .keys2) (c .before .kind-at .ensures)))

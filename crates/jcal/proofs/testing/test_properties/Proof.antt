@@ -8,8 +8,8 @@ use Rattle.types.specs.Laid.{tableIn}
 use Rattle.conversion_theory.specs.Property.{readProperty}
 use Rattle.jcal_properties.specs.Passed.{testSaid}
 use Rattle.jcal.specs.Events.{eventsIn}
-use Rattle.jcal.specs.Walk.{eachTested}
-use Rattle.jcal.proofs.Turns.{passed-as, failed-as, turn-none, turn-on, turn-off}
+use Rattle.jcal.specs.Components.{eachTested}
+use Rattle.jcal.proofs.PropertyTests.{passed-as, failed-as, turn-none, turn-on, turn-off}
 use Rattle.jcal.proofs.testing.test_properties.Statement.{statement}
 use Rattle.jcal.proofs.testing.test_properties.Tie as tie
 
@@ -24,8 +24,7 @@ loop-again c =
     let at-test-line = c .before .before in
     let at-end-at = at-test-line .before in
     let at-loop = at-end-at .before .before in
-    let at-start = at-loop .before .before .before in
-    at-loop .loop .inv ∙ turn-on _ (at-start .args .buf .now) (at-loop .loop .i) (at-end-at .end-at .result) (at-end-at .end-at .ensures) (passed-as (at-test-line .test-line .ensures) (c .enum-told .given .1))
+    at-loop .loop .inv ∙ turn-on _ (at-loop .before .before .before .args .buf .now) (at-loop .loop .i) (at-end-at .end-at .result) (at-end-at .end-at .ensures) (passed-as (at-test-line .test-line .ensures) (c .enum-told .given .1))
 
 returns : tie.Need-returns Inv-loop μ-loop
 unfolding testSaid
@@ -34,29 +33,17 @@ returns c =
     let at-test-line = at-why .before .before in
     let at-end-at = at-test-line .before in
     let at-loop = at-end-at .before .before in
-    let at-start = at-loop .before .before .before in
-    turn-off _ (at-start .args .buf .now) (at-loop .loop .i) (at-end-at .end-at .result) (at-end-at .end-at .ensures) _ (failed-as (at-test-line .test-line .ensures) (at-why .why .given .1)) ∙ sym (at-loop .loop .inv)
+    turn-off _ (at-loop .before .before .before .args .buf .now) (at-loop .loop .i) (at-end-at .end-at .result) (at-end-at .end-at .ensures) _ (failed-as (at-test-line .test-line .ensures) (at-why .why .given .1)) ∙ sym (at-loop .loop .inv)
 
 returns-2 : tie.Need-returns-2 Inv-loop μ-loop
 unfolding testSaid
 returns-2 c =
     let at-loop = c .before in
-    let at-start = at-loop .before .before .before in
-    turn-none _ (at-start .args .buf .now) (at-loop .loop .i) (c .loop-test .left) ∙ sym (at-loop .loop .inv)
+    turn-none _ (at-loop .before .before .before .args .buf .now) (at-loop .loop .i) (c .loop-test .left) ∙ sym (at-loop .loop .inv)
 
 pub test-properties-spec : {M : Type 1} → statement M
 test-properties-spec =
     tie.close
     (tie.spec
-    Inv-loop
-    μ-loop
-    (λ c. refl)
-    (λ c κs. search needs)
-    (λ c κs. search needs)
-    (λ c. search needs)
-    (λ c. omega arith)
-    (λ c. omega arith)
-    loop-again
-    (λ c. search needs)
-    returns
-    returns-2)
+    Inv-loop μ-loop (λ c. refl) (λ c κs. search needs) (λ c κs. search needs) (λ c. search needs) (λ c. omega arith)
+    (λ c. omega arith) loop-again (λ c. search needs) returns returns-2)

@@ -15,11 +15,11 @@ use Rattle.jcal_properties.specs.Passed.{testSaid}
 use Rattle.jcal_properties.specs.declared.Tested.{Tested}
 use Rattle.jcal_properties.specs.declared.Tested.the-variants.{Passed, Failed}
 use Rattle.jcal.specs.Events.{eventAt, eventsIn, lineFrom, LineAt, lineTold, TellsLine}
-use Rattle.jcal.specs.Walk.{eventTested, eachTested}
+use Rattle.jcal.specs.Components.{eventTested, eachTested}
 use Rattle.jcal.specs.declared.events.LineKind.{LineKind}
 use Rattle.jcal.specs.declared.events.LineKind.the-variants.{Opens, Closes, Plain, Broken}
 use Rattle.jcal.proofs.events.LineKind.{the-type}
-use Rattle.jcal.proofs.Stacks.{events-here, events-none}
+use Rattle.jcal.proofs.OpenComponents.{events-here, events-none}
 
 -- what a returned `Tested` says, where it is known which
 pub passed-as : {r : Tested} {a : Answer (Unit {0})} → testSaid r ≡ a → r ≡ Passed → accepted tt ≡ a

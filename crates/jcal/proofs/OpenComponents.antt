@@ -33,7 +33,7 @@ use Rattle.jcal.specs.declared.events.LineKind.the-variants.{Opens, Clos
 use Rattle.jcal.specs.declared.nesting.Nesting.{Nesting}
 use Rattle.jcal.specs.declared.nesting.Nesting.the-variants.{Unbegun, Within, Complete, Wrong}
 use Rattle.jcal.proofs.events.LineKind.{the-type}
-use Rattle.jcal.proofs.Telling.{line-is}
+use Rattle.jcal.proofs.LineKinds.{line-is}
 
 -- a name is nothing where it has no octets
 pub same-empty : (n : List ℕ) → same (lower n) [] ≡ eqb (length n) 0
@@ -143,14 +143,14 @@ module _ (s xs : List ℕ) (room : length xs ≡ mostLevels) where
   inner-broken d i = record { is = refl; few = few 0 (omega arith); room = room }
 
 -- behind the outermost component, and behind a fault
-nest-closed : (e : Event Line) → nest closed e ≡ fault 5
+pub nest-closed : (e : Event Line) → nest closed e ≡ fault 5
 unfolding nest
 nest-closed (begins m) = refl
 nest-closed (ends m) = refl
 nest-closed (carries a) = refl
 nest-closed stray = refl
 
-nest-fault : (k : ℕ) (e : Event Line) → nest (fault k) e ≡ fault k
+pub nest-fault : (k : ℕ) (e : Event Line) → nest (fault k) e ≡ fault k
 unfolding nest
 nest-fault k (begins m) = refl
 nest-fault k (ends m) = refl

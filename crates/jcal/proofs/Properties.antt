@@ -20,17 +20,17 @@ use Rattle.jcal_properties.specs.declared.Placed.{Placed}
 use Rattle.jcal_properties.specs.declared.Placed.the-variants.{At, Failed}
 use Rattle.jcal.specs.Events.{eventsIn, lineFrom, LineAt, nameFrom, lineTold, TellsLine}
 use Rattle.jcal.specs.Order.{mayStand, endsHere, orderedFrom}
-use Rattle.jcal.specs.Walk.{propertyOr, isAccepted, reads, eventTested, eachTested, nextOf, comma, propertiesText}
-use Rattle.jcal.specs.Walked.{ready, ItemStands, PlacesItem, Behind, EndNext, Finds, placeOf, PartPlaced}
+use Rattle.jcal.specs.Components.{propertyOr, isAccepted, reads, eventTested, eachTested, nextOf, comma, propertiesText}
+use Rattle.jcal.specs.Placing.{ready, ItemStands, PlacesItem, Behind, EndNext, Finds, placeOf, PartPlaced}
 use Rattle.jcal.specs.declared.components.Next.{Next}
 use Rattle.jcal.specs.declared.components.Next.the-variants.{Sub, End, Refused}
 use Rattle.jcal.specs.declared.events.LineKind.{LineKind}
 use Rattle.jcal.specs.declared.events.LineKind.the-variants.{Opens, Closes, Plain, Broken}
-use Rattle.jcal.proofs.Stacks.{events-none, events-told}
+use Rattle.jcal.proofs.OpenComponents.{events-none, events-told}
 use Rattle.jcal.proofs.Levels.{reads-behind, properties-none, properties-stray, properties-ends, properties-begins, properties-holds, not-refused}
 use Rattle.jcal.proofs.Order.{properties-end}
-use Rattle.jcal.proofs.Turns.{turn-passed, turn-failed}
-use Rattle.jcal.proofs.Ahead.{accepts-tested, next-tested}
+use Rattle.jcal.proofs.PropertyTests.{turn-passed, turn-failed}
+use Rattle.jcal.proofs.NextLines.{accepts-tested, next-tested}
 
 -- a comma and a property are an item
 pub item-placed : (t : Table) (l : Line) (first : Bool) (out : List ℕ) (r : Placed) {p m : Pen} → Wrote p (comma first) m → PlacesProperty t l m out r → PlacesItem (readProperty t l) first p out r

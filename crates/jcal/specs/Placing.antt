@@ -16,7 +16,7 @@ use Rattle.jcal_properties.specs.declared.Placed.{Placed}
 use Rattle.jcal_properties.specs.declared.Placed.the-variants.{At, Failed}
 use Rattle.jcal.specs.Events.{eventsIn, nameFrom, Named}
 use Rattle.jcal.specs.Order.{orderedFrom}
-use Rattle.jcal.specs.Walk.{propertyOr, isAccepted, reads, eachTested, behindEnd, nextOf, comma}
+use Rattle.jcal.specs.Components.{propertyOr, isAccepted, reads, eachTested, behindEnd, nextOf, comma}
 use Rattle.jcal.specs.declared.components.Next.{Next}
 use Rattle.jcal.specs.declared.components.Next.the-variants.{Sub, End, Refused}
 

@@ -16,15 +16,15 @@ use Rattle.conversion_theory.specs.Tree.{Property}
 use Rattle.conversion_theory.specs.Structure.{Event, begins, ends, carries, stray}
 use Rattle.jcal.specs.Events.{eventsIn, LineAt, nameFrom, lineTold, TellsLine}
 use Rattle.jcal.specs.Order.{mayStand, endsHere, orderedFrom}
-use Rattle.jcal.specs.Walk.{isAccepted, reads, eventTested, eachTested, behindEnd, nextOf, levelAt, subsText}
-use Rattle.jcal.specs.Walked.{ready, Behind, SubNext, EndNext}
+use Rattle.jcal.specs.Components.{isAccepted, reads, eventTested, eachTested, behindEnd, nextOf, levelAt, subsText}
+use Rattle.jcal.specs.Placing.{ready, Behind, SubNext, EndNext}
 use Rattle.jcal.specs.declared.events.LineKind.{LineKind}
 use Rattle.jcal.specs.declared.events.LineKind.the-variants.{Opens, Closes, Plain, Broken}
 use Rattle.jcal.proofs.events.LineKind.{the-type}
-use Rattle.jcal.proofs.Stacks.{events-none, events-told}
+use Rattle.jcal.proofs.OpenComponents.{events-none, events-told}
 use Rattle.jcal.proofs.Levels.{level-none, level-stray, level-ends, level-holds, reads-behind}
 use Rattle.jcal.proofs.Order.{ordered-behind}
-use Rattle.jcal.proofs.Turns.{turn-passed}
+use Rattle.jcal.proofs.PropertyTests.{turn-passed}
 
 -- what an accepted answer tests
 pub accepts-tested : {A : Type 0} (a : Answer A) → isAccepted a ≡ true → accepted (tt {0}) ≡ then a (λ _. accepted tt)
