@@ -9,7 +9,7 @@ use octets::put;
 use octets::put_lower;
 
 // Writes a text in lowercase as a string, octet by octet.
-fn put_quoted(out: &mut [u8], at: usize, name: &[u8]) -> usize
+fn put_lower_string(out: &mut [u8], at: usize, name: &[u8]) -> usize
     ensures { λ r. ⌜ Wrote (pen (now (out .entry)) at) (printString (lower (now (name .entry)))) (pen (now (out .exit)) r) ⌝ }
 {
     let mut to = put(out, at, b'"');
@@ -30,5 +30,5 @@ pub fn put_name(out: &mut [u8], at: usize, name: &[u8]) -> usize
         let b = put_lower(out, a, &*name);
         return put(out, b, b'"');
     }
-    put_quoted(out, at, &*name)
+    put_lower_string(out, at, &*name)
 }

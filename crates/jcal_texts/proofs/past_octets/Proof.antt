@@ -16,13 +16,12 @@ Inv-loop s at i₀ i = Passed runOctet s at i
 abbrev μ-loop : tie.MeasureT-loop
 μ-loop s at i₀ i = length s - i
 
-loop-again : tie.Need-loop-again Inv-loop μ-loop
-loop-again c = passed-more (c .before .before .before .before .loop .inv) (c .before .before .before .loop-test .taken) (sym (c .before .is-run-octet .ensures) ∙ not-false _ (c .if1 .left))
-
 pub past-octets-spec : {M : Type 1} → statement M
 past-octets-spec =
     tie.close
     (tie.spec
     Inv-loop μ-loop (λ c. passed-none (c .before .pre)) (λ c. search needs) (λ c κs. search needs)
     (λ c. run-over (c .before .before .before .before .loop .inv) (sym (c .before .is-run-octet .ensures) ∙ not-true _ (c .if1 .taken)))
-    (λ c. search needs) (λ c. search needs) loop-again (λ c. run-end (c .before .loop .inv) (c .loop-test .left)))
+    (λ c. search needs) (λ c. search needs)
+    (λ c. passed-more (c .before .before .before .before .loop .inv) (c .before .before .before .loop-test .taken) (sym (c .before .is-run-octet .ensures) ∙ not-false _ (c .if1 .left)))
+    (λ c. run-end (c .before .loop .inv) (c .loop-test .left)))

@@ -18,9 +18,6 @@ Inv-loop s at n i₀ i = Passed runOctet s at i
 abbrev μ-loop : tie.MeasureT-loop
 μ-loop s at n i₀ i = length s - i
 
-loop-again : tie.Need-loop-again Inv-loop μ-loop
-loop-again c = passed-part (c .before .before .before .before .before .loop .inv) (omega arith) (omega arith) (sym (c .before .all-run .ensures) ∙ not-false _ (c .if2 .left))
-
 pub past-run-spec : {M : Type 1} → statement M
 past-run-spec =
     tie.close
@@ -29,4 +26,6 @@ past-run-spec =
     (λ c. run-on (c .before .before .before .loop .inv) (c .past-octets .ensures)) (λ c. search needs)
     (λ c. search needs) (λ c. search needs) (λ c. search needs) (λ c κs. search needs) (λ c κs. search needs)
     (λ c. run-on (c .before .before .before .before .before .before .loop .inv) (c .past-octets2 .ensures))
-    (λ c. search needs) (λ c. search needs) loop-again (λ c. run-end (c .before .loop .inv) (c .loop-test .left)))
+    (λ c. search needs) (λ c. search needs)
+    (λ c. passed-part (c .before .before .before .before .before .loop .inv) (omega arith) (omega arith) (sym (c .before .all-run .ensures) ∙ not-false _ (c .if2 .left)))
+    (λ c. run-end (c .before .loop .inv) (c .loop-test .left)))

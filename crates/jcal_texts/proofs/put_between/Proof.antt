@@ -30,9 +30,6 @@ inside c = omega (arith, c .before .before .before .before .before .before .past
 octet : (c : tie.After-known-told Inv-loop μ-loop) → StepsAt (c .before .before .before .before .before .before .before .before .before .before .before .before .before .before .args .sep) (c .before .before .before .before .before .before .before .before .before .before .before .before .before .before .args .other) (c .before .before .before .before .before .before .before .before .before .before .before .before .before .before .args .s .now) (c .before .before .before .before .before .before .before .before .before .before .past-run .result) (Octet (c .before .c .given .0 .0) (c .before .c .given .0 .1 .0))
 octet c = rw (c .before .c .given .1) at (c .before .before .before .step-at .ensures)
 
-returns : tie.Need-returns Inv-loop μ-loop
-returns c = walked-end _ _ _ (passed (c .before .before .before .before .before)) _ _ (omega (arith, c .before .before .before .before .if1 .taken)) (c .before .before .put .ensures)
-
 loop-less : tie.Need-loop-less Inv-loop μ-loop
 loop-less c = omega (arith, octet (c .before .before .before .before) .0, octet (c .before .before .before .before) .1, c .before .before .before .before .before .before .before .before .before .before .before .before .before .before .past-run .ensures .above)
 
@@ -53,7 +50,9 @@ put-between-spec =
     (tie.spec
     Inv-loop μ-loop (λ c. (omega arith, omega arith, refl, refl, walked-start _ _ _)) (λ c κs. search needs)
     (λ c. search needs) (λ c. search needs) (λ c. search needs) (λ c κs. search needs) (λ c κs. search needs)
-    (λ c. search needs) returns (λ c κs. inside c) (λ c. search needs) (λ c κs. search needs) loop-less loop-again
-    (λ c. search needs) (λ c. search needs) (λ c κs. search needs) (λ c. search needs) (λ c. search needs) loop-less-2
-    loop-again-2 (λ c. search needs) (λ c. search needs)
+    (λ c. search needs)
+    (λ c. walked-end _ _ _ (passed (c .before .before .before .before .before)) _ _ (omega (arith, c .before .before .before .before .if1 .taken)) (c .before .before .put .ensures))
+    (λ c κs. inside c) (λ c. search needs) (λ c κs. search needs) loop-less loop-again (λ c. search needs)
+    (λ c. search needs) (λ c κs. search needs) (λ c. search needs) (λ c. search needs) loop-less-2 loop-again-2
+    (λ c. search needs) (λ c. search needs)
     (λ c. walked-wrong _ _ _ (passed (c .before .before .before .before)) (rw (c .enum-told2 .given .1) at (c .before .before .step-at .ensures))))

@@ -19,4 +19,4 @@ put-name-spec =
     tie.close
     (tie.spec
     (λ c κs. search needs) (λ c κs. search needs) (λ c κs. search needs) (λ c κs. search needs) (λ c. search needs)
-    returns (λ c κs. search needs) (λ c. search needs) (λ c. c .before .before .put-quoted .ensures))
+    returns (λ c κs. search needs) (λ c. search needs) (λ c. c .before .before .put-lower-string .ensures))

@@ -9,30 +9,15 @@ use Rattle.jcal_properties.proofs.PropertyParts.{bounded-as}
 use Rattle.jcal_properties.proofs.property.code_of.Statement.{statement}
 use Rattle.jcal_properties.proofs.property.code_of.Tie as tie
 
-sub-code-named : tie.Need-sub-code-named
-sub-code-named c =
-    let at-kind = c .before in
-    let at-start = at-kind .before .before .before in
-    bounded-as (length (at-start .args .params .now)) _ (at-start .pre) (at-kind .kind .given .1) .0
-
-part-code-named-start : tie.Need-part-code-named-start
-part-code-named-start c =
-    let at-kind = c .before in
-    let at-start = at-kind .before .before .before in
-    bounded-as (length (at-start .args .params .now)) _ (at-start .pre) (at-kind .kind .given .1) .0
-
-part-code-named-end : tie.Need-part-code-named-end
-part-code-named-end c =
-    let at-kind = c .before in
-    let at-start = at-kind .before .before .before in
-    bounded-as (length (at-start .args .params .now)) _ (at-start .pre) (at-kind .kind .given .1) .1
-
 pub code-of-spec : {M : Type 1} → statement M
 code-of-spec =
     tie.close
     (tie.spec
-    (λ c. search needs) (λ c κs. search needs) (λ c. search needs) sub-code-named part-code-named-start
-    part-code-named-end (λ c κs. search needs) (λ c. search needs) (λ c κs. search needs)
+    (λ c. search needs) (λ c κs. search needs) (λ c. search needs)
+    (λ c. bounded-as (length (c .before .before .before .before .args .params .now)) _ (c .before .before .before .before .pre) (c .before .kind .given .1) .0)
+    (λ c. bounded-as (length (c .before .before .before .before .args .params .now)) _ (c .before .before .before .before .pre) (c .before .kind .given .1) .0)
+    (λ c. bounded-as (length (c .before .before .before .before .args .params .now)) _ (c .before .before .before .before .pre) (c .before .kind .given .1) .1)
+    (λ c κs. search needs) (λ c. search needs) (λ c κs. search needs)
     (λ c. unfold valueTypeSaid namedType in c .default-code .ensures ∙ rw (c .before .enum-told .given .1))
     (λ c. unfold valueTypeSaid namedType codeOf in c .code-named .ensures ∙ rw (c .before .before .before .kind .given .1))
     (λ c. unfold valueTypeSaid namedType in c .default-code2 .ensures ∙ rw (c .before .enum-told2 .given .1)))

@@ -5,24 +5,12 @@ use borrow.Author.Needs.{needs}
 use Rattle.jcal_properties.proofs.property.params_fit.Statement.{statement}
 use Rattle.jcal_properties.proofs.property.params_fit.Tie as tie
 
-returns-2 : tie.Need-returns-2
-returns-2 c =
-    let at-if1 = c .before .before in
-    params-absent _ _ _ (sym (at-if1 .before .name-twice .ensures) ∙ at-if1 .if1 .left) (c .enum-told .given .1)
-
-returns-3 : tie.Need-returns-3
-returns-3 c =
-    let at-if1 = c .before .before in
-    params-named _ _ _ (sym (at-if1 .before .name-twice .ensures) ∙ at-if1 .if1 .left) _ _ (c .enum-told2 .given .1)
-
-returns-4 : tie.Need-returns-4
-returns-4 c =
-    let at-if1 = c .before .before in
-    params-faulty _ _ _ (sym (at-if1 .before .name-twice .ensures) ∙ at-if1 .if1 .left) (c .enum-told3 .given .1)
-
 pub params-fit-spec : {M : Type 1} → statement M
 params-fit-spec =
     tie.close
     (tie.spec
     (λ c κs. search needs) (λ c. params-twice _ _ (sym (c .before .name-twice .ensures) ∙ c .if1 .taken))
-    (λ c. search needs) (λ c. search needs) (λ c. search needs) returns-2 returns-3 returns-4)
+    (λ c. search needs) (λ c. search needs) (λ c. search needs)
+    (λ c. params-absent _ _ _ (sym (c .before .before .before .name-twice .ensures) ∙ c .before .before .if1 .left) (c .enum-told .given .1))
+    (λ c. params-named _ _ _ (sym (c .before .before .before .name-twice .ensures) ∙ c .before .before .if1 .left) _ _ (c .enum-told2 .given .1))
+    (λ c. params-faulty _ _ _ (sym (c .before .before .before .name-twice .ensures) ∙ c .before .before .if1 .left) (c .enum-told3 .given .1)))

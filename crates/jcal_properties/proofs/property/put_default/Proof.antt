@@ -16,15 +16,10 @@ returns c =
     let at-put = at-put-type-name .before .before .before .before in
     rw (at-put .before .before .before .found .given .1) (as-text (then (then (at-put .put .ensures) (at-put-type-name .put-type-name .ensures)) (at-put2 .put2 .ensures)) (type-quoted _))
 
-returns-2 : tie.Need-returns-2
-unfolding typeOf rowFound printString quoted escaped
-returns-2 c =
-    let at-put-all = c .before .before in
-    rw (at-put-all .before .before .before .enum-told .given .1) (at-put-all .put-all .ensures)
-
 pub put-default-spec : {M : Type 1} → statement M
 put-default-spec =
     tie.close
     (tie.spec
     (λ c. search needs) (λ c κs. search needs) (λ c κs. search needs) (λ c κs. search needs) (λ c. search needs)
-    (λ c. search needs) (λ c κs. search needs) (λ c. search needs) returns (λ c. search needs) returns-2)
+    (λ c. search needs) (λ c κs. search needs) (λ c. search needs) returns (λ c. search needs)
+    (λ c. unfold typeOf rowFound printString quoted escaped in rw (c .before .before .before .before .before .enum-told .given .1) (c .before .before .put-all .ensures)))

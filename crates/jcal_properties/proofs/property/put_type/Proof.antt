@@ -26,28 +26,14 @@ part-put-name-end c =
     let at-start = at-kind .before .before .before .before in
     bounded-as (length (at-start .args .params .now)) _ (at-start .pre) (at-kind .kind .given .1) .1
 
-returns : tie.Need-returns
-unfolding valueTypeSaid namedType
-returns c =
-    let at-put-default = c .before .before in
-    rw (at-put-default .before .before .enum-told .given .1) (at-put-default .put-default .ensures)
-
-returns-2 : tie.Need-returns-2
-unfolding valueTypeSaid namedType typeOf
-returns-2 c =
-    let at-put-name = c .before .before in
-    rw (at-put-name .before .before .before .before .kind .given .1) (at-put-name .put-name .ensures)
-
-returns-3 : tie.Need-returns-3
-unfolding valueTypeSaid namedType
-returns-3 c =
-    let at-put-default2 = c .before .before in
-    rw (at-put-default2 .before .before .enum-told2 .given .1) (at-put-default2 .put-default2 .ensures)
-
 pub put-type-spec : {M : Type 1} → statement M
 put-type-spec =
     tie.close
     (tie.spec
     (λ c. search needs) (λ c κs. search needs) (λ c. search needs) sub-put-name part-put-name-start part-put-name-end
-    (λ c κs. search needs) (λ c. search needs) (λ c κs. search needs) (λ c. search needs) returns (λ c. search needs)
-    returns-2 (λ c. search needs) returns-3)
+    (λ c κs. search needs) (λ c. search needs) (λ c κs. search needs) (λ c. search needs)
+    (λ c. unfold valueTypeSaid namedType in rw (c .before .before .before .before .enum-told .given .1) (c .before .before .put-default .ensures))
+    (λ c. search needs)
+    (λ c. unfold valueTypeSaid namedType typeOf in rw (c .before .before .before .before .before .before .kind .given .1) (c .before .before .put-name .ensures))
+    (λ c. search needs)
+    (λ c. unfold valueTypeSaid namedType in rw (c .before .before .before .before .enum-told2 .given .1) (c .before .before .put-default2 .ensures)))

@@ -7,17 +7,11 @@ use borrow.Author.Needs.{needs}
 use Rattle.jcal_values.proofs.forms.put_end.Statement.{statement}
 use Rattle.jcal_values.proofs.forms.put_end.Tie as tie
 
-returns : tie.Need-returns
-unfolding endShown
-returns c = as-text (c .before .before .put-form .ensures) (end-moment _ _ (sym (c .before .before .before .before .before .is-basic .ensures) ∙ c .before .before .before .before .if1 .taken))
-
-returns-2 : tie.Need-returns-2
-unfolding endShown
-returns-2 c = as-text (c .before .before .put-upper-string .ensures) (end-other _ _ (sym (c .before .before .before .before .before .is-basic .ensures) ∙ c .before .before .before .before .if1 .left))
-
 pub put-end-spec : {M : Type 1} → statement M
 put-end-spec =
     tie.close
     (tie.spec
-    (λ c κs. search needs) (λ c κs. search needs) (λ c. search needs) returns (λ c κs. search needs) (λ c. search needs)
-    returns-2)
+    (λ c κs. search needs) (λ c κs. search needs) (λ c. search needs)
+    (λ c. unfold endShown in as-text (c .before .before .put-form .ensures) (end-moment _ _ (sym (c .before .before .before .before .before .is-basic .ensures) ∙ c .before .before .before .before .if1 .taken)))
+    (λ c κs. search needs) (λ c. search needs)
+    (λ c. unfold endShown in as-text (c .before .before .put-upper-string .ensures) (end-other _ _ (sym (c .before .before .before .before .before .is-basic .ensures) ∙ c .before .before .before .before .if1 .left))))

@@ -1,4 +1,4 @@
--- `jcal_properties::names::put_quoted` meets its contract.
+-- `jcal_properties::names::put_lower_string` meets its contract.
 use Prim.Native.Nat.{_-_}
 use mathlib.Core.Path.{_≡_}
 use native.Mathlib.Omega.{arith}
@@ -9,8 +9,8 @@ use Rattle.octets.specs.Classes.{lowerOctet, lower}
 use Rattle.octets.specs.Pen.{pen}
 use Rattle.json.specs.Print.{quoted, printString}
 use Rattle.jcal_texts.proofs.Strings.{mapped-on, mapped-end}
-use Rattle.jcal_properties.proofs.names.put_quoted.Statement.{statement}
-use Rattle.jcal_properties.proofs.names.put_quoted.Tie as tie
+use Rattle.jcal_properties.proofs.names.put_lower_string.Statement.{statement}
+use Rattle.jcal_properties.proofs.names.put_lower_string.Tie as tie
 
 abbrev Inv-loop : tie.InvT-loop
 Inv-loop out₀ at name to₀ i₀ out to i = (length out ≡ length out₀) × Leads (pen out₀ to₀) (quoted (lower name)) (pen out to) (quoted (lower (drop i name)))
@@ -36,8 +36,8 @@ returns c =
     let at-put = at-loop .before .before .before in
     then (at-put .put .ensures) (leads-last (at-loop .loop .inv .1) (at-put2 .put2 .ensures) (mapped-end lowerOctet (at-put .before .before .before .before .args .name .now) (at-loop .loop .i) (at-loop-test .loop-test .left)))
 
-pub put-quoted-spec : {M : Type 1} → statement M
-put-quoted-spec =
+pub put-lower-string-spec : {M : Type 1} → statement M
+put-lower-string-spec =
     tie.close
     (tie.spec
     Inv-loop μ-loop (λ c κs. search needs) (λ c. search needs) (λ c. search needs) (λ c κs. search needs)
