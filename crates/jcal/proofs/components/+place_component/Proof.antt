@@ -91,11 +91,6 @@ place-component-returns t c =
     let at-place-properties = at-loop .before .before .before in
     sub-ends _ _ _ _ _ _ _ _ _ _ _ _ (rw (at-next2 .next2 .given .1) at (at-loop .loop .inv .1)) _ _ _ (at-place-properties .before .before .before .before .open-component .ensures) (at-place-properties .place-properties .ensures) _ _ (at-put-all .put-all .ensures) _ (c .next-at .ensures)
 
-place-component-returns-2 : (t : ℕ) → place-component-lts.Need-returns-2 (claims-place-component t) (place-component-at t) place-component.Post place-component-Inv-loop place-component-μ-loop
-place-component-returns-2 t c =
-    let at-next3 = c .before in
-    rw (at-next3 .next3 .given .1) at (at-next3 .before .before .loop .inv .1)
-
 pub +place-component-spec : {M : Type 1} → statement M
 +place-component-spec = close μ-place-component λ t. place-component-lts.spec (claims-place-component t)
     (place-component-at t)
@@ -120,4 +115,4 @@ pub +place-component-spec : {M : Type 1} → statement M
     (place-component-returns t)
     (λ c. search needs)
     (λ c. search needs)
-    (place-component-returns-2 t)
+    (λ c. rw (c .before .next3 .given .1) at (c .before .before .before .loop .inv .1))

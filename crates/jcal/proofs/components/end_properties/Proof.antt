@@ -4,9 +4,7 @@ use Rattle.jcal.proofs.components.end_properties.Statement.{statement}
 use Rattle.jcal.proofs.components.end_properties.Tie as tie
 
 returns : tie.Need-returns
-returns c =
-    let at-put-all = c .before .before .before in
-    record { finds = at-put-all .before .before .before .before .before .pre (c .if1 .taken); wrote = at-put-all .put-all .ensures }
+returns c = record { finds = c .before .before .before .before .before .before .before .before .pre (c .if1 .taken); wrote = c .before .before .before .put-all .ensures }
 
 returns-2 : tie.Need-returns-2
 returns-2 c = record { finds = c .next-at .ensures .finds; wrote = rw (c .next-at .ensures .place) (c .before .before .before .before .put-all .ensures) }

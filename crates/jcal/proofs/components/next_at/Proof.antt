@@ -38,9 +38,7 @@ loop-again c =
     (omega arith, next-other _ _ _ (inv .0) (inv .1) _ (at-end-at .end-at .ensures) _ (c .match .keys3) (c .before .kind-at .ensures))
 
 returns-3 : tie.Need-returns-3 Inv-loop μ-loop
-returns-3 c =
-    let inv = c .before .loop .inv in
-    record { finds = next-none _ _ _ (inv .0) (inv .1) (c .loop-test .left); place = refl }
+returns-3 c = record { finds = next-none _ _ _ (c .before .loop .inv .0) (c .before .loop .inv .1) (c .loop-test .left); place = refl }
 
 pub next-at-spec : {M : Type 1} → statement M
 next-at-spec =

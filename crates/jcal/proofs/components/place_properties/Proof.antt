@@ -74,12 +74,6 @@ loop-again-3 c =
     let at-loop = at-kind-at .before .before .before in
     (at-loop .loop .inv .0, omega (arith, at-kind-at .before .end-at .ensures .ends, at-loop .loop .inv .1), held-broken _ _ (at-loop .before .before .before .before .args .from) _ _ _ _ _ _ (at-loop .loop .inv .2) _ (at-kind-at .before .end-at .ensures) (told-as (at-kind-at .kind-at .ensures) (c .enum-told3 .given .1)))
 
-end-properties-requires-2 : tie.Need-end-properties-requires-2 Inv-loop μ-loop
-end-properties-requires-2 c κs =
-    let at-loop-test = c .before in
-    let at-loop = at-loop-test .before in
-    λ o. none-next _ _ _ _ _ _ _ _ _ (at-loop .loop .inv .2) (at-loop-test .loop-test .left) o (at-loop .loop .inv .1)
-
 returns-4 : tie.Need-returns-4 Inv-loop μ-loop
 returns-4 c =
     let at-end-properties2 = c .before .before in
@@ -96,4 +90,6 @@ place-properties-spec =
     (λ c. search needs) (λ c. search needs) returns (λ c. search needs) (λ c. search needs) (λ c κs. search needs)
     (λ c. search needs) returns-2 (λ c. omega arith) (λ c κs. search needs) (λ c. omega arith) loop-again-2
     (λ c. search needs) (λ c. omega arith) end-properties-requires (λ c. search needs) returns-3 (λ c. search needs)
-    (λ c. omega arith) (λ c. omega arith) loop-again-3 end-properties-requires-2 (λ c. search needs) returns-4)
+    (λ c. omega arith) (λ c. omega arith) loop-again-3
+    (λ c κs. λ o. none-next _ _ _ _ _ _ _ _ _ (c .before .before .loop .inv .2) (c .before .loop-test .left) o (c .before .before .loop .inv .1))
+    (λ c. search needs) returns-4)

@@ -5,14 +5,9 @@ use Rattle.jcal.specs.Components.{comma}
 use Rattle.jcal.proofs.components.put_comma.Statement.{statement}
 use Rattle.jcal.proofs.components.put_comma.Tie as tie
 
-returns-2 : tie.Need-returns-2
-unfolding comma
-returns-2 c =
-    let at-put = c .before .before in
-    rw (at-put .before .before .if1 .left) (at-put .put .ensures)
-
 pub put-comma-spec : {M : Type 1} → statement M
 put-comma-spec =
     tie.close
     (tie.spec
-    (λ c. unfold comma in rw (c .if1 .taken) nothing) (λ c κs. search needs) (λ c. search needs) returns-2)
+    (λ c. unfold comma in rw (c .if1 .taken) nothing) (λ c κs. search needs) (λ c. search needs)
+    (λ c. unfold comma in rw (c .before .before .before .before .if1 .left) (c .before .before .put .ensures)))

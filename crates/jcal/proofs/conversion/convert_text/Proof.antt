@@ -9,11 +9,6 @@ use borrow.Author.Needs.{needs}
 use Rattle.jcal.proofs.conversion.convert_text.Statement.{statement}
 use Rattle.jcal.proofs.conversion.convert_text.Tie as tie
 
-part-convert-lines-end : tie.Need-part-convert-lines-end
-part-convert-lines-end c =
-    let at-n = c .before .before in
-    laid-within _ _ _ (at-n .before .before .before .before .read-lines .ensures .within) (at-n .n .given .1)
-
 returns : tie.Need-returns
 returns c =
     let at-convert-lines = c .before .before in
@@ -50,7 +45,8 @@ pub convert-text-spec : {M : Type 1} → statement M
 convert-text-spec =
     tie.close
     (tie.spec
-    (λ c κs. search needs) (λ c. search needs) (λ c. search needs) (λ c. search needs) part-convert-lines-end
+    (λ c κs. search needs) (λ c. search needs) (λ c. search needs) (λ c. search needs)
+    (λ c. laid-within _ _ _ (c .before .before .before .before .before .before .read-lines .ensures .within) (c .before .before .n .given .1))
     (λ c κs. search needs) (λ c. search needs) (λ c κs. search needs) (λ c. search needs) (λ c κs. search needs)
     (λ c. search needs) (λ c κs. search needs) (λ c. search needs) (λ c. search needs) returns (λ c. search needs)
     (λ c. search needs) returns-2 (λ c. search needs) (λ c. search needs) returns-3 (λ c. search needs)

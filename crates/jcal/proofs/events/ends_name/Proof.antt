@@ -6,12 +6,6 @@ use Rattle.jcal.proofs.Heads.{ends-none, ends-semicolon, ends-colon, no
 use Rattle.jcal.proofs.events.ends_name.Statement.{statement}
 use Rattle.jcal.proofs.events.ends_name.Tie as tie
 
-returns-2 : tie.Need-returns-2
-returns-2 c =
-    let at-if1 = c .before .before in
-    let at-start = at-if1 .before in
-    sym (ap not (ends-semicolon (at-start .args .line .now) (at-start .args .n) (at-if1 .if1 .left) (c .if2 .taken)))
-
 returns-3 : tie.Need-returns-3
 returns-3 c =
     let at-if2 = c .before in
@@ -24,4 +18,6 @@ ends-name-spec =
     tie.close
     (tie.spec
     (λ c. sym (ap not (ends-none (c .before .args .line .now) (c .before .args .n) (c .if1 .taken))))
-    (λ c. search needs) returns-2 (λ c. search needs) returns-3)
+    (λ c. search needs)
+    (λ c. sym (ap not (ends-semicolon (c .before .before .before .args .line .now) (c .before .before .before .args .n) (c .before .before .if1 .left) (c .if2 .taken))))
+    (λ c. search needs) returns-3)

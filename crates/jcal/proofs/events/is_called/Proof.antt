@@ -11,11 +11,6 @@ use Rattle.jcal.proofs.Heads.{called-short, called-other, called-here, 
 use Rattle.jcal.proofs.events.is_called.Statement.{statement}
 use Rattle.jcal.proofs.events.is_called.Tie as tie
 
-returns : tie.Need-returns
-returns c =
-    let at-start = c .before .before .before in
-    sym (called-short (at-start .args .line .now) (at-start .args .name .now) (c .if1 .taken))
-
 returns-2 : tie.Need-returns-2
 returns-2 c =
     let at-ends-name = c .before in
@@ -33,5 +28,6 @@ pub is-called-spec : {M : Type 1} → statement M
 is-called-spec =
     tie.close
     (tie.spec
-    returns (λ c κs. search needs) returns-2 (λ c. search needs) (λ c. search needs) (λ c. search needs)
-    (λ c κs. search needs) returns-3)
+    (λ c. sym (called-short (c .before .before .before .args .line .now) (c .before .before .before .args .name .now) (c .if1 .taken)))
+    (λ c κs. search needs) returns-2 (λ c. search needs) (λ c. search needs) (λ c. search needs) (λ c κs. search needs)
+    returns-3)

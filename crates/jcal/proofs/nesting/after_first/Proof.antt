@@ -6,21 +6,6 @@ use Rattle.jcal.proofs.OpenComponents.{first-else, first-opens, first-o
 use Rattle.jcal.proofs.nesting.after_first.Statement.{statement}
 use Rattle.jcal.proofs.nesting.after_first.Tie as tie
 
-sub-same-name : tie.Need-sub-same-name
-sub-same-name c =
-    let at-kind = c .before in
-    omega (arith, (rw (at-kind .kind .given .1) at (at-kind .before .before .before .pre .0)) .low)
-
-part-same-name-start : tie.Need-part-same-name-start
-part-same-name-start c =
-    let at-kind = c .before in
-    (rw (at-kind .kind .given .1) at (at-kind .before .before .before .pre .0)) .low
-
-part-same-name-end : tie.Need-part-same-name-end
-part-same-name-end c =
-    let at-kind = c .before in
-    (rw (at-kind .kind .given .1) at (at-kind .before .before .before .pre .0)) .high
-
 returns : tie.Need-returns
 returns c =
     let at-same-name = c .before in
@@ -35,14 +20,13 @@ returns-2 c =
     let at-start = at-kind .before .before .before in
     rw (at-kind .kind .given .1) (first-other (at-start .args .buf .now) (at-start .args .names .now) (at-start .pre .1) _ (at-start .args .e) (rw (at-kind .kind .given .1) at (at-start .pre .0)) (sym (at-same-name .same-name .ensures) ∙ c .if1 .left))
 
-returns-3 : tie.Need-returns-3
-returns-3 c =
-    let at-start = c .before .before in
-    first-else (at-start .args .buf .now) (at-start .args .names .now) (at-start .pre .1) _ (c .match .keys2)
-
 pub after-first-spec : {M : Type 1} → statement M
 after-first-spec =
     tie.close
     (tie.spec
-    (λ c. search needs) sub-same-name part-same-name-start part-same-name-end (λ c. search needs) (λ c κs. search needs)
-    (λ c. search needs) returns returns-2 returns-3)
+    (λ c. search needs)
+    (λ c. omega (arith, (rw (c .before .kind .given .1) at (c .before .before .before .before .pre .0)) .low))
+    (λ c. (rw (c .before .kind .given .1) at (c .before .before .before .before .pre .0)) .low)
+    (λ c. (rw (c .before .kind .given .1) at (c .before .before .before .before .pre .0)) .high) (λ c. search needs)
+    (λ c κs. search needs) (λ c. search needs) returns returns-2
+    (λ c. first-else (c .before .before .args .buf .now) (c .before .before .args .names .now) (c .before .before .pre .1) _ (c .match .keys2)))

@@ -14,21 +14,6 @@ returns c =
     let at-start = at-kind .before .before .before in
     rw (at-kind .kind .given .1) (inner-opens (at-start .args .buf .now) (at-start .args .names .now) (at-start .pre .1 .1) _ (at-start .args .around) (c .if1 .taken))
 
-sub-is-named : tie.Need-sub-is-named
-sub-is-named c =
-    let at-kind2 = c .before .before in
-    omega (arith, (rw (at-kind2 .kind2 .given .1) at (at-kind2 .before .before .before .pre .0)) .low)
-
-part-is-named-start : tie.Need-part-is-named-start
-part-is-named-start c =
-    let at-kind2 = c .before .before in
-    (rw (at-kind2 .kind2 .given .1) at (at-kind2 .before .before .before .pre .0)) .low
-
-part-is-named-end : tie.Need-part-is-named-end
-part-is-named-end c =
-    let at-kind2 = c .before .before in
-    (rw (at-kind2 .kind2 .given .1) at (at-kind2 .before .before .before .pre .0)) .high
-
 returns-2 : tie.Need-returns-2
 returns-2 c =
     let at-is-named = c .before in
@@ -73,6 +58,9 @@ after-inner-spec =
     tie.close
     (tie.spec
     (λ c. search needs) (λ c. omega (arith, most-levels)) (λ c. search needs) (λ c. search needs) returns
-    (λ c. search needs) (λ c. omega (arith, most-levels)) (λ c. omega (arith, most-levels)) sub-is-named
-    part-is-named-start part-is-named-end (λ c κs. search needs) returns-2 returns-3 (λ c. search needs)
-    (λ c. search needs) (λ c. search needs) returns-4 returns-5 returns-6 returns-7)
+    (λ c. search needs) (λ c. omega (arith, most-levels)) (λ c. omega (arith, most-levels))
+    (λ c. omega (arith, (rw (c .before .before .kind2 .given .1) at (c .before .before .before .before .before .pre .0)) .low))
+    (λ c. (rw (c .before .before .kind2 .given .1) at (c .before .before .before .before .before .pre .0)) .low)
+    (λ c. (rw (c .before .before .kind2 .given .1) at (c .before .before .before .before .before .pre .0)) .high)
+    (λ c κs. search needs) returns-2 returns-3 (λ c. search needs) (λ c. search needs) (λ c. search needs) returns-4
+    returns-5 returns-6 returns-7)

@@ -11,11 +11,6 @@ after-inner-requires c κs =
     let at-start = at-nesting .before .before .before in
     (at-start .pre .0, (few-as (at-start .pre .1 .0) (at-nesting .nesting .given .1), at-start .pre .1 .1))
 
-returns-3 : tie.Need-returns-3
-returns-3 c =
-    let at-start = c .before .before .before in
-    rw (c .enum-told2 .given .1) (complete-on (at-start .args .buf .now) (at-start .args .names .now) (at-start .pre .1 .1) _)
-
 returns-4 : tie.Need-returns-4
 returns-4 c =
     let at-nesting2 = c .before in
@@ -28,5 +23,6 @@ after-line-spec =
     (tie.spec
     (λ c. search needs) (λ c κs. search needs) (λ c. search needs) after-inner-requires (λ c. search needs)
     (λ c. search needs) (λ c. unfold nestOf in rw (c .before .before .enum-told .given .1) (c .after-first .ensures))
-    (λ c. unfold nestOf in rw (c .before .before .before .nesting .given .1) (c .after-inner .ensures)) returns-3
+    (λ c. unfold nestOf in rw (c .before .before .before .nesting .given .1) (c .after-inner .ensures))
+    (λ c. rw (c .enum-told2 .given .1) (complete-on (c .before .before .before .args .buf .now) (c .before .before .before .args .names .now) (c .before .before .before .pre .1 .1) _))
     returns-4)

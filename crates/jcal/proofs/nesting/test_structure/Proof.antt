@@ -22,12 +22,6 @@ Inv-loop buf names₀ nesting₀ in-order₀ behind₀ i₀ names nesting in-ord
 abbrev μ-loop : tie.MeasureT-loop
 μ-loop buf names₀ nesting₀ in-order₀ behind₀ i₀ names nesting in-order behind i = length buf - i
 
-after-line-requires : tie.Need-after-line-requires Inv-loop μ-loop
-after-line-requires c κs =
-    let at-kind-at = c .before in
-    let at-loop = at-kind-at .before .before .before in
-    (at-kind-at .kind-at .ensures .names, (at-loop .loop .inv .1, at-loop .loop .inv .2))
-
 loop-again : tie.Need-loop-again Inv-loop μ-loop
 loop-again c =
     let at-keeps-order = c .before in
@@ -52,5 +46,7 @@ test-structure-spec =
     tie.close
     (tie.spec
     Inv-loop μ-loop (λ c. unfold nestOf ordered in (refl, rw most-levels (omega arith), sym most-levels, refl))
-    (λ c κs. search needs) (λ c κs. search needs) after-line-requires (λ c κs. search needs) (λ c κs. search needs)
-    (λ c. omega arith) (λ c. omega arith) loop-again (λ c κs. search needs) returns)
+    (λ c κs. search needs) (λ c κs. search needs)
+    (λ c κs. (c .before .kind-at .ensures .names, (c .before .before .before .before .loop .inv .1, c .before .before .before .before .loop .inv .2)))
+    (λ c κs. search needs) (λ c κs. search needs) (λ c. omega arith) (λ c. omega arith) loop-again
+    (λ c κs. search needs) returns)

@@ -35,15 +35,10 @@ returns c =
     let at-loop = at-end-at .before .before in
     turn-off _ (at-loop .before .before .before .args .buf .now) (at-loop .loop .i) (at-end-at .end-at .result) (at-end-at .end-at .ensures) _ (failed-as (at-test-line .test-line .ensures) (at-why .why .given .1)) ∙ sym (at-loop .loop .inv)
 
-returns-2 : tie.Need-returns-2 Inv-loop μ-loop
-unfolding testSaid
-returns-2 c =
-    let at-loop = c .before in
-    turn-none _ (at-loop .before .before .before .args .buf .now) (at-loop .loop .i) (c .loop-test .left) ∙ sym (at-loop .loop .inv)
-
 pub test-properties-spec : {M : Type 1} → statement M
 test-properties-spec =
     tie.close
     (tie.spec
     Inv-loop μ-loop (λ c. refl) (λ c κs. search needs) (λ c κs. search needs) (λ c. search needs) (λ c. omega arith)
-    (λ c. omega arith) loop-again (λ c. search needs) returns returns-2)
+    (λ c. omega arith) loop-again (λ c. search needs) returns
+    (λ c. unfold testSaid in turn-none _ (c .before .before .before .before .args .buf .now) (c .before .loop .i) (c .loop-test .left) ∙ sym (c .before .loop .inv)))
