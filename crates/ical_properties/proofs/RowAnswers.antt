@@ -8,7 +8,7 @@ use borrow.Author.Tests.{ne-eqb}
 use lib.Dec.{eqb}
 use Rattle.octets.specs.Basics.{octets, pick, _or_, same}
 use Rattle.octets.specs.Optional.{isSome}
-use Rattle.types.specs.Codes.{unprocessed, binary, codeNamed}
+use Rattle.types.specs.Codes.{unprocessed, binary, typeName, codeNamed}
 use Rattle.types.specs.Table.{Row}
 use Rattle.types.specs.Laid.{rowFound}
 use Rattle.types.specs.declared.Found.{Found}
@@ -17,8 +17,9 @@ use Rattle.values.specs.Sorts.{sortOf}
 use Rattle.values.specs.Coded.{sortSaid}
 use Rattle.values.specs.declared.sorts.Sort.{Sort}
 use Rattle.values.specs.declared.sorts.Sort.the-variants.{Plain}
-use Rattle.conversion_theory.specs.Property.{codeOf, manyOf, encodingFits}
+use Rattle.conversion_theory.specs.Property.{typeOf, codeOf, manyOf, encodingFits}
 use Rattle.conversion_theory.specs.Return.{isUnknown, statedType, isDefault, shown}
+use Rattle.conversion_theory.proofs.PropertyReading.{unprocessed-code}
 use Rattle.ical_properties.specs.Ruled.{Rules}
 use Rattle.ical_properties.specs.declared.Ruling.{Ruling}
 
@@ -36,13 +37,14 @@ unlisted e q = rw e at q
 
 -- "unknown"
 module _ (n : List ℕ) where
-  pub unknown-listed : {r : Option Row} {c : ℕ} {m : Bool} → some (row c m) ≡ r → Rules r n (octets "unknown") (record { code = c; many = m; sort = Plain; shown = false; taken = true })
-  unfolding same isUnknown statedType codeOf manyOf shown isSome sortSaid
-  unknown-listed e = rw (← e) (record { code = refl; many = refl; sort = refl; shown = refl; taken = refl })
+  pub unknown-listed : {r : Option Row} {c d : ℕ} {m : Bool} → some (row d m) ≡ r → c ≡ codeNamed (typeName d)
+      → Rules r n (octets "unknown") (record { code = c; many = m; sort = Plain; shown = false; taken = true })
+  unfolding same isUnknown statedType codeOf typeOf manyOf shown isSome sortSaid
+  unknown-listed e k = rw (← e) (record { code = k; many = refl; sort = refl; shown = refl; taken = refl })
 
   pub unknown-unlisted : {r : Option Row} → none ≡ r → Rules r n (octets "unknown") (record { code = 0; many = true; sort = Plain; shown = false; taken = false })
-  unfolding same isUnknown statedType codeOf manyOf shown isSome sortSaid
-  unknown-unlisted e = rw (← e) (record { code = refl; many = refl; sort = refl; shown = refl; taken = refl })
+  unfolding same isUnknown statedType manyOf shown isSome sortSaid
+  unknown-unlisted e = rw (← e) (record { code = sym unprocessed-code; many = refl; sort = refl; shown = refl; taken = refl })
 
 shown-by : (t : List ℕ) → isUnknown t ≡ false → (b : Bool) → isSome (pick (isUnknown t or b) none (some t)) ≡ not b
 unfolding isSome
@@ -52,11 +54,11 @@ shown-by t u false = rw u
 -- a type that is stated
 module _ (n t : List ℕ) {c : ℕ} {s : Sort} (u : isUnknown t ≡ false) (k : c ≡ codeNamed t) (o : sortSaid s ≡ sortOf n c) where
   pub stated-listed : {r : Option Row} {d : ℕ} {m b : Bool} → some (row d m) ≡ r → b ≡ not (eqb d c) → Rules r n t (record { code = c; many = m; sort = s; shown = b; taken = false })
-  unfolding statedType codeOf manyOf shown isDefault
+  unfolding statedType codeOf typeOf manyOf shown isDefault
   stated-listed {r} {d} {m} {b} e f = rw (← e) (record { code = rw u k; many = refl; sort = rw (u, ← k) o; shown = f ∙ ap (λ (x : ℕ). not (eqb d x)) k ∙ sym (shown-by t u (eqb d (codeNamed t))); taken = rw u })
 
   pub stated-unlisted : {r : Option Row} → none ≡ r → Rules r n t (record { code = c; many = true; sort = s; shown = true; taken = false })
-  unfolding statedType codeOf manyOf shown isDefault
+  unfolding statedType codeOf typeOf manyOf shown isDefault
   stated-unlisted e = rw (← e) (record { code = rw u k; many = refl; sort = rw (u, ← k) o; shown = sym (shown-by t u false); taken = rw u })
 
 -- an answer by the type's text

@@ -4,6 +4,7 @@ use types::Found;
 use types::code_named;
 use types::find;
 use types::is_unknown;
+use types::known_code;
 use values::Sort;
 use values::sort_of;
 ghost use mathlib.Core.Path.{_≡_};
@@ -34,7 +35,7 @@ fn unknown_ruling(rows: &[u8], name: &[u8]) -> Ruling
     let f = find(rows, name);
     match f {
         Found::Listed(c, m) => Ruling {
-            code: c,
+            code: known_code(c),
             many: m,
             sort: Sort::Plain,
             shown: false,

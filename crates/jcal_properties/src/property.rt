@@ -35,6 +35,7 @@ use octets::put_all;
 use types::Found;
 use types::code_named;
 use types::find;
+use types::known_code;
 use types::put_type_name;
 use values::sort_of;
 
@@ -49,7 +50,7 @@ fn default_code(found: Found) -> u8
     ensures { λ r. ⌜ r ≡ codeOf (rowFound found) none ⌝ }
 {
     match found {
-        Found::Listed(code, _) => code,
+        Found::Listed(code, _) => known_code(code),
         Found::Unlisted => 0,
     }
 }

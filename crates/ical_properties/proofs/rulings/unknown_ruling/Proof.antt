@@ -5,7 +5,7 @@ use Rattle.ical_properties.proofs.rulings.unknown_ruling.Statement.{sta
 use Rattle.ical_properties.proofs.rulings.unknown_ruling.Tie as tie
 
 returns : tie.Need-returns
-returns c = unknown-listed _ (listed (c .before .f .given .1) (c .before .before .before .find .ensures))
+returns c = unknown-listed _ (listed (c .before .before .f .given .1) (c .before .before .before .before .find .ensures)) (c .known-code .ensures)
 
 returns-2 : tie.Need-returns-2
 returns-2 c = unknown-unlisted _ (unlisted (c .enum-told .given .1) (c .before .before .find .ensures))
@@ -16,6 +16,7 @@ unknown-ruling-spec =
     (tie.spec
     (λ c κs. search needs)
     (λ c. search needs)
+    (λ c κs. search needs)
     (λ c. search needs)
     returns
     returns-2)

@@ -3,7 +3,7 @@ use mathlib.Core.Path.{_∙_}
 use borrow.Author.Needs.{needs}
 use lib.ListN.{length}
 use Rattle.content.specs.Kinds.{valueTypeSaid}
-use Rattle.conversion_theory.specs.Property.{codeOf}
+use Rattle.conversion_theory.specs.Property.{typeOf, codeOf}
 use Rattle.jcal_properties.specs.Shown.{namedType}
 use Rattle.jcal_properties.proofs.PropertyParts.{bounded-as}
 use Rattle.jcal_properties.proofs.property.code_of.Statement.{statement}
@@ -19,5 +19,5 @@ code-of-spec =
     (λ c. bounded-as (length (c .before .before .before .before .args .params .now)) _ (c .before .before .before .before .pre) (c .before .kind .given .1) .1)
     (λ c κs. search needs) (λ c. search needs) (λ c κs. search needs)
     (λ c. unfold valueTypeSaid namedType in c .default-code .ensures ∙ rw (c .before .enum-told .given .1))
-    (λ c. unfold valueTypeSaid namedType codeOf in c .code-named .ensures ∙ rw (c .before .before .before .kind .given .1))
+    (λ c. unfold valueTypeSaid namedType codeOf typeOf in c .code-named .ensures ∙ rw (c .before .before .before .kind .given .1))
     (λ c. unfold valueTypeSaid namedType in c .default-code2 .ensures ∙ rw (c .before .enum-told2 .given .1)))
