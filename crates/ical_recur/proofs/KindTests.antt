@@ -10,7 +10,7 @@ use Rattle.octets.specs.Classes.{isLowerName, upper}
 use Rattle.octets.proofs.Cases.{and-assoc, never}
 use Rattle.calendar.specs.Recurrence.{PartSort, frequency, moment, count, weekday, ordinal, numbers, several}
 use Rattle.calendar.specs.Walk.{keyPlace, keyAt}
-use Rattle.calendar.proofs.Walk.{key-known, key-unknown}
+use Rattle.calendar.proofs.RuleParts.{key-known, key-unknown}
 use Rattle.json.specs.Tree.{Json, num, str, arr, Items, item, Members, member, string?, number?, array?}
 use Rattle.json.specs.Tape.{tagNumber, tagString, tagArray, tagEnd}
 use Rattle.tape.specs.Decode.{tagAt, valueAt, itemsAt, membersAt}

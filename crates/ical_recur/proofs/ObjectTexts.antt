@@ -10,7 +10,7 @@ use Rattle.octets.specs.Decimal.{integerText}
 use Rattle.octets.specs.Pieces.{joined}
 use Rattle.calendar.specs.Recurrence.{PartSort}
 use Rattle.calendar.specs.Walk.{keyPlace, keyAt}
-use Rattle.calendar.proofs.Walk.{key-known}
+use Rattle.calendar.proofs.RuleParts.{key-known}
 use Rattle.json.specs.Tree.{Json, num, str, arr, Items, noItems, item, member, string?, number?, array?}
 use Rattle.json.specs.Tape.{tagArray, tagEnd}
 use Rattle.tape.specs.Decode.{otherItems, paired, tagAt, valueAt, itemsAt, membersAt}

@@ -13,7 +13,7 @@ use Rattle.octets.proofs.Pen.{Landed, landed, kept}
 use Rattle.octets.proofs.Positions.{upto}
 use Rattle.calendar.specs.Recurrence.{partsOf}
 use Rattle.calendar.specs.Walk.{ruleShown}
-use Rattle.calendar.proofs.Showing.{rule-shown}
+use Rattle.calendar.proofs.WrittenItems.{rule-shown}
 use Rattle.json.specs.Tape.{tagObject}
 use Rattle.tape.specs.Decode.{tagAt, valueAt, membersAt}
 use Rattle.tape.specs.Promise.{After}

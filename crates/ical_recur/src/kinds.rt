@@ -6,7 +6,7 @@ ghost use Rattle.calendar.specs.Walk.{partSortSaid};
 ghost use Rattle.json.specs.Tree.{num, str};
 ghost use Rattle.values.specs.Recur.{wordOctet};
 ghost use Rattle.ical_recur.specs.Kinds.{itemIs};
-use calendar::parts::ItemSort;
+use calendar::parts::PartSort;
 use calendar::texts::is_extended_moment;
 use octets::is_digit;
 use octets::is_lower;
@@ -44,43 +44,43 @@ fn is_word(s: &[u8]) -> bool
 }
 
 // A string is a value of a part.
-pub fn string_is(sort: ItemSort, s: &[u8]) -> bool
+pub fn string_is(sort: PartSort, s: &[u8]) -> bool
     ensures { λ r. ⌜ r ≡ itemIs (partSortSaid sort) (str (now (s .entry))) ⌝ }
 {
     match sort {
-        ItemSort::Frequency => is_word(s),
-        ItemSort::Moment => is_extended_moment(s),
-        ItemSort::Count => false,
-        ItemSort::Weekday => is_word(s),
-        ItemSort::Ordinal => is_word(s),
-        ItemSort::Numbers(_) => false,
+        PartSort::Frequency => is_word(s),
+        PartSort::Moment => is_extended_moment(s),
+        PartSort::Count => false,
+        PartSort::Weekday => is_word(s),
+        PartSort::Ordinal => is_word(s),
+        PartSort::Numbers(_) => false,
     }
 }
 
 // A number is a value of a part.
-pub fn number_is(sort: ItemSort, s: &[u8]) -> bool
+pub fn number_is(sort: PartSort, s: &[u8]) -> bool
     ensures { λ r. ⌜ r ≡ itemIs (partSortSaid sort) (num (now (s .entry))) ⌝ }
 {
     match sort {
-        ItemSort::Frequency => false,
-        ItemSort::Moment => false,
-        ItemSort::Count => is_integer(s),
-        ItemSort::Weekday => false,
-        ItemSort::Ordinal => false,
-        ItemSort::Numbers(_) => is_integer(s),
+        PartSort::Frequency => false,
+        PartSort::Moment => false,
+        PartSort::Count => is_integer(s),
+        PartSort::Weekday => false,
+        PartSort::Ordinal => false,
+        PartSort::Numbers(_) => is_integer(s),
     }
 }
 
 // Only BY parts have several values.
-pub fn has_several(sort: ItemSort) -> bool
+pub fn has_several(sort: PartSort) -> bool
     ensures { λ r. ⌜ r ≡ several (partSortSaid sort) ⌝ }
 {
     match sort {
-        ItemSort::Frequency => false,
-        ItemSort::Moment => false,
-        ItemSort::Count => false,
-        ItemSort::Weekday => false,
-        ItemSort::Ordinal => true,
-        ItemSort::Numbers(_) => true,
+        PartSort::Frequency => false,
+        PartSort::Moment => false,
+        PartSort::Count => false,
+        PartSort::Weekday => false,
+        PartSort::Ordinal => true,
+        PartSort::Numbers(_) => true,
     }
 }

@@ -12,7 +12,7 @@ ghost use Rattle.ical_recur.specs.Wording.{itemsText, partValuesText, ob
 use crate::kinds::has_several;
 use crate::kinds::number_is;
 use crate::kinds::string_is;
-use calendar::parts::ItemSort;
+use calendar::parts::PartSort;
 use calendar::parts::key_place;
 use calendar::parts::sort_of;
 use calendar::texts::Form;
@@ -41,21 +41,21 @@ pub enum Laid {
 }
 
 // Writes a string; UNTIL in the basic form.
-fn put_string(out: &mut [u8], at: usize, sort: ItemSort, s: &[u8]) -> usize
+fn put_string(out: &mut [u8], at: usize, sort: PartSort, s: &[u8]) -> usize
     ensures { λ r. ⌜ Wrote (pen (now (out .entry)) at) (stringText (partSortSaid sort) (now (s .entry))) (pen (now (out .exit)) r) ⌝ }
 {
     match sort {
-        ItemSort::Frequency => put_all(out, at, s),
-        ItemSort::Moment => put_text(out, at, basic(Form::DateTime, s)),
-        ItemSort::Count => put_all(out, at, s),
-        ItemSort::Weekday => put_all(out, at, s),
-        ItemSort::Ordinal => put_all(out, at, s),
-        ItemSort::Numbers(_) => put_all(out, at, s),
+        PartSort::Frequency => put_all(out, at, s),
+        PartSort::Moment => put_text(out, at, basic(Form::DateTime, s)),
+        PartSort::Count => put_all(out, at, s),
+        PartSort::Weekday => put_all(out, at, s),
+        PartSort::Ordinal => put_all(out, at, s),
+        PartSort::Numbers(_) => put_all(out, at, s),
     }
 }
 
 // Tests and writes the value at i.
-fn lay_item(out: &mut [u8], at: usize, t: &[u8], i: usize, sort: ItemSort) -> Laid
+fn lay_item(out: &mut [u8], at: usize, t: &[u8], i: usize, sort: PartSort) -> Laid
     ensures { λ r. ⌜ LaidAs (itemIs (partSortSaid sort) (valueAt (now (t .entry)) i)) (itemText (partSortSaid sort) (valueAt (now (t .entry)) i))
         (pen (now (out .entry)) at) (now (out .exit)) (Next (now (t .entry)) i) r ⌝ }
 {
@@ -82,7 +82,7 @@ fn lay_item(out: &mut [u8], at: usize, t: &[u8], i: usize, sort: ItemSort) -> La
 }
 
 // Tests and writes one or more values from i to the end of their array, with commas between them.
-fn lay_items(out: &mut [u8], at: usize, t: &[u8], i: usize, sort: ItemSort) -> Laid
+fn lay_items(out: &mut [u8], at: usize, t: &[u8], i: usize, sort: PartSort) -> Laid
     ensures { λ r. ⌜ LaidAs (someItems (itemIs (partSortSaid sort)) (itemsAt (now (t .entry)) i)) (itemsText (partSortSaid sort) (itemsAt (now (t .entry)) i))
         (pen (now (out .entry)) at) (now (out .exit)) (Left (now (t .entry)) i) r ⌝ }
 {
@@ -108,7 +108,7 @@ fn lay_items(out: &mut [u8], at: usize, t: &[u8], i: usize, sort: ItemSort) -> L
 }
 
 // Tests and writes what a part has at i: a plain value, or an array of one or more where it may have several.
-fn lay_values(out: &mut [u8], at: usize, t: &[u8], i: usize, sort: ItemSort) -> Laid
+fn lay_values(out: &mut [u8], at: usize, t: &[u8], i: usize, sort: PartSort) -> Laid
     ensures { λ r. ⌜ LaidAs (kindIs (partSortSaid sort) (valueAt (now (t .entry)) i)) (partValuesText (partSortSaid sort) (valueAt (now (t .entry)) i))
         (pen (now (out .entry)) at) (now (out .exit)) (Next (now (t .entry)) i) r ⌝ }
 {

@@ -6,7 +6,7 @@ ghost use Rattle.octets.specs.Decimal.{minusIf, integerText};
 ghost use Rattle.calendar.specs.Recurrence.{ordinal};
 ghost use Rattle.calendar.specs.Walk.{partSortSaid, itemShown, valuesShown, partShown, ruleShown};
 ghost use Rattle.content.specs.Folding.{folding, Folded};
-use calendar::parts::ItemSort;
+use calendar::parts::PartSort;
 use calendar::parts::PartAt;
 use calendar::parts::find;
 use calendar::parts::first_part;
@@ -53,21 +53,21 @@ fn fold_ordinal(out: &mut [u8], p: Folder, s: &[u8]) -> Folder
 }
 
 // Writes one value of a part.
-fn fold_item(out: &mut [u8], p: Folder, sort: ItemSort, s: &[u8]) -> Folder
+fn fold_item(out: &mut [u8], p: Folder, sort: PartSort, s: &[u8]) -> Folder
     ensures { λ r. ⌜ Folded (folding (now (out .entry)) p) (itemShown (partSortSaid sort) (now (s .entry))) (folding (now (out .exit)) r) ⌝ }
 {
     match sort {
-        ItemSort::Frequency => fold_upper(out, p, &*s),
-        ItemSort::Moment => fold_upper(out, p, &*s),
-        ItemSort::Count => fold_integer(out, p, &*s),
-        ItemSort::Weekday => fold_upper(out, p, &*s),
-        ItemSort::Ordinal => fold_ordinal(out, p, &*s),
-        ItemSort::Numbers(_) => fold_integer(out, p, &*s),
+        PartSort::Frequency => fold_upper(out, p, &*s),
+        PartSort::Moment => fold_upper(out, p, &*s),
+        PartSort::Count => fold_integer(out, p, &*s),
+        PartSort::Weekday => fold_upper(out, p, &*s),
+        PartSort::Ordinal => fold_ordinal(out, p, &*s),
+        PartSort::Numbers(_) => fold_integer(out, p, &*s),
     }
 }
 
 // Writes the values of a part, with commas between them.
-fn fold_values(out: &mut [u8], p: Folder, sort: ItemSort, v: &[u8]) -> Folder
+fn fold_values(out: &mut [u8], p: Folder, sort: PartSort, v: &[u8]) -> Folder
     ensures { λ r. ⌜ Folded (folding (now (out .entry)) p) (valuesShown (partSortSaid sort) (now (v .entry))) (folding (now (out .exit)) r) ⌝ }
 {
     let mut q = p;

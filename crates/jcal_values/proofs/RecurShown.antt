@@ -21,11 +21,11 @@ use Rattle.octets.proofs.Pieces.{Free, split-free, split-filled, split-last as 
 use Rattle.calendar.specs.Dates.{momentOf}
 use Rattle.calendar.specs.Recurrence.{PartSort, frequency, moment, count, weekday, ordinal, numbers, Key, key, keys, untilOf, itemOf, Part, partsOf}
 use Rattle.calendar.specs.Walk.{beforeFirst, keyAt, firstPart, itemShown}
-use Rattle.calendar.proofs.Again.{value-octets}
+use Rattle.calendar.proofs.WrittenRules.{value-octets}
 use Rattle.calendar.proofs.Octets.{itemOctet}
 use Rattle.calendar.proofs.Pieces.{before-all, split-more, split-last, comma-uncased, semicolon-uncased, split-upper}
-use Rattle.calendar.proofs.Showing.{item-shown}
-use Rattle.calendar.proofs.Walk.{readPart, readParts, rule-parts, walked}
+use Rattle.calendar.proofs.WrittenItems.{item-shown}
+use Rattle.calendar.proofs.RuleParts.{readPart, readParts, rule-parts, walked}
 use Rattle.json.specs.Tree.{Json, arr, obj, itemsOf}
 use Rattle.json.specs.Print.{printString, printKey, print, firstMember, moreMembers}
 use Rattle.json.specs.Promise.{asIsOctet}

@@ -5,7 +5,7 @@ ghost use Rattle.values.specs.Shown.{itemJsonShown, itemsShown, keyShown, partJ
 ghost use Rattle.jcal_values.specs.Parts.{commaList, semicolonList, wordShown};
 use crate::forms::put_short;
 use calendar::items::put_item;
-use calendar::parts::ItemSort;
+use calendar::parts::PartSort;
 use calendar::parts::find;
 use calendar::parts::first_part;
 use calendar::parts::sort_of;
@@ -15,7 +15,7 @@ use octets::put_all;
 use octets::put_lower;
 
 // Writes a value of a part between quotes.
-fn put_quoted(out: &mut [u8], at: usize, sort: ItemSort, s: &[u8]) -> usize
+fn put_quoted(out: &mut [u8], at: usize, sort: PartSort, s: &[u8]) -> usize
     ensures { λ r. ⌜ Wrote (pen (now (out .entry)) at) (wordShown (partSortSaid sort) (now (s .entry))) (pen (now (out .exit)) r) ⌝ }
 {
     let first = put(out, at, b'"');
@@ -24,21 +24,21 @@ fn put_quoted(out: &mut [u8], at: usize, sort: ItemSort, s: &[u8]) -> usize
 }
 
 // Writes a value of a part.
-fn put_item_json(out: &mut [u8], at: usize, sort: ItemSort, s: &[u8]) -> usize
+fn put_item_json(out: &mut [u8], at: usize, sort: PartSort, s: &[u8]) -> usize
     ensures { λ r. ⌜ Wrote (pen (now (out .entry)) at) (itemJsonShown (partSortSaid sort) (now (s .entry))) (pen (now (out .exit)) r) ⌝ }
 {
     match sort {
-        ItemSort::Frequency => put_quoted(out, at, sort, &*s),
-        ItemSort::Moment => put_short(out, at, extended_moment(&*s)),
-        ItemSort::Count => put_item(out, at, sort, &*s),
-        ItemSort::Weekday => put_quoted(out, at, sort, &*s),
-        ItemSort::Ordinal => put_quoted(out, at, sort, &*s),
-        ItemSort::Numbers(_) => put_item(out, at, sort, &*s),
+        PartSort::Frequency => put_quoted(out, at, sort, &*s),
+        PartSort::Moment => put_short(out, at, extended_moment(&*s)),
+        PartSort::Count => put_item(out, at, sort, &*s),
+        PartSort::Weekday => put_quoted(out, at, sort, &*s),
+        PartSort::Ordinal => put_quoted(out, at, sort, &*s),
+        PartSort::Numbers(_) => put_item(out, at, sort, &*s),
     }
 }
 
 // Writes the values of a part with a comma between them.
-fn put_item_list(out: &mut [u8], at: usize, sort: ItemSort, v: &[u8]) -> usize
+fn put_item_list(out: &mut [u8], at: usize, sort: PartSort, v: &[u8]) -> usize
     ensures { λ r. ⌜ Wrote (pen (now (out .entry)) at) (commaList (itemJsonShown (partSortSaid sort)) (now (v .entry))) (pen (now (out .exit)) r) ⌝ }
 {
     let mut p = at;
@@ -56,7 +56,7 @@ fn put_item_list(out: &mut [u8], at: usize, sort: ItemSort, v: &[u8]) -> usize
 }
 
 // Writes the values of a part: one plain, several as an array.
-fn put_items(out: &mut [u8], at: usize, sort: ItemSort, v: &[u8]) -> usize
+fn put_items(out: &mut [u8], at: usize, sort: PartSort, v: &[u8]) -> usize
     ensures { λ r. ⌜ Wrote (pen (now (out .entry)) at) (itemsShown (partSortSaid sort) (now (v .entry))) (pen (now (out .exit)) r) ⌝ }
 {
     if find(v, b',') >= v.len() {

@@ -17,7 +17,7 @@ use Rattle.octets.proofs.Utf8.{printable-clean, clean-both}
 use Rattle.calendar.specs.Dates.{dateIs, timeIs, dateTimeIs, offsetIs, dateText, timeText, dateTimeText, offsetText}
 use Rattle.calendar.specs.Durations.{durationIs, periodEndIs, periodEndText}
 use Rattle.calendar.specs.Recurrence.{partsText}
-use Rattle.calendar.proofs.Again.{text-capital}
+use Rattle.calendar.proofs.WrittenRules.{text-capital}
 use Rattle.json.specs.Tree.{Json, null, falsity, truth, num, str, arr, obj, Members, string?, number?, boolean?, array?, object?, listOfItems, octetsOf, elements}
 use Rattle.content.proofs.WrittenOctets.{printable, joined-has}
 use Rattle.values.specs.Sorts.{Sort, plain, binary, boolean, date, dateTime, duration, float, geo, integer, period, recur, text, status, time, utcOffset, sortSplits}

@@ -25,8 +25,8 @@ use Rattle.calendar.specs.Dates.{momentOf, momentIs, momentText}
 use Rattle.calendar.specs.Recurrence.{PartSort, frequency, moment, count, weekday, ordinal, numbers, Key, keys, keyIn, keyNamed, untilOf, countOf, numberOf, itemOf, several, Part, part, keyedPart, partOf, names, isRule, partsOf, partText, partsText}
 use Rattle.calendar.proofs.Octets.{itemOctet}
 use Rattle.calendar.proofs.Readback.{capital-upper, moment-returned}
-use Rattle.calendar.proofs.Walk.{readPart, readParts, rule-parts, named-found}
-use Rattle.calendar.proofs.Again.{item-again, value-octets, parts-again, text-upper, text-clean}
+use Rattle.calendar.proofs.RuleParts.{readPart, readParts, rule-parts, named-found}
+use Rattle.calendar.proofs.WrittenRules.{item-again, value-octets, parts-again, text-upper, text-clean}
 use Rattle.json.specs.Tree.{Json, num, str, obj, string?, number?, array?, object?, itemsOf}
 use Rattle.tape.specs.Sound.{hasKey, distinctKeys}
 use Rattle.content.specs.Parameters.{plainOr}

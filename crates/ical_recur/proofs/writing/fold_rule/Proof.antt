@@ -8,8 +8,8 @@ use Rattle.octets.proofs.Positions.{from}
 use Rattle.content.specs.Folding.{folding}
 use Rattle.content.proofs.Folding.{Leads, leads-start, leads-on, leads-last}
 use Rattle.calendar.specs.Walk.{ruleShown}
-use Rattle.calendar.proofs.Showing.{part-places, rule-more, rule-last}
-use Rattle.calendar.proofs.Turns.{part-inside}
+use Rattle.calendar.proofs.WrittenItems.{part-places, rule-more, rule-last}
+use Rattle.calendar.proofs.RuleLoop.{part-inside}
 use Rattle.ical_recur.proofs.writing.fold_rule.Statement.{statement}
 use Rattle.ical_recur.proofs.writing.fold_rule.Tie as tie
 

@@ -9,7 +9,7 @@ use Rattle.content.specs.Folding.{folding}
 use Rattle.content.proofs.Folding.{Leads, leads-start, leads-on, leads-last}
 use Rattle.calendar.proofs.Pieces.{scanned-le, scanned-in}
 use Rattle.calendar.specs.Walk.{partSortSaid, itemShown, valuesShown}
-use Rattle.calendar.proofs.Showing.{shown-more, shown-last}
+use Rattle.calendar.proofs.WrittenItems.{shown-more, shown-last}
 use Rattle.ical_recur.proofs.writing.fold_values.Statement.{statement}
 use Rattle.ical_recur.proofs.writing.fold_values.Tie as tie
 

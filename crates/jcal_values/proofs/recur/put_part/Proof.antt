@@ -1,6 +1,6 @@
 -- `jcal_values::recur::put_part` meets its contract.
 use Rattle.calendar.specs.Walk.{partSortSaid}
-use Rattle.calendar.proofs.Showing.{part-places}
+use Rattle.calendar.proofs.WrittenItems.{part-places}
 use Rattle.jcal_values.proofs.RecurParts.{part-wrote}
 use borrow.Author.Needs.{needs}
 use Rattle.jcal_values.proofs.recur.put_part.Statement.{statement}
