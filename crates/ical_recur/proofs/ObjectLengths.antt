@@ -103,7 +103,7 @@ basic-length (f ∷ fs) (x ∷ s) = rw (length-append (keeps f x) (basic fs s)) 
 string-length : (sort : PartSort) (s : List ℕ) → length (stringText sort s) ≤ length s
 unfolding stringText momentText dateTimeText
 string-length frequency s = omega arith
-string-length moment s = omega (arith, basic-length (dateTimeForm (leb 20 (length (upper s)))) (upper s), upper-length s)
+string-length moment s = omega (arith, basic-length (dateTimeForm true) (upper s), upper-length s)
 string-length count s = omega arith
 string-length weekday s = omega arith
 string-length ordinal s = omega arith

@@ -6,7 +6,7 @@ use mathlib.Core.Bool.{Bool, true, false, not}
 use mathlib.Core.List.{List, [], _∷_}
 use native.Mathlib.Omega.{arith}
 use borrow.Author.Tests.{eqb-true}
-use lib.Dec.{eqb, leb}
+use lib.Dec.{eqb}
 use lib.ListN.{length, getD, take}
 use lib.Seq.{take-all}
 use Rattle.octets.specs.Basics.{_and_, all, All}
@@ -21,10 +21,10 @@ use Rattle.octets.proofs.Pieces.{joined-split}
 use Rattle.octets.proofs.Positions.{taken}
 use Rattle.octets.proofs.Utf8.{printable-clean}
 use Rattle.octets.proofs.Decimal.{digits-all}
-use Rattle.calendar.specs.Forms.{Slot, digit, sign, letter, added, fits, keeps, basic, dateForm, clockForm, utc, timeForm, dateTimeForm, offsetForm}
 use Rattle.calendar.specs.Dates.{dateIs, timeIs, dateTimeIs, offsetIs, dateText, timeText, dateTimeText, offsetText}
 use Rattle.calendar.specs.Durations.{durationIs, forwardIs, periodEndIs, periodEndText}
-use Rattle.calendar.proofs.Readback.{capital, capital-printable, readable, fits-capital, duration-capital}
+use Rattle.calendar.specs.declared.texts.Form.the-variants.{Date, Time, DateTime, Offset}
+use Rattle.calendar.proofs.Readback.{capital, capital-printable, form-capital, duration-capital}
 use Rattle.content.proofs.WrittenOctets.{printable, joined-has}
 use Rattle.values.specs.Simple.{base64Octet, unpadded, binaryIs, pointed, floatOf, integerOf}
 use Rattle.values.proofs.NumberLaws.{integer-numeral, numeral-clean}
@@ -47,51 +47,18 @@ sign-printable : (c : ℕ) → isSign c ≡ true → printable c ≡ true
 unfolding isSign between
 sign-printable c h = either (eqb c (code "+")) (eqb c (code "-")) h (λ e. rw (eqb-true c (code "+") e)) (λ e. rw (eqb-true c (code "-") e))
 
--- fixed forms: what the basic text keeps
-basic-capital : (f : List Slot) (t : List ℕ) → all capital t ≡ true → all capital (basic f t) ≡ true
-unfolding basic all
-basic-capital [] t h = refl
-basic-capital (p ∷ f) [] h = refl
-basic-capital (p ∷ f) (x ∷ t) h =
-    let b = both (capital x) (all capital t) h in
-    all-append capital (keeps p x) (basic f t) ∙ and-true (kept p (b .0)) (basic-capital f t (b .1))
-  where
-    kept : (p : Slot) → capital x ≡ true → all capital (keeps p x) ≡ true
-    kept digit e = unfold keeps all in rw e
-    kept sign e = unfold keeps all in rw e
-    kept (letter l) e = unfold keeps all in rw e
-    kept (added a) e = unfold keeps all in refl
-
-form-clean : (f : List Slot) (t : List ℕ) (b : Bool) → all readable f ≡ true → (fits f t and b) ≡ true → Clean (basic f t)
-form-clean f t b r h = capitals-clean (basic f t) (basic-capital f t (fits-capital f t r (both (fits f t) b h .0)))
-
+-- fixed forms
 pub date-clean : (t : List ℕ) → dateIs t ≡ true → Clean (dateText t)
-unfolding dateIs dateText
-date-clean t h = form-clean dateForm t _ (unfold all readable dateForm between in refl) h
+date-clean t h = capitals-clean (dateText t) (form-capital Date t h)
 
 pub time-clean : (t : List ℕ) → timeIs t ≡ true → Clean (timeText t)
-unfolding timeIs timeText
-time-clean t h = form-clean (timeForm (leb 9 (length t))) t _ (forms (leb 9 (length t))) h
-  where
-    forms : (b : Bool) → all readable (timeForm b) ≡ true
-    forms true = unfold all readable timeForm utc clockForm between in refl
-    forms false = unfold all readable timeForm utc clockForm between in refl
+time-clean t h = capitals-clean (timeText t) (form-capital Time t h)
 
 pub date-time-clean : (t : List ℕ) → dateTimeIs t ≡ true → Clean (dateTimeText t)
-unfolding dateTimeIs dateTimeText
-date-time-clean t h = form-clean (dateTimeForm (leb 20 (length t))) t _ (forms (leb 20 (length t))) h
-  where
-    forms : (b : Bool) → all readable (dateTimeForm b) ≡ true
-    forms true = unfold all readable dateTimeForm utc dateForm clockForm between in refl
-    forms false = unfold all readable dateTimeForm utc dateForm clockForm between in refl
+date-time-clean t h = capitals-clean (dateTimeText t) (form-capital DateTime t h)
 
 pub offset-clean : (t : List ℕ) → offsetIs t ≡ true → Clean (offsetText t)
-unfolding offsetIs offsetText
-offset-clean t h = form-clean (offsetForm (leb 7 (length t))) t _ (forms (leb 7 (length t))) h
-  where
-    forms : (b : Bool) → all readable (offsetForm b) ≡ true
-    forms true = unfold all readable offsetForm clockForm between in refl
-    forms false = unfold all readable offsetForm clockForm between in refl
+offset-clean t h = capitals-clean (offsetText t) (form-capital Offset t h)
 
 -- durations and the ends of periods
 pub duration-clean : (t : List ℕ) → durationIs t ≡ true → Clean t
