@@ -11,7 +11,7 @@ use lib.Dec.{leb}
 use lib.ListN.{length, take, drop}
 use Rattle.octets.specs.Basics.{octets, pick, _or_, all, any, same, filled, twice}
 use Rattle.octets.specs.Optional.{map?}
-use Rattle.octets.specs.Classes.{isName, lower, lowerNameOctet, isLowerName, isLower, isDigit, between}
+use Rattle.octets.specs.Classes.{isName, lower, lowerNameOctet, isLowerName, isLower, isDigit, between, asIsOctet}
 use Rattle.octets.specs.Answers.{Answer, refused, accepted, then, orElse, unless}
 use Rattle.octets.specs.Pen.{Pen, pen, Wrote}
 use Rattle.octets.proofs.Cases.{cases, both, all-weaker}
@@ -21,7 +21,6 @@ use Rattle.octets.proofs.Pen.{then as behind, as-text, front-behind as kept-beh
 use Rattle.octets.proofs.Positions.{upto, from}
 use Rattle.json.specs.Tree.{Json, obj}
 use Rattle.json.specs.Print.{quoted, printString, print, firstItem, moreItems, firstMember, valuesJson}
-use Rattle.json.specs.Promise.{asIsOctet}
 use Rattle.types.specs.Codes.{typeName}
 use Rattle.types.specs.Table.{Row, Table, find}
 use Rattle.types.proofs.Types.{name-lower, nameless}

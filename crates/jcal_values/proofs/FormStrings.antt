@@ -7,7 +7,7 @@ use mathlib.Core.Option.{none, some}
 use mathlib.Core.Path.{_≡_, refl, sym, ap, _∙_}
 use borrow.Author.Tests.{eqb-true}
 use Rattle.octets.specs.Basics.{all}
-use Rattle.octets.specs.Classes.{between, isDigit}
+use Rattle.octets.specs.Classes.{between, isDigit, asIsOctet}
 use Rattle.octets.specs.Decimal.{isSign}
 use Rattle.octets.specs.Optional.{map?}
 use Rattle.octets.specs.Pen.{Pen, Wrote}
@@ -22,7 +22,6 @@ use Rattle.calendar.proofs.Fixed.{says-none, says-some, formFor}
 use Rattle.calendar.proofs.Readback.{form-fitted}
 use Rattle.json.specs.Tree.{Json, str}
 use Rattle.json.specs.Print.{printString, print}
-use Rattle.json.specs.Promise.{asIsOctet}
 use Rattle.jcal_values.proofs.Quoting.{quoted-bare, bare-class}
 
 -- a place that takes such octets alone

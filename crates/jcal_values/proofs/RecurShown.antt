@@ -12,7 +12,7 @@ use lib.ListN.{length, getD, take, drop}
 use Rattle.octets.specs.Basics.{octets, all, All}
 use Rattle.octets.specs.Pieces.{split, joined}
 use Rattle.octets.specs.Optional.{both?, isSome, given, each}
-use Rattle.octets.specs.Classes.{between, isUpper, isDigit, lowerOctet, upper, lower}
+use Rattle.octets.specs.Classes.{between, isUpper, isDigit, lowerOctet, upper, lower, asIsOctet}
 use Rattle.octets.specs.Decimal.{isSign}
 use Rattle.octets.proofs.Cases.{cases, both, all-weaker}
 use Rattle.octets.proofs.Classes.{lower-upper}
@@ -28,7 +28,6 @@ use Rattle.calendar.proofs.WrittenItems.{item-shown}
 use Rattle.calendar.proofs.RuleParts.{readPart, readParts, rule-parts, walked}
 use Rattle.json.specs.Tree.{Json, arr, obj, itemsOf}
 use Rattle.json.specs.Print.{printString, printKey, print, firstMember, moreMembers}
-use Rattle.json.specs.Promise.{asIsOctet}
 use Rattle.content.specs.Parameters.{plainOr}
 use Rattle.values.specs.Recur.{itemJson, partMembers, recurOf}
 use Rattle.values.specs.Shown.{stringShown, itemJsonShown, listShown, itemsShown, keyShown, partJsonShown, recurShown}
