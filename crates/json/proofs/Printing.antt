@@ -439,12 +439,6 @@ parse-print {j} p l =
     ∙ ap (λ (s : List ℕ). andThen (valueWithin mostOpen s) (λ j t. nothingBehind j (skipSpace t))) (skip-solid [] (print-solid p))
     ∙ ap (λ (o : Out Json). andThen o (λ j t. nothingBehind j (skipSpace t))) (round mostOpen p l [] tt)
 
--- no two values are printed alike
-pub print-injective : {j k : Json} → Printable j → depth j ≤ mostOpen → Printable k → depth k ≤ mostOpen → print j ≡ print k → j ≡ k
-print-injective {j} {k} p l q m h =
-    let z : ok j [] ≡ ok k [] = sym (parse-print p l) ∙ ap parseText h ∙ parse-print q m in
-    cc
-
 -- the octets of texts that 01 allows can be printed
 pub text-fit : (b : ℕ) → textOctet b ≡ true → fitOctet b ≡ true
 unfolding textOctet plainOctet isControl fitOctet

@@ -13,7 +13,7 @@ use Rattle.octets.specs.Classes.{asIsOctet}
 use Rattle.json.specs.Print.{escaped, quoted}
 use Rattle.json.specs.Promise.{Run}
 
-escaped-bare : (b : ℕ) → asIsOctet b ≡ true → escaped b ≡ b ∷ []
+pub escaped-bare : (b : ℕ) → asIsOctet b ≡ true → escaped b ≡ b ∷ []
 unfolding escaped asIsOctet
 escaped-bare b e =
     let w = neither (eqb b 34) (eqb b 92 or eqb b 10 or eqb b 9) (not-true _ e) in

@@ -6,7 +6,7 @@ use Rattle.octets.specs.Basics.{pick}
 use Rattle.octets.specs.Classes.{isSpace}
 
 -- a reader takes the octets from its place on: it gives what it read with the octets behind it;
--- or that a 33rd array or object is opened (01, number 6); or that this is no JSON (number 11)
+-- or that more arrays and objects are open at once than may be (01, number 6); or that this is no JSON (number 11)
 pub data Out (A : Type 0) : Type 0 where
   ok : A → List ℕ → Out A
   deep bad : Out A

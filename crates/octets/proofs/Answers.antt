@@ -9,12 +9,36 @@ use borrow.Author.Tests.{le-leb, lt-leb, leb-true, leb-false}
 use lib.Dec.{leb}
 use lib.ListN.{length}
 use Rattle.octets.specs.Pen.{Pen, pen, Wrote}
-use Rattle.octets.specs.Answers.{Answer, refused, accepted, then, orElse, unless, zeroed, answer, finished}
+use Rattle.octets.specs.declared.Refusal.{Refusal}
+use Rattle.octets.specs.declared.Refusal.the-variants.{TextTooLong, RowsMalformed, NotClean, NotContentLine, NotPaired, TooDeep, BadParameter, BadEncoding, BadValue, NoRoom, NotJson, NotJcal, BadStart, BadRule, NotServed}
+use Rattle.octets.specs.Answers.{number, Answer, refused, accepted, then, orElse, unless, zeroed, answer, finished}
 use Rattle.octets.proofs.Cases.{cases}
 use Rattle.octets.proofs.Pen.{kept, landed, full}
 
 pub not-accepted {ℓ} : {P : Type ℓ} {A : Type 0} {n : ℕ} {a : A} → _≡_ {A = Answer A} (refused n) (accepted a) → P
 not-accepted e = let z : _≡_ {A = ℕ} 0 1 = cc in absurd (omega arith)
+
+-- a refusal has a number, and leaves what the buffer's length says
+pub numbered : (r : Refusal) → number r ≡ 0 → ⊥
+numbered TextTooLong e = omega arith
+numbered RowsMalformed e = omega arith
+numbered NotClean e = omega arith
+numbered NotContentLine e = omega arith
+numbered NotPaired e = omega arith
+numbered TooDeep e = omega arith
+numbered BadParameter e = omega arith
+numbered BadEncoding e = omega arith
+numbered BadValue e = omega arith
+numbered NoRoom e = omega arith
+numbered NotJson e = omega arith
+numbered NotJcal e = omega arith
+numbered BadStart e = omega arith
+numbered BadRule e = omega arith
+numbered NotServed e = omega arith
+
+pub refused-alike : (n : ℕ) (a b : List ℕ) → length a ≡ length b → answer (refused n) a ≡ answer (refused n) b
+unfolding answer zeroed
+refused-alike n a b e = rw e
 
 pub accepted-same : {A : Type 0} {a b : A} → _≡_ {A = Answer A} (accepted a) (accepted b) → a ≡ b
 accepted-same e = cc

@@ -9,8 +9,8 @@ use borrow.Author.Tests.{le-leb, lt-leb, leb-true, eq-eqb, ne-eqb, eqb-true}
 use lib.Dec.{eqb, leb}
 use lib.ListN.{length, getD, drop}
 use Rattle.octets.specs.Basics.{_and_, _or_, all, filled, same}
-use Rattle.octets.specs.Classes.{between, isDigit, isUpper, isLower, isLetter, nameOctet, isName, lowerNameOctet, isLowerName, upperOctet, lowerOctet, upper, lower, sameName}
-use Rattle.octets.proofs.Cases.{cases, same?, never, both, either, and-true, and-assoc, and-true-right, all-weaker}
+use Rattle.octets.specs.Classes.{between, isDigit, isUpper, isLower, isLetter, nameOctet, isName, lowerNameOctet, isLowerName, plainOctet, textOctet, upperOctet, lowerOctet, upper, lower, sameName}
+use Rattle.octets.proofs.Cases.{cases, same?, never, both, either, or-first, and-true, and-assoc, and-true-right, all-weaker}
 use Rattle.octets.proofs.Positions.{here, ended}
 
 -- lo ≤ c ≤ hi, told by the test
@@ -111,9 +111,22 @@ pub map-length : (f : ℕ → ℕ) (s : List ℕ) → length (map f s) ≡ lengt
 map-length f [] = refl
 map-length f (x ∷ s) = ap suc (map-length f s)
 
+pub upper-length : (s : List ℕ) → length (upper s) ≡ length s
+unfolding upper
+upper-length s = map-length upperOctet s
+
 pub name-length : (a b : List ℕ) → (length a ≡ length b → ⊥) → sameName a b ≡ false
 unfolding sameName upper
 name-length a b n = same-length (map upperOctet a) (map upperOctet b) (λ e. n (sym (map-length upperOctet a) ∙ e ∙ map-length upperOctet b))
+
+-- octets of texts, and those of a line
+pub plain-text : (c : ℕ) → plainOctet c ≡ true → textOctet c ≡ true
+unfolding textOctet
+plain-text c h = or-first _ h
+
+pub text-plain : (c : ℕ) → textOctet c ≡ true → eqb c (code "\n") ≡ false → plainOctet c ≡ true
+unfolding textOctet
+text-plain c h n = either (plainOctet c) (eqb c (code "\n")) h (λ e. e) (λ e. never e n)
 
 -- case
 pub upperOctet-twice : (c : ℕ) → upperOctet (upperOctet c) ≡ upperOctet c
@@ -209,24 +222,20 @@ pub name-is : (a b : List ℕ) → sameName a b ≡ true → upper a ≡ upper b
 unfolding sameName
 name-is a b e = same-is (upper a) (upper b) e
 
-pub name-same : (a b : List ℕ) → upper a ≡ upper b → sameName a b ≡ true
-unfolding sameName
-name-same a b e = rw e (same-itself (upper b))
-
 -- names in either case
-name-of-lower : (c : ℕ) → nameOctet c ≡ true → lowerNameOctet (lowerOctet c) ≡ true
+pub name-of-lower : (c : ℕ) → nameOctet c ≡ true → lowerNameOctet (lowerOctet c) ≡ true
 unfolding nameOctet isLetter lowerNameOctet
 name-of-lower c h = cases (isUpper c)
     (λ e. let b = isUpper-range c e in rw (lower-octet-is c e, range-lower (c + 32) (omega arith) (omega arith)))
     (λ e. rw (lower-octet-other c e) (rw e at h))
 
-name-of-upper : (c : ℕ) → nameOctet c ≡ true → nameOctet (upperOctet c) ≡ true
+pub name-of-upper : (c : ℕ) → nameOctet c ≡ true → nameOctet (upperOctet c) ≡ true
 unfolding nameOctet isLetter
 name-of-upper c h = cases (isLower c)
     (λ e. let b = isLower-range c e in rw (upper-octet-is c e, range-upper (c - 32) (omega arith) (omega arith)))
     (λ e. rw (upper-octet-other c e) h)
 
-lower-name-octet : (c : ℕ) → lowerNameOctet c ≡ true → nameOctet c ≡ true
+pub lower-name-octet : (c : ℕ) → lowerNameOctet c ≡ true → nameOctet c ≡ true
 unfolding nameOctet isLetter lowerNameOctet
 lower-name-octet c h = cases (isUpper c) (λ e. rw e) (λ e. rw e h)
 

@@ -196,19 +196,15 @@ module _ (p : ℕ → Bool) where
       (λ e. rw e (all-trim s (both (p c) (all p s) h .1)))
       (λ e. rw e h)
 
-  pub all-unsigned : (s : List ℕ) → all p s ≡ true → all p (unsigned s) ≡ true
-  unfolding unsigned all
-  all-unsigned [] h = refl
-  all-unsigned (c ∷ s) h = cases (isSign c) (λ e. rw e (both (p c) (all p s) h .1)) (λ e. rw e h)
-
   pub all-minusIf : p (code "-") ≡ true → (b : Bool) (s : List ℕ) → all p s ≡ true → all p (minusIf b s) ≡ true
   unfolding minusIf all
   all-minusIf m true s h = and-true m h
   all-minusIf m false s h = h
 
-  pub all-integer : p (code "-") ≡ true → (s : List ℕ) → all p s ≡ true → all p (integerText s) ≡ true
-  unfolding integerText
-  all-integer m s h = all-minusIf m (minus s and not (eqb (valueOf (unsigned s)) 0)) (trim (unsigned s)) (all-trim (unsigned s) (all-unsigned s h))
+pub trim-length : (s : List ℕ) → length (trim s) ≤ length s
+unfolding trim
+trim-length [] = omega arith
+trim-length (c ∷ s) = let h = trim-length s in cases (eqb c (code "0") and isDigit (getD s 0 0)) (λ e. rw e (omega arith)) (λ e. rw e (omega arith))
 
 pub trim-digits : (s : List ℕ) → digits s ≡ true → digits (trim s) ≡ true
 trim-digits s h = all-digits (trim s) (trim-first s (digits-first s h)) (all-trim isDigit s (digits-all s h))
@@ -254,18 +250,6 @@ module _ (s : List ℕ) (h : DigitFirst (unsigned s)) where
 -- n in decimal
 pub figures-first : (w n : ℕ) → DigitFirst (figures (suc w) n)
 figures-first w n = rw (figures-front w n) (value-digit (n / 10 ^ w % 10) (omega arith))
-
-pub decimal-value : (n : ℕ) → n < 10 ^ 20 → valueOf (decimal n) ≡ n
-unfolding decimal
-decimal-value n h = trim-value (figures 20 n) ∙ figures-value 20 n h
-
-pub decimal-digits : (n : ℕ) → digits (decimal n) ≡ true
-unfolding decimal
-decimal-digits n = trim-digits (figures 20 n) (all-digits (figures 20 n) (figures-first 19 n) (figures-digits 20 n))
-
-pub decimal-trimmed : (n : ℕ) → trim (decimal n) ≡ decimal n
-unfolding decimal
-decimal-trimmed n = trim-twice (figures 20 n)
 
 -- a width more than the number has
 trim-wide : (w n : ℕ) → n < 10 ^ suc w → trim (figures (suc (suc w)) n) ≡ trim (figures (suc w) n)

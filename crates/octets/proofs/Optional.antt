@@ -5,6 +5,7 @@ use mathlib.Core.Bool.{Bool, true, false}
 use mathlib.Core.List.{List, [], _∷_}
 use mathlib.Core.Option.{Option, none, some}
 use native.Mathlib.Omega.{arith}
+use Rattle.octets.proofs.Cases.{never}
 use Rattle.octets.specs.Optional.{map?, both?, then?, isSome, when, guard, each}
 
 pub missing {ℓ} : {P : Type ℓ} {A : Type 0} {a : A} → _≡_ {A = Option A} none (some a) → P
@@ -12,6 +13,16 @@ missing e = let z : _≡_ {A = ℕ} 0 1 = cc in absurd (omega arith)
 
 pub some-same : {A : Type 0} {a b : A} → _≡_ {A = Option A} (some a) (some b) → a ≡ b
 some-same e = cc
+
+pub some-when : {A : Type 0} (b : Bool) (a : A) → isSome (when b a) ≡ b
+unfolding isSome when
+some-when true a = refl
+some-when false a = refl
+
+pub none-is : {A : Type 0} (o : Option A) → isSome o ≡ false → o ≡ none
+unfolding isSome
+none-is none e = refl
+none-is (some a) e = never refl e
 
 pub when-is : {A : Type 0} (b : Bool) (a c : A) → when b a ≡ some c → (b ≡ true) × (a ≡ c)
 unfolding when

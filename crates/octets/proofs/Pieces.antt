@@ -56,7 +56,7 @@ split-filled sep [] e = let z : _≡_ {A = ℕ} 0 1 = cc in omega arith
 split-filled sep (x ∷ s) e = cut-filled (eqb x sep) x (split sep s) e
 
 -- what is split is joined again
-joined-onto : (sep x : ℕ) (ls : List (List ℕ)) → joined sep (onto x ls) ≡ x ∷ joined sep ls
+pub joined-onto : (sep x : ℕ) (ls : List (List ℕ)) → joined sep (onto x ls) ≡ x ∷ joined sep ls
 unfolding joined onto
 joined-onto sep x [] = refl
 joined-onto sep x (l ∷ []) = refl

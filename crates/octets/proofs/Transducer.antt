@@ -64,10 +64,3 @@ module _ (Q : Type 0) (next : Q → ℕ → Q) (out : Q → ℕ → List ℕ) (l
 
       pub run-utf8 : (s : List ℕ) (q : Q) → utf8 s ≡ true → utf8 (run q s) ≡ true
       run-utf8 s q h = start-utf8 (run q s) (run-due s start q (begin refl) (utf8-start s h))
-
-      pub run-clean : ((q : Q) (c : ℕ) → plainOctet c ≡ true → all plainOctet (out q c) ≡ true) → ((q : Q) → all plainOctet (last q) ≡ true)
-          → (s : List ℕ) (q : Q) → clean s ≡ true → clean (run q s) ≡ true
-      unfolding clean
-      run-clean each end s q h =
-          let b = both (utf8 s) (all plainOctet s) h in
-          and-true (run-utf8 s q (b .0)) (run-all plainOctet plainOctet each end s q (b .1))

@@ -2,11 +2,10 @@
 ghost use mathlib.Core.Path.{_≡_};
 ghost use Prim.Native.Nat.{_<_};
 ghost use lib.ListN.{getD};
-ghost use Rattle.octets.specs.Basics.{all};
-ghost use Rattle.octets.specs.Classes.{between};
 ghost use Rattle.octets.specs.Utf8.{Due, start, one, two, utf8};
 ghost use Rattle.octets.specs.Characters.{Awaits, Ends};
-use crate::names::both;
+use crate::names::Class;
+use crate::names::all_in;
 use crate::names::peek;
 use crate::names::within;
 
@@ -76,23 +75,10 @@ fn character(s: &[u8], i: usize) -> usize
     0
 }
 
-// Each octet is from lo to hi. The loop has no way out on the way, so that many octets are tested at once.
-fn all_within(s: &[u8], lo: u8, hi: u8) -> bool
-    ensures { λ r. ⌜ r ≡ all (between lo hi) (now (s .entry)) ⌝ }
-{
-    let mut so_far = true;
-    let mut i = 0;
-    while i < s.len() {
-        so_far = both(so_far, within(lo, hi, s[i]));
-        i += 1;
-    }
-    so_far
-}
-
 pub fn is_utf8(s: &[u8]) -> bool
     ensures { λ r. ⌜ r ≡ utf8 (now (s .entry)) ⌝ }
 {
-    if all_within(&*s, 0, 127) {
+    if all_in(&*s, Class::Ascii) {
         return true;
     }
     has_characters(&*s)

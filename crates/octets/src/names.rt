@@ -20,6 +20,7 @@ pub enum Class {
     Space,
     Unescaped,
     AsIs,
+    Ascii,
 }
 
 pub(crate) fn within(lo: u8, hi: u8, c: u8) -> bool
@@ -182,6 +183,7 @@ impl Class {
             Class::Space => is_space(c),
             Class::Unescaped => is_unescaped(c),
             Class::AsIs => is_as_is(c),
+            Class::Ascii => c <= 127,
         }
     }
 }

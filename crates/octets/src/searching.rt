@@ -4,21 +4,15 @@ ghost use mathlib.Core.Bool.{not};
 ghost use Prim.Native.Nat.{_+_, _≤_};
 ghost use lib.Dec.{eqb};
 ghost use lib.ListN.{length, drop};
-ghost use Rattle.octets.specs.Basics.{_and_, all};
+ghost use Rattle.octets.specs.Basics.{all};
 ghost use Rattle.octets.specs.Groups.{belongs};
 ghost use Rattle.octets.specs.Search.{until, Sought};
 use crate::names::Class;
 use crate::names::all_in;
+use crate::names::both;
 
 // Octets that are looked at together.
 const BLOCK: usize = 16;
-
-// Whether none was `b`, and `c` is not.
-fn still_free(free: bool, c: u8, b: u8) -> bool
-    ensures { λ r. ⌜ r ≡ (free and not (eqb c b)) ⌝ }
-{
-    if free { c != b } else { false }
-}
 
 // Whether no octet is `b`. The loop has no way out on the way, so that many octets are looked at together.
 pub fn is_free(s: &[u8], b: u8) -> bool
@@ -27,7 +21,7 @@ pub fn is_free(s: &[u8], b: u8) -> bool
     let mut free = true;
     let mut i = 0;
     while i < s.len() {
-        free = still_free(free, s[i], b);
+        free = both(free, s[i] != b);
         i += 1;
     }
     free

@@ -2,5 +2,5 @@ pub mod Tags
 pub mod Values
 pub mod Walks
 pub mod Scans
-pub mod Back
+pub mod Laid
 pub mod Tables

@@ -61,9 +61,6 @@ module _ (t : List ℕ) (i : ℕ) where
   leaf-is : {b : ℕ} → tagAt t i ≡ b → ((b ≡ tagEnd) → ⊥) → ((b ≡ tagArray) → ⊥) → ((b ≡ tagObject) → ⊥) → ((b ≡ tagNumber) → ⊥) → ((b ≡ tagString) → ⊥) → valueAt t i ≡ leaf b (drop (i + 1) t)
   leaf-is e n a o m s = rw (← e) (shown (at-other t i (rw e n) (rw e a) (rw e o) (rw e m) (rw e s)))
 
-  pub null-is : tagAt t i ≡ tagNull → valueAt t i ≡ null
-  null-is e = leaf-is e (λ x. omega arith) (λ x. omega arith) (λ x. omega arith) (λ x. omega arith) (λ x. omega arith)
-
   pub false-is : tagAt t i ≡ tagFalse → valueAt t i ≡ falsity
   false-is e = leaf-is e (λ x. omega arith) (λ x. omega arith) (λ x. omega arith) (λ x. omega arith) (λ x. omega arith)
 
@@ -89,10 +86,6 @@ module _ (t : List ℕ) (i : ℕ) where
   pub string-some : tagAt t i ≡ tagString → string? (valueAt t i) ≡ some (octetsOf (valueAt t i))
   unfolding string?
   string-some e = ap string? (string-is t i e) ∙ ap some (sym (string-text e))
-
-  pub number-some : tagAt t i ≡ tagNumber → number? (valueAt t i) ≡ some (octetsOf (valueAt t i))
-  unfolding number?
-  number-some e = ap number? (number-is t i e) ∙ ap some (sym (number-text e))
 
   pub false-some : tagAt t i ≡ tagFalse → boolean? (valueAt t i) ≡ some false
   unfolding boolean?

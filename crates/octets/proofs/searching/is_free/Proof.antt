@@ -18,7 +18,7 @@ abbrev μ-loop : tie.MeasureT-loop
 μ-loop s b free₀ i₀ free i = length s - i
 
 loop-again : tie.Need-loop-again Inv-loop μ-loop
-loop-again c = (omega arith, rw (c .still-free .ensures) (all-more (λ (x : ℕ). not (eqb x (c .before .before .before .before .before .args .b))) (c .before .before .before .before .before .args .s .now) (c .before .before .before .loop .i) (c .before .before .before .loop .free) (c .before .before .loop-test .taken) ∙ c .before .before .before .loop .inv .1))
+loop-again c = (omega arith, rw (c .both .ensures) (all-more (λ (x : ℕ). not (eqb x (c .before .before .before .before .before .args .b))) (c .before .before .before .before .before .args .s .now) (c .before .before .before .loop .i) (c .before .before .before .loop .free) (c .before .before .loop-test .taken) ∙ c .before .before .before .loop .inv .1))
 
 returns : tie.Need-returns Inv-loop μ-loop
 returns c = sym (all-done _ _ _ _ (c .loop-test .left)) ∙ c .before .loop .inv .1
