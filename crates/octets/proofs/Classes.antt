@@ -3,13 +3,15 @@ use Prim.Native.Nat.{ℕ, suc, _+_, _-_, _≤_, _<_}
 use Prim.Native.Char.{code}
 use mathlib.Core.Path.{_≡_, refl, sym, ap, _∙_}
 use mathlib.Core.Bool.{Bool, true, false}
-use mathlib.Core.List.{List, [], _∷_, map}
+use mathlib.Core.List.{List, [], _∷_, map, map-id}
 use native.Mathlib.Omega.{arith}
 use borrow.Author.Tests.{le-leb, lt-leb, leb-true, eq-eqb, ne-eqb, eqb-true}
 use lib.Dec.{eqb, leb}
 use lib.ListN.{length, getD, drop}
 use Rattle.octets.specs.Basics.{_and_, _or_, all, filled, same}
 use Rattle.octets.specs.Classes.{between, isDigit, isUpper, isLower, isLetter, nameOctet, isName, lowerNameOctet, isLowerName, plainOctet, textOctet, upperOctet, lowerOctet, upper, lower, sameName}
+use Rattle.octets.specs.Groups.{cased}
+use Rattle.octets.specs.declared.names.Case.the-variants.{Exact}
 use Rattle.octets.proofs.Cases.{cases, same?, never, both, either, or-first, and-true, and-assoc, and-true-right, all-weaker}
 use Rattle.octets.proofs.Positions.{here, ended}
 
@@ -81,31 +83,24 @@ same-is (x ∷ a) (y ∷ b) h = same? x y
 pub same-length : (a b : List ℕ) → (length a ≡ length b → ⊥) → same a b ≡ false
 same-length a b n = cases (same a b) (λ e. absurd (n (ap length (same-is a b e)))) (λ e. e)
 
--- `same` of what lies behind i in two lists, as octets and as names
-module _ (a b : List ℕ) (i : ℕ) (h : i < length a) (k : i < length b) where
-  pub same-on : getD a i 0 ≡ getD b i 0 → same (drop i a) (drop i b) ≡ same (drop (i + 1) a) (drop (i + 1) b)
+-- `same` of what lies behind i in two lists, in the case that f turns octets into
+module _ (f : ℕ → ℕ) (a b : List ℕ) where
+  module _ (i : ℕ) (h : i < length a) (k : i < length b) where
+    pub cased-on : f (getD a i 0) ≡ f (getD b i 0) → same (map f (drop i a)) (map f (drop i b)) ≡ same (map f (drop (i + 1) a)) (map f (drop (i + 1) b))
+    unfolding same
+    cased-on e = rw (here a i h, here b i k, eq-eqb (f (getD a i 0)) (f (getD b i 0)) e)
+
+    pub cased-stop : (f (getD a i 0) ≡ f (getD b i 0) → ⊥) → same (map f (drop i a)) (map f (drop i b)) ≡ false
+    unfolding same
+    cased-stop n = rw (here a i h, here b i k, ne-eqb (f (getD a i 0)) (f (getD b i 0)) n)
+
+  pub cased-end : (i : ℕ) → length a ≤ i → length b ≤ i → same (map f (drop i a)) (map f (drop i b)) ≡ true
   unfolding same
-  same-on e = rw (here a i h, here b i k, eq-eqb (getD a i 0) (getD b i 0) e)
-
-  pub same-stop : (getD a i 0 ≡ getD b i 0 → ⊥) → same (drop i a) (drop i b) ≡ false
-  unfolding same
-  same-stop n = rw (here a i h, here b i k, ne-eqb (getD a i 0) (getD b i 0) n)
-
-  pub name-on : upperOctet (getD a i 0) ≡ upperOctet (getD b i 0) → sameName (drop i a) (drop i b) ≡ sameName (drop (i + 1) a) (drop (i + 1) b)
-  unfolding same sameName upper
-  name-on e = rw (here a i h, here b i k, eq-eqb (upperOctet (getD a i 0)) (upperOctet (getD b i 0)) e)
-
-  pub name-stop : (upperOctet (getD a i 0) ≡ upperOctet (getD b i 0) → ⊥) → sameName (drop i a) (drop i b) ≡ false
-  unfolding same sameName upper
-  name-stop n = rw (here a i h, here b i k, ne-eqb (upperOctet (getD a i 0)) (upperOctet (getD b i 0)) n)
+  cased-end i h k = rw (ended a i h, ended b i k)
 
 pub same-end : (a b : List ℕ) (i : ℕ) → length a ≤ i → length b ≤ i → same (drop i a) (drop i b) ≡ true
 unfolding same
 same-end a b i h k = rw (ended a i h, ended b i k)
-
-pub name-end : (a b : List ℕ) (i : ℕ) → length a ≤ i → length b ≤ i → sameName (drop i a) (drop i b) ≡ true
-unfolding same sameName upper
-name-end a b i h k = rw (ended a i h, ended b i k)
 
 pub map-length : (f : ℕ → ℕ) (s : List ℕ) → length (map f s) ≡ length s
 map-length f [] = refl
@@ -115,9 +110,19 @@ pub upper-length : (s : List ℕ) → length (upper s) ≡ length s
 unfolding upper
 upper-length s = map-length upperOctet s
 
+pub cased-length : (f : ℕ → ℕ) (a b : List ℕ) → (length a ≡ length b → ⊥) → same (map f a) (map f b) ≡ false
+cased-length f a b n = same-length (map f a) (map f b) (λ e. n (sym (map-length f a) ∙ e ∙ map-length f b))
+
 pub name-length : (a b : List ℕ) → (length a ≡ length b → ⊥) → sameName a b ≡ false
 unfolding sameName upper
-name-length a b n = same-length (map upperOctet a) (map upperOctet b) (λ e. n (sym (map-length upperOctet a) ∙ e ∙ map-length upperOctet b))
+name-length a b n = cased-length upperOctet a b n
+
+-- octets as they are
+pub exact : (n : List ℕ) → map (cased Exact) n ≡ n
+exact n = map-id n
+
+pub same-exact : (a b : List ℕ) → same (map (cased Exact) a) (map (cased Exact) b) ≡ same a b
+same-exact a b = ap (λ (l : List ℕ). same l (map (cased Exact) b)) (exact a) ∙ ap (same a) (exact b)
 
 -- octets of texts, and those of a line
 pub plain-text : (c : ℕ) → plainOctet c ≡ true → textOctet c ≡ true

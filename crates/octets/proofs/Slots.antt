@@ -2,15 +2,13 @@
 use Prim.Native.Nat.{ℕ, zero, suc, _+_, _-_, _*_, _%_, _≤_, _<_}
 use mathlib.Core.Path.{_≡_, refl, sym, ap, _∙_}
 use mathlib.Core.Bool.{Bool, true, false}
-use mathlib.Core.List.{List, [], _∷_, map, map-id}
+use mathlib.Core.List.{List, [], _∷_, map}
 use native.Mathlib.Omega.{arith}
 use borrow.Author.Tests.{ne-eqb, eqb-true, eqb-false, ltb-true, ltb-false}
 use lib.Dec.{eqb, ltb}
 use lib.ListN.{length, drop, getD, set, replicate, length-drop}
 use lib.Seq.{drop-set-lt, drop-set-add, getD-drop, getD-set-same, getD-set-other}
 use Rattle.octets.specs.Basics.{_or_, any, same, among, twice}
-use Rattle.octets.specs.Groups.{cased}
-use Rattle.octets.specs.declared.names.Case.the-variants.{Exact}
 use Rattle.octets.specs.Slots.{slotFrom, slotOf, passed, slotIn, stands, inTable, Blank, Within}
 use Rattle.octets.proofs.Cases.{cases, same?, never, or-first, or-second, or-false, either, neither}
 use Rattle.octets.proofs.Classes.{same-itself, same-is}
@@ -30,10 +28,6 @@ module _ (f : ℕ → ℕ) (n : List ℕ) where
     pub slot-end : length n ≤ i → h ≡ slotFrom h (map f (drop i n))
     unfolding slotFrom
     slot-end l = rw (ended n i l)
-
--- names that compare as they are
-pub exact : (n : List ℕ) → map (cased Exact) n ≡ n
-exact n = map-id n
 
 -- n is looked for from the slot q on
 module _ (name : ℕ → List ℕ) (n table : List ℕ) where

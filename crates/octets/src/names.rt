@@ -259,16 +259,16 @@ pub fn peek(s: &[u8], i: usize) -> u8
     if i < s.len() { s[i] } else { 0 }
 }
 
-// The same octets.
-pub fn same(a: &[u8], b: &[u8]) -> bool
-    ensures { λ r. ⌜ r ≡ same (now (a .entry)) (now (b .entry)) ⌝ }
+// The same octets in one case.
+fn same_in(a: &[u8], b: &[u8], case: Case) -> bool
+    ensures { λ r. ⌜ r ≡ same (map (cased case) (now (a .entry))) (map (cased case) (now (b .entry))) ⌝ }
 {
     if a.len() != b.len() {
         return false;
     }
     let mut i = 0;
     while i < a.len() {
-        if a[i] != b[i] {
+        if case.turn(a[i]) != case.turn(b[i]) {
             return false;
         }
         i += 1;
@@ -276,21 +276,18 @@ pub fn same(a: &[u8], b: &[u8]) -> bool
     true
 }
 
+// The same octets.
+pub fn same(a: &[u8], b: &[u8]) -> bool
+    ensures { λ r. ⌜ r ≡ same (now (a .entry)) (now (b .entry)) ⌝ }
+{
+    same_in(a, b, Case::Exact)
+}
+
 // The same name, without case.
 pub fn same_name(a: &[u8], b: &[u8]) -> bool
     ensures { λ r. ⌜ r ≡ sameName (now (a .entry)) (now (b .entry)) ⌝ }
 {
-    if a.len() != b.len() {
-        return false;
-    }
-    let mut i = 0;
-    while i < a.len() {
-        if upper_octet(a[i]) != upper_octet(b[i]) {
-            return false;
-        }
-        i += 1;
-    }
-    true
+    same_in(a, b, Case::Upper)
 }
 
 // Copies a slice in one case, where there is room.
@@ -319,7 +316,7 @@ fn put_each_cased(out: &mut [u8], at: usize, src: &[u8], case: Case) -> usize
 }
 
 // Writes a slice in one case.
-fn put_cased(out: &mut [u8], at: usize, src: &[u8], case: Case) -> usize
+pub(crate) fn put_cased(out: &mut [u8], at: usize, src: &[u8], case: Case) -> usize
     ensures { λ r. ⌜ Wrote (pen (now (out .entry)) at) (map (cased case) (now (src .entry))) (pen (now (out .exit)) r) ⌝ }
 {
     if at <= out.len() {

@@ -5,7 +5,8 @@ use borrow.Author.Needs.{needs}
 use lib.ListN.{length, drop}
 use Rattle.octets.specs.Basics.{same}
 use Rattle.octets.specs.Slots.{slotOf, passed, slotIn}
-use Rattle.octets.proofs.Slots.{exact, seeking-start, seeking-end, seeking-free, seeking-there, seeking-on}
+use Rattle.octets.proofs.Classes.{exact}
+use Rattle.octets.proofs.Slots.{seeking-start, seeking-end, seeking-free, seeking-there, seeking-on}
 use Rattle.tape.specs.Decode.{keyAt}
 use Rattle.tape.proofs.keys.slot_in.Statement.{statement}
 use Rattle.tape.proofs.keys.slot_in.Tie as tie
