@@ -5,7 +5,7 @@ use mathlib.Core.Path.{_≡_, refl, sym, ap, _∙_}
 use mathlib.Core.Bool.{Bool, true, false}
 use mathlib.Core.List.{List, [], _∷_, _++_, append-assoc}
 use native.Mathlib.Omega.{arith}
-use borrow.Author.Tests.{eqb-true}
+use borrow.Author.Tests.{eqb-true, not-true, not-false}
 use lib.Dec.{eqb}
 use lib.ListN.{length, getD, take, drop}
 use lib.Seq.{drop-drop}
@@ -14,6 +14,7 @@ use Rattle.octets.proofs.Cases.{same?, neither}
 use Rattle.octets.proofs.Positions.{here, ended, first-of, part-rest}
 use Rattle.json.specs.Print.{escaped, quoted}
 use Rattle.content.specs.Carets.{decodedOctet, caretAfter, decodedFrom, decoded}
+use Rattle.octets.specs.Classes.{asIsOctet}
 use Rattle.octets.specs.Search.{until}
 use Rattle.content.specs.Object.{standsFor, octetsRead, special}
 use Rattle.octets.proofs.Search.{until-free, scan-low, scan-is}
@@ -38,10 +39,10 @@ turn c (d ∷ s) = same? c (code "^")
 
 -- octets that are not special
 plain-octet : (c : ℕ) → special c ≡ false → (eqb c (code "^") ≡ false) × (escaped c ≡ c ∷ [])
-unfolding special escaped
+unfolding special asIsOctet escaped
 plain-octet c e =
     let k = neither (eqb c (code "^")) _ e in
-    let q = neither (eqb c (code "\"")) _ (k .1) in
+    let q = neither (eqb c (code "\"")) _ (not-true _ (not-false _ (k .1))) in
     let b = neither (eqb c (code "\\")) _ (q .1) in
     let n = neither (eqb c (code "\n")) _ (b .1) in
     (k .0, rw (q .0, b .0, n .0, n .1))

@@ -1,9 +1,10 @@
 -- A parameter value on its way to jCal, octet by octet (RFC 6868 3; 01, Parameters and Values).
 use Prim.Native.Nat.{ℕ}
 use Prim.Native.Char.{code}
-use mathlib.Core.Bool.{Bool}
+use mathlib.Core.Bool.{Bool, not}
 use lib.Dec.{eqb}
 use Rattle.octets.specs.Basics.{pick, _or_}
+use Rattle.octets.specs.Classes.{asIsOctet}
 
 -- the octet that c stands for, where d follows it
 unfoldable pub standsFor : ℕ → ℕ → ℕ
@@ -15,4 +16,4 @@ octetsRead c d = pick (eqb c (code "^")) (pick (eqb d (code "n")) 2 (pick (eqb d
 
 -- an octet that is neither read nor written as it stands
 unfoldable pub special : ℕ → Bool
-special c = eqb c (code "^") or eqb c (code "\"") or eqb c (code "\\") or eqb c (code "\n") or eqb c (code "\t")
+special c = eqb c (code "^") or not (asIsOctet c)
