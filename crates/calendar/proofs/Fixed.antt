@@ -15,7 +15,8 @@ use Rattle.octets.specs.Classes.{upper}
 use Rattle.octets.proofs.Cases.{cases}
 use Rattle.calendar.specs.Forms.{Slot, digit, letter, added, fits, extended, fitsEither, keeps, basic, dateForm, clockForm, utc, timeForm, dateTimeForm, offsetForm}
 use Rattle.calendar.specs.Dates.{clockIn, momentIn, offsetIn, dateOf, timeOf, dateTimeOf, offsetOf, dateIs, timeIs, dateTimeIs, offsetIs, dateText, timeText, dateTimeText, offsetText}
-use Rattle.calendar.specs.Texts.{formOf, formIs, formText, octetsIn, textSaid, Says, Carries, isAdded, placeAt, slotAt, slots, shape, shaped, numbersIn, readForm}
+use Rattle.calendar.specs.Texts.{formOf, formIs, formText, octetsIn, textSaid, Says, Carries, isAdded, placeAt, slotAt, slots, longFrom, shape, shaped, numbersIn, readForm}
+pub use Rattle.calendar.specs.Texts.{formFor}
 use Rattle.calendar.specs.declared.texts.Form.{Form}
 use Rattle.calendar.specs.declared.texts.Form.the-variants.{Date, Time, DateTime, Offset}
 use Rattle.calendar.specs.declared.texts.Text.{Text}
@@ -69,7 +70,7 @@ form-is Time t = guard-when _ _ t ∙ ap (λ b. b and clockIn 0 t) (sym (fits-by
 form-is DateTime t = guard-when _ _ t ∙ ap (λ b. b and momentIn t) (sym (fits-by-length dateTimeForm 20 refl refl t))
 form-is Offset t = guard-when _ _ t ∙ ap (λ b. b and offsetIn t) (sym (fits-by-length offsetForm 7 refl refl t))
 
--- the places of each form as the code writes them, longer or not, and the length from which on a text has the longer form
+-- the places of each form as the code writes them, longer or not
 abbrev pub places : Form → Bool → List ℕ
 places Date b = octets "9999-99-99"
 places Time true = octets "99:99:99Z"
@@ -78,18 +79,6 @@ places DateTime true = octets "9999-99-99T99:99:99Z"
 places DateTime false = octets "9999-99-99T99:99:99"
 places Offset true = octets "+99:99:99"
 places Offset false = octets "+99:99"
-
-abbrev pub longFrom : Bool → Form → ℕ
-longFrom whole Date = 0
-longFrom whole Time = pick whole 9 7
-longFrom whole DateTime = pick whole 20 16
-longFrom whole Offset = pick whole 7 6
-
-abbrev pub formFor : Form → Bool → List Slot
-formFor Date b = dateForm
-formFor Time b = timeForm b
-formFor DateTime b = dateTimeForm b
-formFor Offset b = offsetForm b
 
 -- a text is written by the longer form, of which the other is the beginning
 pub form-text : (f : Form) (t : List ℕ) → formText f t ≡ basic (formFor f true) t
@@ -132,15 +121,9 @@ places-form DateTime false = refl
 places-form Offset true = refl
 places-form Offset false = refl
 
-pub shape-form : (whole : Bool) (f : Form) (s : List ℕ) → shape whole f s ≡ formFor f (leb (longFrom whole f) (length s))
-unfolding shape
-shape-form whole Date s = refl
-shape-form whole Time s = refl
-shape-form whole DateTime s = refl
-shape-form whole Offset s = refl
-
 shape-places : (whole : Bool) (f : Form) (s : List ℕ) (b : Bool) → leb (longFrom whole f) (length s) ≡ b → slots false (places f b) ≡ shape whole f (upper s)
-shape-places whole f s b e = places-form f b ∙ sym (shape-form whole f (upper s) ∙ ap (λ n. formFor f (leb (longFrom whole f) n)) (upper-length s) ∙ ap (formFor f) e)
+unfolding shape
+shape-places whole f s b e = places-form f b ∙ sym (ap (λ n. formFor f (leb (longFrom whole f) n)) (upper-length s) ∙ ap (formFor f) e)
 
 -- what a text says that was read by its places, and what one carries that was written by them
 pub read-by : (whole b : Bool) (f : Form) (s : List ℕ) → leb (longFrom whole f) (length s) ≡ b → {g : Form} → g ≡ f → {t : Text}

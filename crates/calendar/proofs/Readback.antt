@@ -19,12 +19,12 @@ use Rattle.octets.proofs.Classes.{between-true, within-between, below-between}
 use Rattle.calendar.specs.Forms.{Slot, digit, sign, letter, added, takes, fits, extended, fitsEither, keeps, basic, dateForm, clockForm, utc, timeForm, dateTimeForm, offsetForm}
 use Rattle.calendar.specs.Dates.{dateOf, dateTimeOf, dateIs, dateTimeIs, dateTimeText, momentOf, momentIs, momentText}
 use Rattle.calendar.specs.Durations.{spans, letters, durationIs, durationOf, forwardIs, periodEndOf, periodEndIs, periodEndText}
-use Rattle.calendar.specs.Texts.{formOf, formIs, formText, shape, shaped, numbersIn, readForm}
+use Rattle.calendar.specs.Texts.{formOf, formIs, formText, formFor, longFrom, shape, shaped, numbersIn, readForm}
 use Rattle.calendar.specs.declared.texts.Form.{Form}
 use Rattle.calendar.specs.declared.texts.Form.the-variants.{Date, Time, DateTime, Offset}
 use Rattle.calendar.proofs.Options.{when-is, guard-is, or-tells}
 use Rattle.calendar.proofs.Extended.{Fitted, fitted, fits-either, basic-front}
-use Rattle.calendar.proofs.Fixed.{formFor, longFrom, shape-form, form-taken, is-by, form-text, longer-written}
+use Rattle.calendar.proofs.Fixed.{form-taken, is-by, form-text, longer-written}
 use Rattle.calendar.proofs.Letters.{begins-no-digit, letters-all}
 use Rattle.calendar.proofs.Octets.{unsigned-all, among-all}
 
@@ -112,12 +112,12 @@ module _ (f : Form) (s t : List ℕ) (e : formOf f s ≡ some t) where
   abbrev longer : Bool
   longer = leb (longFrom false f) (length s)
 
-  numbered : (extended (shape false f s) s ≡ some t) × (numbersIn f t ≡ true)
-  unfolding readForm shaped
+  numbered : (extended (formFor f longer) s ≡ some t) × (numbersIn f t ≡ true)
+  unfolding readForm shaped shape
   numbered = guard-is (numbersIn f) (shaped false f s) t (form-taken f s ∙ e)
 
   pub form-fitted : Fitted (formFor f longer) s t
-  form-fitted = fitted (formFor f longer) s t (rw (shape-form false f s) at (numbered .0))
+  form-fitted = fitted (formFor f longer) s t (numbered .0)
 
   pub form-returned : Returned (formIs f) (formText f) s t
   form-returned =

@@ -14,7 +14,9 @@ use Rattle.calendar.specs.Dates.{dateTimeOf, dateTimeIs, dateTimeText}
 -- what is left of a duration without its sign and its digits: weeks stand alone; minutes may not be skipped between hours and seconds
 unfoldable pub spans : List (List ℕ)
 spans =
-    octets "PW" ∷ octets "PD" ∷ octets "PTH" ∷ octets "PTHM" ∷ octets "PTHMS" ∷ octets "PTM" ∷ octets "PTMS" ∷ octets "PTS" ∷ octets "PDTH" ∷ octets "PDTHM" ∷ octets "PDTHMS" ∷ octets "PDTM" ∷ octets "PDTMS" ∷ octets "PDTS" ∷ []
+    octets "PW" ∷ octets "PD"
+    ∷ octets "PTH" ∷ octets "PTHM" ∷ octets "PTHMS" ∷ octets "PTM" ∷ octets "PTMS" ∷ octets "PTS"
+    ∷ octets "PDTH" ∷ octets "PDTHM" ∷ octets "PDTHMS" ∷ octets "PDTM" ∷ octets "PDTMS" ∷ octets "PDTS" ∷ []
 
 -- the octets but the digits
 unfoldable pub letters : List ℕ → List ℕ

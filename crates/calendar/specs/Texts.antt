@@ -66,12 +66,22 @@ slotAt whole c = pick (isAdded whole c) (added c) (placeAt c)
 unfoldable pub slots : Bool → List ℕ → List Slot
 slots whole form = map (slotAt whole) form
 
--- the form of a text, which its length decides: of one in the extended form, or of one in the basic form
+-- the places of a form with its end or without it, and the length from which on a text has the end: of one in the extended form, or of one in the basic form
+abbrev pub formFor : Form → Bool → List Slot
+formFor Date b = dateForm
+formFor Time b = timeForm b
+formFor DateTime b = dateTimeForm b
+formFor Offset b = offsetForm b
+
+abbrev pub longFrom : Bool → Form → ℕ
+longFrom whole Date = 0
+longFrom whole Time = pick whole 9 7
+longFrom whole DateTime = pick whole 20 16
+longFrom whole Offset = pick whole 7 6
+
+-- the form of a text, which its length decides
 unfoldable pub shape : Bool → Form → List ℕ → List Slot
-shape whole Date s = dateForm
-shape whole Time s = timeForm (leb (pick whole 9 7) (length s))
-shape whole DateTime s = dateTimeForm (leb (pick whole 20 16) (length s))
-shape whole Offset s = offsetForm (leb (pick whole 7 6) (length s))
+shape whole f s = formFor f (leb (longFrom whole f) (length s))
 
 -- the extended text of a text that has the form
 unfoldable pub shaped : Bool → Form → List ℕ → Option (List ℕ)

@@ -5,14 +5,6 @@ use borrow.Author.Needs.{needs}
 use Rattle.stops_page.proofs.allowed.Statement.{statement}
 use Rattle.stops_page.proofs.allowed.Tie as tie
 
-returns : tie.Need-returns
-unfolding allowedBy
-returns c = rw (c .before .before .end .given .1) (omega arith)
-
-returns-2 : tie.Need-returns-2
-unfolding allowedBy
-returns-2 c = rw (c .before .before .end .given .1) (omega arith)
-
 pub allowed-spec : {M : Type 1} → statement M
 allowed-spec =
     tie.close
@@ -20,9 +12,9 @@ allowed-spec =
     (λ c. search needs)
     (λ c. search needs)
     (λ c. search needs)
-    returns
+    (λ c. unfold allowedBy in rw (c .before .before .end .given .1) (omega arith))
     (λ c. search needs)
     (λ c. search needs)
-    returns-2
+    (λ c. unfold allowedBy in rw (c .before .before .end .given .1) (omega arith))
     (λ c. unfold allowedBy in rw (c .enum-told .given .1))
     (λ c. unfold allowedBy in rw (c .enum-told2 .given .1)))

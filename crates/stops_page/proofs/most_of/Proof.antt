@@ -7,9 +7,6 @@ use Rattle.stops_page.proofs.Numbers.{no-digits, zeros, too-many, is-mo
 use Rattle.stops_page.proofs.most_of.Statement.{statement}
 use Rattle.stops_page.proofs.most_of.Tie as tie
 
-returns : tie.Need-returns
-returns c = no-digits _ (sym (c .before .all-digits .ensures) ∙ not-true _ (c .if1 .taken))
-
 returns-2 : tie.Need-returns-2
 returns-2 c =
     let all-digits = c .before .before .before .all-digits in
@@ -34,7 +31,7 @@ most-of-spec =
     tie.close
     (tie.spec
     (λ c κs. search needs)
-    returns
+    (λ c. no-digits _ (sym (c .before .all-digits .ensures) ∙ not-true _ (c .if1 .taken)))
     (λ c κs. search needs)
     returns-2
     (λ c κs. search needs)

@@ -10,9 +10,6 @@ use Rattle.stops_page.proofs.print_for.Tie as tie
 returns : tie.Need-returns
 returns c = as-text (c .before .before .put-bad .ensures) (no-most _ _ _ (ap mostSaid (sym (c .before .before .before .before .enum-told .given .1)) ∙ c .before .before .before .before .before .before .most-of .ensures))
 
-put-page-requires : tie.Need-put-page-requires
-put-page-requires c κs = most-bound _ _ (ap mostSaid (sym (c .before .before .n .given .1)) ∙ c .before .before .before .before .most-of .ensures)
-
 returns-2 : tie.Need-returns-2
 returns-2 c = as-text (c .before .before .put-page .ensures) (list-shown _ _ _ _ (ap mostSaid (sym (c .before .before .before .before .before .n .given .1)) ∙ c .before .before .before .before .before .before .before .most-of .ensures))
 
@@ -26,6 +23,6 @@ print-for-spec =
     (λ c κs. search needs)
     (λ c. search needs)
     returns
-    put-page-requires
+    (λ c κs. most-bound _ _ (ap mostSaid (sym (c .before .before .n .given .1)) ∙ c .before .before .before .before .most-of .ensures))
     (λ c. search needs)
     returns-2)

@@ -5,12 +5,6 @@ use borrow.Author.Needs.{needs}
 use Rattle.stops_page.proofs.print_list.Statement.{statement}
 use Rattle.stops_page.proofs.print_list.Tie as tie
 
-count-of-requires : tie.Need-count-of-requires
-count-of-requires c κs = begins _ _ _ _ (c .before .before .before .before .before .make-plan .ensures)
-
-put-stops-requires : tie.Need-put-stops-requires
-put-stops-requires c κs = begins _ _ _ _ (c .before .before .before .before .before .before .before .before .before .before .make-plan .ensures) .sound
-
 returns : tie.Need-returns
 returns c = as-text (then (c .before .before .before .before .before .before .put-head .ensures) (c .before .before .put-stops .ensures)) (shows-stops _ _ _ _ (c .before .before .before .before .before .before .before .before .before .before .before .before .before .make-plan .ensures) _ _ (c .before .before .before .before .before .before .before .before .before .before .enum-told .given .1) (c .before .before .before .before .before .before .before .count-of .ensures))
 
@@ -24,9 +18,9 @@ print-list-spec =
     (λ c κs. search needs)
     (λ c. search needs)
     (λ c. search needs)
-    count-of-requires
+    (λ c κs. begins _ _ _ _ (c .before .before .before .before .before .make-plan .ensures))
     (λ c κs. search needs)
-    put-stops-requires
+    (λ c κs. begins _ _ _ _ (c .before .before .before .before .before .before .before .before .before .before .make-plan .ensures) .sound)
     (λ c. search needs)
     (λ c. search needs)
     (λ c κs. search needs)

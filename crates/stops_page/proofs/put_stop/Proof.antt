@@ -7,9 +7,6 @@ use borrow.Author.Needs.{needs}
 use Rattle.stops_page.proofs.put_stop.Statement.{statement}
 use Rattle.stops_page.proofs.put_stop.Tie as tie
 
-part-put-all-end : tie.Need-part-put-all-end
-part-put-all-end c = omega (arith, shown-short _ _ (c .before .before .before .before .before .before .before .before .before .before .shown-length .ensures))
-
 returns : tie.Need-returns
 unfolding stopShown momentShown
 returns c = let text = c .before .before .before .before .before .before .before .before .before .before .before .before .before .before .before .before .before .before .before .moment-text .ensures in
@@ -26,7 +23,7 @@ put-stop-spec =
     (λ c κs. search needs)
     (λ c. search needs)
     (λ c. search needs)
-    part-put-all-end
+    (λ c. omega (arith, shown-short _ _ (c .before .before .before .before .before .before .before .before .before .before .shown-length .ensures)))
     (λ c κs. search needs)
     (λ c κs. search needs)
     (λ c. search needs)

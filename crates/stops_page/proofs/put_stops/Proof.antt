@@ -18,9 +18,6 @@ Inv-loop out₀ at to₀ run₀ out to run = Sound run × (length out ≡ length
 abbrev μ-loop : tie.MeasureT-loop
 μ-loop out₀ at to₀ run₀ out to run = length (stopsOf run)
 
-add-put-stop : tie.Need-add-put-stop Inv-loop μ-loop
-add-put-stop c = let f = c .before .before .before .loop .inv .0 .fits (c .before .before .loop-test .taken) in omega arith
-
 loop-less : tie.Need-loop-less Inv-loop μ-loop
 loop-less c = let l = on-length _ _ (c .before .before .before .before .before .before .before .loop .inv .0) (c .before .before .before .before .before .before .loop-test .taken) (c .advance .ensures) in omega (arith, l)
 
@@ -31,9 +28,6 @@ loop-again c = (
   leads-on (c .before .before .before .before .before .before .before .loop .inv .2) (c .before .before .before .put-stop .ensures) (on-shown _ _ (c .before .before .before .before .before .before .before .loop .inv .0) (c .before .before .before .before .before .before .loop-test .taken) (c .advance .ensures)),
 )
 
-returns : tie.Need-returns Inv-loop μ-loop
-returns c = leads-end (c .before .loop .inv .2) (end-shown _ _ (c .loop-test .left))
-
 pub put-stops-spec : {M : Type 1} → statement M
 put-stops-spec =
     tie.close
@@ -41,10 +35,10 @@ put-stops-spec =
     Inv-loop
     μ-loop
     (λ c. (c .before .pre, refl, leads-start))
-    add-put-stop
+    (λ c. let f = c .before .before .before .loop .inv .0 .fits (c .before .before .loop-test .taken) in omega arith)
     (λ c κs. search needs)
     (λ c κs. search needs)
     loop-less
     loop-again
     (λ c. search needs)
-    returns)
+    (λ c. leads-end (c .before .loop .inv .2) (end-shown _ _ (c .loop-test .left))))

@@ -15,15 +15,17 @@ Inv-loop run₀ run = Sound run × (run .at + length (stopsOf run) ≡ run₀ .a
 abbrev μ-loop : tie.MeasureT-loop
 μ-loop run₀ run = length (stopsOf run)
 
-loop-less : tie.Need-loop-less Inv-loop μ-loop
-loop-less c = let l = on-length _ _ (c .before .before .loop .inv .0) (c .before .loop-test .taken) (c .advance .ensures) in omega arith
-
 loop-again : tie.Need-loop-again Inv-loop μ-loop
 loop-again c = (on-sound _ _ (c .before .before .loop .inv .0) (c .before .loop-test .taken) (c .advance .ensures), on-end _ _ (c .before .before .loop .inv .0) (c .before .loop-test .taken) (c .advance .ensures) ∙ c .before .before .loop .inv .1)
 
-returns : tie.Need-returns Inv-loop μ-loop
-returns c = end-at _ (c .loop-test .left) ∙ c .before .loop .inv .1
-
 pub walked-spec : {M : Type 1} → statement M
 walked-spec =
-    tie.close (tie.spec Inv-loop μ-loop (λ c. (c .pre, refl)) (λ c κs. search needs) loop-less loop-again returns)
+    tie.close
+    (tie.spec
+    Inv-loop
+    μ-loop
+    (λ c. (c .pre, refl))
+    (λ c κs. search needs)
+    (λ c. let l = on-length _ _ (c .before .before .loop .inv .0) (c .before .loop-test .taken) (c .advance .ensures) in omega arith)
+    loop-again
+    (λ c. end-at _ (c .loop-test .left) ∙ c .before .loop .inv .1))

@@ -7,18 +7,6 @@ use Rattle.calendar.specs.Gregorian.{isDay}
 use Rattle.calendar.proofs.dates.is_day.Statement.{statement}
 use Rattle.calendar.proofs.dates.is_day.Tie as tie
 
-returns : tie.Need-returns
-unfolding isDay between
-returns c = simp (last-year, lt-leb _ _ (c .if1 .taken))
-
-returns-2 : tie.Need-returns-2
-unfolding isDay between
-returns-2 c = simp (last-year, le-leb _ _ (c .before .if1 .left), lt-leb _ _ (c .if2 .taken))
-
-returns-3 : tie.Need-returns-3
-unfolding isDay between
-returns-3 c = simp (last-year, le-leb _ _ (c .before .before .if1 .left), le-leb _ _ (c .before .if2 .left), lt-leb _ _ (c .if3 .taken))
-
 returns-4 : tie.Need-returns-4
 unfolding isDay between
 returns-4 c =
@@ -40,4 +28,10 @@ returns-5 c =
 pub is-day-spec : {M : Type 1} → statement M
 is-day-spec =
     tie.close
-    (tie.spec returns returns-2 returns-3 returns-4 (λ c κs. search needs) returns-5)
+    (tie.spec
+    (λ c. unfold isDay between in simp (last-year, lt-leb _ _ (c .if1 .taken)))
+    (λ c. unfold isDay between in simp (last-year, le-leb _ _ (c .before .if1 .left), lt-leb _ _ (c .if2 .taken)))
+    (λ c. unfold isDay between in simp (last-year, le-leb _ _ (c .before .before .if1 .left), le-leb _ _ (c .before .if2 .left), lt-leb _ _ (c .if3 .taken)))
+    returns-4
+    (λ c κs. search needs)
+    returns-5)

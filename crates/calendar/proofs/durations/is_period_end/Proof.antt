@@ -5,11 +5,11 @@ use Rattle.calendar.proofs.Periods.{end-is}
 use Rattle.calendar.proofs.durations.is_period_end.Statement.{statement}
 use Rattle.calendar.proofs.durations.is_period_end.Tie as tie
 
-returns : tie.Need-returns
-returns c = rw (end-is, sym (c .before .is-basic .ensures) ∙ c .if1 .taken)
-
-returns-2 : tie.Need-returns-2
-returns-2 c = rw (end-is, sym (c .before .before .is-basic .ensures) ∙ c .before .if1 .left) (c .is-forward .ensures)
-
 pub is-period-end-spec : {M : Type 1} → statement M
-is-period-end-spec = tie.close (tie.spec (λ c κs. search needs) returns (λ c κs. search needs) returns-2)
+is-period-end-spec =
+    tie.close
+    (tie.spec
+    (λ c κs. search needs)
+    (λ c. rw (end-is, sym (c .before .is-basic .ensures) ∙ c .if1 .taken))
+    (λ c κs. search needs)
+    (λ c. rw (end-is, sym (c .before .before .is-basic .ensures) ∙ c .before .if1 .left) (c .is-forward .ensures)))

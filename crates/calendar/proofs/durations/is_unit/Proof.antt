@@ -5,10 +5,6 @@ use Rattle.calendar.specs.Durations.{isUnit}
 use Rattle.calendar.proofs.durations.is_unit.Statement.{statement}
 use Rattle.calendar.proofs.durations.is_unit.Tie as tie
 
-returns : tie.Need-returns
-unfolding isUnit
-returns c = ⊎-elim (λ e. rw e) (⊎-elim (λ e. rw e) (⊎-elim (λ e. rw e) (⊎-elim (λ e. rw e) (λ e. rw e)))) (c .match .keys1)
-
 returns-2 : tie.Need-returns-2
 unfolding isUnit
 returns-2 c =
@@ -16,4 +12,8 @@ returns-2 c =
     rw (ne-eqb _ 68 (λ e. n (inl e)), ne-eqb _ 72 (λ e. n (inr (inl e))), ne-eqb _ 77 (λ e. n (inr (inr (inl e)))), ne-eqb _ 83 (λ e. n (inr (inr (inr (inl e))))), ne-eqb _ 87 (λ e. n (inr (inr (inr (inr e))))))
 
 pub is-unit-spec : {M : Type 1} → statement M
-is-unit-spec = tie.close (tie.spec returns returns-2)
+is-unit-spec =
+    tie.close
+    (tie.spec
+    (λ c. unfold isUnit in ⊎-elim (λ e. rw e) (⊎-elim (λ e. rw e) (⊎-elim (λ e. rw e) (⊎-elim (λ e. rw e) (λ e. rw e)))) (c .match .keys1))
+    returns-2)

@@ -5,14 +5,6 @@ use Rattle.calendar.specs.Letters.{letterFollows}
 use Rattle.calendar.proofs.durations.letter_follows.Statement.{statement}
 use Rattle.calendar.proofs.durations.letter_follows.Tie as tie
 
-returns-2 : tie.Need-returns-2
-unfolding letterFollows
-returns-2 c = rw (c .before .match .keys2) (c .is-one-of .ensures)
-
-returns-4 : tie.Need-returns-4
-unfolding letterFollows
-returns-4 c = rw (c .before .match .keys4) (c .is-one-of2 .ensures)
-
 returns-7 : tie.Need-returns-7
 unfolding letterFollows
 returns-7 c =
@@ -26,9 +18,9 @@ letter-follows-spec =
     (λ c κs. search needs)
     (λ c κs. search needs)
     (λ c. unfold letterFollows in rw (c .match .keys1))
-    returns-2
+    (λ c. unfold letterFollows in rw (c .before .match .keys2) (c .is-one-of .ensures))
     (λ c. unfold letterFollows in rw (c .match .keys3))
-    returns-4
+    (λ c. unfold letterFollows in rw (c .before .match .keys4) (c .is-one-of2 .ensures))
     (λ c. unfold letterFollows in rw (c .match .keys5))
     (λ c. unfold letterFollows in rw (c .match .keys6))
     returns-7)

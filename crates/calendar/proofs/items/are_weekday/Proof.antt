@@ -6,12 +6,6 @@ use Rattle.calendar.proofs.ItemTests.{behind-s, behind-m, behind-t, beh
 use Rattle.calendar.proofs.items.are_weekday.Statement.{statement}
 use Rattle.calendar.proofs.items.are_weekday.Tie as tie
 
-returns : tie.Need-returns
-returns c = rw (c .before .match .keys1) (c .is-either .ensures ∙ sym (behind-s _))
-
-returns-3 : tie.Need-returns-3
-returns-3 c = rw (c .before .match .keys3) (c .is-either2 .ensures ∙ sym (behind-t _))
-
 returns-6 : tie.Need-returns-6
 returns-6 c = sym (behind-other _ _ (ne-eqb _ 83 (c .match .rest .0 .0 .0 .0 .1)) (ne-eqb _ 77 (c .match .rest .0 .0 .0 .1)) (ne-eqb _ 84 (c .match .rest .0 .0 .1)) (ne-eqb _ 87 (c .match .rest .0 .1)) (ne-eqb _ 70 (c .match .rest .1)))
 
@@ -21,9 +15,9 @@ are-weekday-spec =
     (tie.spec
     (λ c κs. search needs)
     (λ c κs. search needs)
-    returns
+    (λ c. rw (c .before .match .keys1) (c .is-either .ensures ∙ sym (behind-s _)))
     (λ c. rw (c .match .keys2) (sym (behind-m _)))
-    returns-3
+    (λ c. rw (c .before .match .keys3) (c .is-either2 .ensures ∙ sym (behind-t _)))
     (λ c. rw (c .match .keys4) (sym (behind-w _)))
     (λ c. rw (c .match .keys5) (sym (behind-f _)))
     returns-6)

@@ -5,12 +5,9 @@ use Rattle.calendar.proofs.ItemTests.{count-stands}
 use Rattle.calendar.proofs.items.is_count.Statement.{statement}
 use Rattle.calendar.proofs.items.is_count.Tie as tie
 
-returns : tie.Need-returns
-returns c = c .is-within .ensures ∙ sym (count-stands (c .before .before .args .s .now))
-
 pub is-count-spec : {M : Type 1} → statement M
 is-count-spec =
     tie.close
     (tie.spec
     (λ c κs. search needs)
-    returns)
+    (λ c. c .is-within .ensures ∙ sym (count-stands (c .before .before .args .s .now))))

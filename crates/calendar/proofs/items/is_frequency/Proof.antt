@@ -6,12 +6,9 @@ use Rattle.calendar.proofs.ItemTests.{frequency-stands}
 use Rattle.calendar.proofs.items.is_frequency.Statement.{statement}
 use Rattle.calendar.proofs.items.is_frequency.Tie as tie
 
-returns : tie.Need-returns
-returns c = rw (c .frequency-place .ensures) (sym (frequency-stands (upper (c .before .before .args .s .now))))
-
 pub is-frequency-spec : {M : Type 1} → statement M
 is-frequency-spec =
     tie.close
     (tie.spec
     (λ c κs. search needs)
-    returns)
+    (λ c. rw (c .frequency-place .ensures) (sym (frequency-stands (upper (c .before .before .args .s .now))))))

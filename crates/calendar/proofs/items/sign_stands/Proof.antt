@@ -4,10 +4,6 @@ use Rattle.octets.specs.Decimal.{hasSign}
 use Rattle.calendar.proofs.items.sign_stands.Statement.{statement}
 use Rattle.calendar.proofs.items.sign_stands.Tie as tie
 
-returns-2 : tie.Need-returns-2
-unfolding hasSign
-returns-2 c = rw (c .before .before .if1 .left, c .is-sign .ensures, c .before .peek .ensures)
-
 pub sign-stands-spec : {M : Type 1} → statement M
 sign-stands-spec =
     tie.close
@@ -15,4 +11,4 @@ sign-stands-spec =
     (λ c κs. search needs)
     (λ c κs. search needs)
     (λ c. rw (c .if1 .taken))
-    returns-2)
+    (λ c. unfold hasSign in rw (c .before .before .if1 .left, c .is-sign .ensures, c .before .peek .ensures)))

@@ -4,13 +4,10 @@ use Rattle.calendar.specs.Texts.{kindAt}
 use Rattle.calendar.proofs.moments.kind_of.Statement.{statement}
 use Rattle.calendar.proofs.moments.kind_of.Tie as tie
 
-returns-2 : tie.Need-returns-2
-unfolding kindAt
-returns-2 c = rw (lt-leb _ _ (c .before .if1 .left), le-leb _ _ (c .if2 .taken))
-
-returns-3 : tie.Need-returns-3
-unfolding kindAt
-returns-3 c = rw (lt-leb _ _ (c .before .if1 .left), lt-leb _ _ (c .if2 .left))
-
 pub kind-of-spec : {M : Type 1} → statement M
-kind-of-spec = tie.close (tie.spec (λ c. unfold kindAt in rw (le-leb _ _ (c .if1 .taken))) returns-2 returns-3)
+kind-of-spec =
+    tie.close
+    (tie.spec
+    (λ c. unfold kindAt in rw (le-leb _ _ (c .if1 .taken)))
+    (λ c. unfold kindAt in rw (lt-leb _ _ (c .before .if1 .left), le-leb _ _ (c .if2 .taken)))
+    (λ c. unfold kindAt in rw (lt-leb _ _ (c .before .if1 .left), lt-leb _ _ (c .if2 .left))))

@@ -10,13 +10,6 @@ use Rattle.calendar.proofs.NamedMoments.{kind-by-length}
 use Rattle.calendar.proofs.moments.read_moment.Statement.{statement}
 use Rattle.calendar.proofs.moments.read_moment.Tie as tie
 
-returns : tie.Need-returns
-unfolding readMoment map?
-returns c = rw (sym (c .before .before .extended-moment .ensures .text) ∙ says-none _ (c .if1 .taken))
-
-part-moment-from-end : tie.Need-part-moment-from-end
-part-moment-from-end c = c .before .before .before .extended-moment .ensures .room
-
 moment-from-requires : tie.Need-moment-from-requires
 moment-from-requires c κs =
     let t = c .before .before .before .before .extended-moment in
@@ -31,9 +24,9 @@ read-moment-spec =
     tie.close
     (tie.spec
     (λ c κs. search needs)
-    returns
+    (λ c. unfold readMoment map? in rw (sym (c .before .before .extended-moment .ensures .text) ∙ says-none _ (c .if1 .taken)))
     (λ c. search needs)
     (λ c. search needs)
-    part-moment-from-end
+    (λ c. c .before .before .before .extended-moment .ensures .room)
     moment-from-requires
     returns-2)

@@ -4,11 +4,10 @@ use borrow.Author.Needs.{needs}
 use Rattle.calendar.proofs.parts.chosen.Statement.{statement}
 use Rattle.calendar.proofs.parts.chosen.Tie as tie
 
-returns : tie.Need-returns
-returns c = rw (sym (c .before .same-name .ensures) ∙ c .if1 .taken)
-
-returns-2 : tie.Need-returns-2
-returns-2 c = rw (sym (c .before .same-name .ensures) ∙ c .if1 .left)
-
 pub chosen-spec : {M : Type 1} → statement M
-chosen-spec = tie.close (tie.spec (λ c κs. search needs) returns returns-2)
+chosen-spec =
+    tie.close
+    (tie.spec
+    (λ c κs. search needs)
+    (λ c. rw (sym (c .before .same-name .ensures) ∙ c .if1 .taken))
+    (λ c. rw (sym (c .before .same-name .ensures) ∙ c .if1 .left)))

@@ -21,9 +21,6 @@ returns c = omega (arith, before-here (c .before .before .before .before .args .
 loop-again : tie.Need-loop-again Inv-loop μ-loop
 loop-again c = (omega arith, omega (arith, before-on (c .before .before .before .before .args .sep) (c .before .before .before .before .args .s .now) (c .before .before .before .loop .i) (c .before .before .loop-test .taken) (c .if1 .left), c .before .before .before .loop .inv .1))
 
-returns-2 : tie.Need-returns-2 Inv-loop μ-loop
-returns-2 c = omega (arith, before-end (c .before .before .args .sep) (c .before .before .args .s .now) (c .before .loop .i) (c .loop-test .left), c .before .loop .inv .1)
-
 pub find-spec : {M : Type 1} → statement M
 find-spec =
     tie.close
@@ -36,4 +33,4 @@ find-spec =
     (λ c. search needs)
     (λ c. search needs)
     loop-again
-    returns-2)
+    (λ c. omega (arith, before-end (c .before .before .args .sep) (c .before .before .args .s .now) (c .before .loop .i) (c .loop-test .left), c .before .loop .inv .1)))

@@ -6,15 +6,6 @@ use Rattle.calendar.proofs.Keys.{first-keyed, first-bare}
 use Rattle.calendar.proofs.parts.first_part.Statement.{statement}
 use Rattle.calendar.proofs.parts.first_part.Tie as tie
 
-part-find-end : tie.Need-part-find-end
-part-find-end c = omega (arith, c .find .ensures, before-le 59 (c .before .before .args .s .now))
-
-part-key-place-end : tie.Need-part-key-place-end
-part-key-place-end c = omega (arith, c .before .before .before .find .ensures, before-le 59 (c .before .before .before .before .before .args .s .now))
-
-add-t12 : tie.Need-add-t12
-add-t12 c = omega (arith, c .before .before .before .before .before .find .ensures, before-le 59 (c .before .before .before .before .before .before .before .args .s .now))
-
 returns : tie.Need-returns
 returns c = first-keyed (c .before .before .before .before .before .before .before .args .s .now) (c .before .before .before .before .before .find .result) (c .before .before .before .find2 .result) (c .key-place .result) (c .before .before .before .before .before .find .ensures) (c .before .before .before .find2 .ensures) (c .before .before .if1 .taken) (c .key-place .ensures)
 
@@ -28,12 +19,12 @@ first-part-spec =
     (λ c κs. search needs)
     (λ c. search needs)
     (λ c. search needs)
-    part-find-end
+    (λ c. omega (arith, c .find .ensures, before-le 59 (c .before .before .args .s .now)))
     (λ c κs. search needs)
     (λ c. search needs)
     (λ c. search needs)
-    part-key-place-end
+    (λ c. omega (arith, c .before .before .before .find .ensures, before-le 59 (c .before .before .before .before .before .args .s .now)))
     (λ c κs. search needs)
-    add-t12
+    (λ c. omega (arith, c .before .before .before .before .before .find .ensures, before-le 59 (c .before .before .before .before .before .before .before .args .s .now)))
     returns
     returns-2)

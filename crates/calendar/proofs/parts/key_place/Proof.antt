@@ -25,9 +25,6 @@ returns-4 : tie.Need-returns-4
 unfolding wordPlaceFrom keys sameName upper upperOctet isLower between
 returns-4 c = rw (c .chosen7 .ensures) (place-by 7 (c .before .before .before .before .args .name .now) (c .before .before .match .keys4))
 
-returns-5 : tie.Need-returns-5
-returns-5 c = c .long-key-place .ensures ∙ place-by 8 _ (c .before .match .keys5)
-
 returns-6 : tie.Need-returns-6
 unfolding wordPlaceFrom keys sameName upper upperOctet isLower between
 returns-6 c = rw (c .chosen8 .ensures) (place-by 9 (c .before .before .before .before .args .name .now) (c .before .before .match .keys6))
@@ -58,7 +55,7 @@ key-place-spec =
     returns-2
     returns-3
     returns-4
-    returns-5
+    (λ c. c .long-key-place .ensures ∙ place-by 8 _ (c .before .match .keys5))
     returns-6
     returns-7
     returns-8)

@@ -7,10 +7,6 @@ use Rattle.calendar.proofs.Keys.{other-sort}
 use Rattle.calendar.proofs.parts.sort_of.Statement.{statement}
 use Rattle.calendar.proofs.parts.sort_of.Tie as tie
 
-returns-14 : tie.Need-returns-14
-unfolding partSortSaid
-returns-14 c = sym (other-sort (c .before .args .key) (c .match .rest))
-
 pub sort-of-spec : {M : Type 1} → statement M
 sort-of-spec =
     tie.close
@@ -36,4 +32,4 @@ sort-of-spec =
     (λ c. unfold partSortSaid keyAt keys in c .numbers7 .ensures ∙ rw (c .before .match .keys11))
     (λ c. unfold partSortSaid keyAt keys in c .numbers8 .ensures ∙ rw (c .before .match .keys12))
     (λ c. unfold partSortSaid keyAt keys in rw (c .match .keys13))
-    returns-14)
+    (λ c. unfold partSortSaid in sym (other-sort (c .before .args .key) (c .match .rest))))

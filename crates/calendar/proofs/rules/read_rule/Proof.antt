@@ -22,15 +22,6 @@ Inv-loop s head₀ seen₀ at₀ head seen at = (at ≤ length s) × Gathered (r
 abbrev μ-loop : tie.MeasureT-loop
 μ-loop s head₀ seen₀ at₀ head seen at = length s - at
 
-loop-holds : tie.Need-loop-holds Inv-loop μ-loop
-loop-holds c = (omega arith, gathered-none (readParts (upper (c .before .args .s .now))))
-
-sub-may-follow : tie.Need-sub-may-follow Inv-loop μ-loop
-sub-may-follow c = part-begins (c .before .before .before .before .args .s .now) (c .before .before .loop .at) (c .first-part .result) (c .first-part .ensures)
-
-part-may-follow-start : tie.Need-part-may-follow-start Inv-loop μ-loop
-part-may-follow-start c = part-begins (c .before .before .before .before .args .s .now) (c .before .before .loop .at) (c .first-part .result) (c .first-part .ensures)
-
 part-may-follow-end : tie.Need-part-may-follow-end Inv-loop μ-loop
 part-may-follow-end c =
     let e = part-ends (c .before .before .before .before .args .s .now) (c .before .before .loop .at) (c .first-part .result) (c .first-part .ensures) in
@@ -39,9 +30,6 @@ part-may-follow-end c =
 returns : tie.Need-returns Inv-loop μ-loop
 unfolding ruleSaid
 returns c = turn-refused (c .before .before .before .before .before .before .before .args .s .now) (c .before .before .before .before .before .loop .at) (c .before .before .before .first-part .result) (c .before .before .before .first-part .ensures) (c .before .before .before .before .before .loop .seen) (c .before .before .before .before .before .loop .head) (c .before .before .before .before .before .loop .inv .1) (sym (c .before .may-follow .ensures) ∙ not-true (c .before .may-follow .result) (c .if1 .taken))
-
-array-write-seen : tie.Need-array-write-seen Inv-loop μ-loop
-array-write-seen c = follows _ _ _ (sym (c .before .may-follow .ensures) ∙ not-false (c .before .may-follow .result) (c .if1 .left)) .0
 
 sub-with-value : tie.Need-sub-with-value Inv-loop μ-loop
 sub-with-value c = part-begins (c .before .before .before .before .before .before .before .args .s .now) (c .before .before .before .before .before .loop .at) (c .before .before .before .first-part .result) (c .before .before .before .first-part .ensures)
@@ -85,17 +73,17 @@ read-rule-spec =
     (tie.spec
     Inv-loop
     μ-loop
-    loop-holds
+    (λ c. (omega arith, gathered-none (readParts (upper (c .before .args .s .now)))))
     (λ c. search needs)
     (λ c. search needs)
     (λ c. search needs)
     (λ c κs. search needs)
-    sub-may-follow
-    part-may-follow-start
+    (λ c. part-begins (c .before .before .before .before .args .s .now) (c .before .before .loop .at) (c .first-part .result) (c .first-part .ensures))
+    (λ c. part-begins (c .before .before .before .before .args .s .now) (c .before .before .loop .at) (c .first-part .result) (c .first-part .ensures))
     part-may-follow-end
     (λ c κs. search needs)
     returns
-    array-write-seen
+    (λ c. follows _ _ _ (sym (c .before .may-follow .ensures) ∙ not-false (c .before .may-follow .result) (c .if1 .left)) .0)
     sub-with-value
     part-with-value-start
     part-with-value-end

@@ -9,19 +9,11 @@ use Rattle.calendar.specs.Rules.{ruleSaid}
 use Rattle.calendar.proofs.rules.rule_of.Statement.{statement}
 use Rattle.calendar.proofs.rules.rule_of.Tie as tie
 
-returns : tie.Need-returns
-unfolding ruleSaid ruleRead when
-returns c = rw (not-true (getD (c .before .args .t2) 0 false) (c .if1 .taken))
-
-returns-2 : tie.Need-returns-2
-unfolding ruleSaid ruleRead when
-returns-2 c = rw (not-false (getD (c .before .before .args .t2) 0 false) (c .before .if1 .left), c .by-seen .ensures)
-
 pub rule-of-spec : {M : Type 1} → statement M
 rule-of-spec =
     tie.close
     (tie.spec
     (λ c. search needs)
-    returns
+    (λ c. unfold ruleSaid ruleRead when in rw (not-true (getD (c .before .args .t2) 0 false) (c .if1 .taken)))
     (λ c κs. search needs)
-    returns-2)
+    (λ c. unfold ruleSaid ruleRead when in rw (not-false (getD (c .before .before .args .t2) 0 false) (c .before .if1 .left), c .by-seen .ensures)))

@@ -8,14 +8,6 @@ use Rattle.calendar.specs.declared.rules.End.the-variants.{Until, Open}
 use Rattle.calendar.proofs.rules.until_of.Statement.{statement}
 use Rattle.calendar.proofs.rules.until_of.Tie as tie
 
-returns : tie.Need-returns
-unfolding lastOf given
-returns c = ap (given Open Until) (ap momentSaid (sym (c .before .m .given .1)) ∙ c .before .before .before .read-moment .ensures)
-
-returns-2 : tie.Need-returns-2
-unfolding lastOf given
-returns-2 c = ap (given Open Until) (ap momentSaid (sym (c .enum-told .given .1)) ∙ c .before .before .read-moment .ensures)
-
 pub until-of-spec : {M : Type 1} → statement M
 until-of-spec =
     tie.close
@@ -23,5 +15,5 @@ until-of-spec =
     (λ c κs. search needs)
     (λ c. search needs)
     (λ c. search needs)
-    returns
-    returns-2)
+    (λ c. unfold lastOf given in ap (given Open Until) (ap momentSaid (sym (c .before .m .given .1)) ∙ c .before .before .before .read-moment .ensures))
+    (λ c. unfold lastOf given in ap (given Open Until) (ap momentSaid (sym (c .enum-told .given .1)) ∙ c .before .before .read-moment .ensures)))

@@ -5,21 +5,6 @@ use Rattle.calendar.proofs.Choices.{day-s, day-m, day-t, day-w, day-f, 
 use Rattle.calendar.proofs.rules.weekday_named.Statement.{statement}
 use Rattle.calendar.proofs.rules.weekday_named.Tie as tie
 
-returns : tie.Need-returns
-returns c = rw (c .before .match .keys1, c .weekday-if .ensures) (day-s _)
-
-returns-2 : tie.Need-returns-2
-returns-2 c = rw (c .before .match .keys2, c .weekday-if2 .ensures) (day-m _)
-
-returns-3 : tie.Need-returns-3
-returns-3 c = rw (c .before .before .match .keys3, c .weekday-if4 .ensures, c .before .weekday-if3 .ensures) (day-t _)
-
-returns-4 : tie.Need-returns-4
-returns-4 c = rw (c .before .match .keys4, c .weekday-if5 .ensures) (day-w _)
-
-returns-5 : tie.Need-returns-5
-returns-5 c = rw (c .before .match .keys5, c .weekday-if6 .ensures) (day-f _)
-
 returns-6 : tie.Need-returns-6
 returns-6 c = day-other _ _ (ne-eqb _ 83 (c .match .rest .0 .0 .0 .0 .1)) (ne-eqb _ 77 (c .match .rest .0 .0 .0 .1)) (ne-eqb _ 84 (c .match .rest .0 .0 .1)) (ne-eqb _ 87 (c .match .rest .0 .1)) (ne-eqb _ 70 (c .match .rest .1))
 
@@ -33,9 +18,9 @@ weekday-named-spec =
     (λ c κs. search needs)
     (λ c κs. search needs)
     (λ c κs. search needs)
-    returns
-    returns-2
-    returns-3
-    returns-4
-    returns-5
+    (λ c. rw (c .before .match .keys1, c .weekday-if .ensures) (day-s _))
+    (λ c. rw (c .before .match .keys2, c .weekday-if2 .ensures) (day-m _))
+    (λ c. rw (c .before .before .match .keys3, c .weekday-if4 .ensures, c .before .weekday-if3 .ensures) (day-t _))
+    (λ c. rw (c .before .match .keys4, c .weekday-if5 .ensures) (day-w _))
+    (λ c. rw (c .before .match .keys5, c .weekday-if6 .ensures) (day-f _))
     returns-6)

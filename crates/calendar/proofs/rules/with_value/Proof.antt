@@ -5,26 +5,6 @@ use Rattle.calendar.specs.Reading.{withPart}
 use Rattle.calendar.proofs.rules.with_value.Statement.{statement}
 use Rattle.calendar.proofs.rules.with_value.Tie as tie
 
-returns : tie.Need-returns
-unfolding withPart
-returns c = rw (c .before .match .keys1, c .frequency-of .ensures)
-
-returns-2 : tie.Need-returns-2
-unfolding withPart
-returns-2 c = rw (c .before .match .keys2, c .until-of .ensures)
-
-returns-3 : tie.Need-returns-3
-unfolding withPart
-returns-3 c = rw (c .before .match .keys3, c .count-of .ensures)
-
-returns-4 : tie.Need-returns-4
-unfolding withPart
-returns-4 c = rw (c .before .match .keys4, c .count-of2 .ensures)
-
-returns-5 : tie.Need-returns-5
-unfolding withPart
-returns-5 c = rw (c .before .match .keys5, c .weekday-of .ensures)
-
 returns-6 : tie.Need-returns-6
 unfolding withPart
 returns-6 c =
@@ -41,9 +21,9 @@ with-value-spec =
     (λ c κs. search needs)
     (λ c κs. search needs)
     (λ c κs. search needs)
-    returns
-    returns-2
-    returns-3
-    returns-4
-    returns-5
+    (λ c. unfold withPart in rw (c .before .match .keys1, c .frequency-of .ensures))
+    (λ c. unfold withPart in rw (c .before .match .keys2, c .until-of .ensures))
+    (λ c. unfold withPart in rw (c .before .match .keys3, c .count-of .ensures))
+    (λ c. unfold withPart in rw (c .before .match .keys4, c .count-of2 .ensures))
+    (λ c. unfold withPart in rw (c .before .match .keys5, c .weekday-of .ensures))
     returns-6)

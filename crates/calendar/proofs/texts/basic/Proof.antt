@@ -5,18 +5,6 @@ use Rattle.calendar.proofs.Fixed.{written-by}
 use Rattle.calendar.proofs.texts.basic.Statement.{statement}
 use Rattle.calendar.proofs.texts.basic.Tie as tie
 
-returns : tie.Need-returns
-returns c = written-by Date (c .before .before .before .before .before .args .t .now) (c .before .before .enum-told .given .1) (c .strip .ensures)
-
-returns-2 : tie.Need-returns-2
-returns-2 c = written-by Time (c .before .before .before .before .before .args .t .now) (c .before .before .enum-told2 .given .1) (c .strip2 .ensures)
-
-returns-3 : tie.Need-returns-3
-returns-3 c = written-by DateTime (c .before .before .before .before .before .args .t .now) (c .before .before .enum-told3 .given .1) (c .strip3 .ensures)
-
-returns-4 : tie.Need-returns-4
-returns-4 c = written-by Offset (c .before .before .before .before .before .args .t .now) (c .before .before .enum-told4 .given .1) (c .strip4 .ensures)
-
 pub basic-spec : {M : Type 1} → statement M
 basic-spec =
     tie.close
@@ -33,7 +21,7 @@ basic-spec =
     (λ c. search needs)
     (λ c. search needs)
     (λ c κs. search needs)
-    returns
-    returns-2
-    returns-3
-    returns-4)
+    (λ c. written-by Date (c .before .before .before .before .before .args .t .now) (c .before .before .enum-told .given .1) (c .strip .ensures))
+    (λ c. written-by Time (c .before .before .before .before .before .args .t .now) (c .before .before .enum-told2 .given .1) (c .strip2 .ensures))
+    (λ c. written-by DateTime (c .before .before .before .before .before .args .t .now) (c .before .before .enum-told3 .given .1) (c .strip3 .ensures))
+    (λ c. written-by Offset (c .before .before .before .before .before .args .t .now) (c .before .before .enum-told4 .given .1) (c .strip4 .ensures)))

@@ -4,8 +4,5 @@ use Rattle.calendar.proofs.Fixed.{form-taken}
 use Rattle.calendar.proofs.texts.extended.Statement.{statement}
 use Rattle.calendar.proofs.texts.extended.Tie as tie
 
-returns : tie.Need-returns
-returns c = rw (← (form-taken (c .before .before .args .form))) (c .take .ensures)
-
 pub extended-spec : {M : Type 1} → statement M
-extended-spec = tie.close (tie.spec (λ c κs. search needs) returns)
+extended-spec = tie.close (tie.spec (λ c κs. search needs) (λ c. rw (← (form-taken (c .before .before .args .form))) (c .take .ensures)))

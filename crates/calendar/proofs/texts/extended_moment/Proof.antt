@@ -11,9 +11,11 @@ returns : tie.Need-returns
 unfolding momentOf or?
 returns c = record { text = says-some _ (c .if1 .taken) ∙ rw (sym (c .before .before .extended .ensures .text) ∙ says-some _ (c .if1 .taken)); room = c .before .before .extended .ensures .room }
 
-returns-2 : tie.Need-returns-2
-unfolding momentOf or?
-returns-2 c = rw (sym (c .before .before .before .extended .ensures .text) ∙ says-none _ (c .before .if1 .left)) (c .extended2 .ensures)
-
 pub extended-moment-spec : {M : Type 1} → statement M
-extended-moment-spec = tie.close (tie.spec (λ c κs. search needs) returns (λ c κs. search needs) returns-2)
+extended-moment-spec =
+    tie.close
+    (tie.spec
+    (λ c κs. search needs)
+    returns
+    (λ c κs. search needs)
+    (λ c. unfold momentOf or? in rw (sym (c .before .before .before .extended .ensures .text) ∙ says-none _ (c .before .if1 .left)) (c .extended2 .ensures)))

@@ -4,13 +4,10 @@ use Rattle.calendar.specs.Dates.{isClock}
 use Rattle.calendar.proofs.texts.is_clock.Statement.{statement}
 use Rattle.calendar.proofs.texts.is_clock.Tie as tie
 
-returns-2 : tie.Need-returns-2
-unfolding isClock
-returns-2 c = rw (le-leb _ _ (c .before .if1 .left), lt-leb _ _ (c .if2 .taken))
-
-returns-3 : tie.Need-returns-3
-unfolding isClock
-returns-3 c = rw (le-leb _ _ (c .before .if1 .left), le-leb _ _ (c .if2 .left))
-
 pub is-clock-spec : {M : Type 1} → statement M
-is-clock-spec = tie.close (tie.spec (λ c. unfold isClock in rw (lt-leb _ _ (c .if1 .taken))) returns-2 returns-3)
+is-clock-spec =
+    tie.close
+    (tie.spec
+    (λ c. unfold isClock in rw (lt-leb _ _ (c .if1 .taken)))
+    (λ c. unfold isClock in rw (le-leb _ _ (c .before .if1 .left), lt-leb _ _ (c .if2 .taken)))
+    (λ c. unfold isClock in rw (le-leb _ _ (c .before .if1 .left), le-leb _ _ (c .if2 .left))))

@@ -6,8 +6,9 @@ use Rattle.calendar.proofs.Fixed.{form-is, says-any}
 use Rattle.calendar.proofs.texts.is_extended.Statement.{statement}
 use Rattle.calendar.proofs.texts.is_extended.Tie as tie
 
-returns : tie.Need-returns
-returns c = sym (says-any (c .before .take .result)) ∙ ap isSome (c .before .take .ensures .text) ∙ form-is (c .before .before .before .args .form) _
-
 pub is-extended-spec : {M : Type 1} → statement M
-is-extended-spec = tie.close (tie.spec (λ c κs. search needs) returns)
+is-extended-spec =
+    tie.close
+    (tie.spec
+    (λ c κs. search needs)
+    (λ c. sym (says-any (c .before .take .result)) ∙ ap isSome (c .before .take .ensures .text) ∙ form-is (c .before .before .before .args .form) _))

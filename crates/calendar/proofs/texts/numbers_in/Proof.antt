@@ -7,25 +7,9 @@ use Rattle.calendar.specs.Dates.{momentIn}
 use Rattle.calendar.proofs.texts.numbers_in.Statement.{statement}
 use Rattle.calendar.proofs.texts.numbers_in.Tie as tie
 
-returns : tie.Need-returns
-unfolding numbersIn momentIn
-returns c = rw (c .before .before .enum-told3 .given .1, sym (c .before .day-in2 .ensures) ∙ not-true _ (c .if1 .taken))
-
-returns-2 : tie.Need-returns-2
-unfolding numbersIn
-returns-2 c = rw (c .before .enum-told .given .1) (c .day-in .ensures)
-
-returns-3 : tie.Need-returns-3
-unfolding numbersIn
-returns-3 c = rw (c .before .enum-told2 .given .1) (c .clock-in .ensures)
-
 returns-4 : tie.Need-returns-4
 unfolding numbersIn momentIn
 returns-4 c = rw (c .before .before .before .enum-told3 .given .1, sym (c .before .before .day-in2 .ensures) ∙ not-false _ (c .before .if1 .left)) (c .clock-in2 .ensures)
-
-returns-5 : tie.Need-returns-5
-unfolding numbersIn
-returns-5 c = rw (c .before .enum-told4 .given .1) (c .offset-in .ensures)
 
 pub numbers-in-spec : {M : Type 1} → statement M
 numbers-in-spec =
@@ -37,11 +21,11 @@ numbers-in-spec =
     (λ c κs. search needs)
     (λ c. search needs)
     (λ c κs. search needs)
-    returns
+    (λ c. unfold numbersIn momentIn in rw (c .before .before .enum-told3 .given .1, sym (c .before .day-in2 .ensures) ∙ not-true _ (c .if1 .taken)))
     (λ c κs. search needs)
     (λ c. search needs)
     (λ c κs. search needs)
-    returns-2
-    returns-3
+    (λ c. unfold numbersIn in rw (c .before .enum-told .given .1) (c .day-in .ensures))
+    (λ c. unfold numbersIn in rw (c .before .enum-told2 .given .1) (c .clock-in .ensures))
     returns-4
-    returns-5)
+    (λ c. unfold numbersIn in rw (c .before .enum-told4 .given .1) (c .offset-in .ensures)))

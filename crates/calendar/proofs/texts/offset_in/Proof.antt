@@ -7,10 +7,6 @@ use Rattle.calendar.specs.Dates.{offsetIn}
 use Rattle.calendar.proofs.texts.offset_in.Statement.{statement}
 use Rattle.calendar.proofs.texts.offset_in.Tie as tie
 
-returns : tie.Need-returns
-unfolding offsetIn
-returns c = rw (sym (c .before .clock-in .ensures) ∙ not-true _ (c .if1 .taken))
-
 returns-2 : tie.Need-returns-2
 unfolding offsetIn minus
 returns-2 c = rw (sym (c .before .before .before .clock-in .ensures) ∙ not-false _ (c .before .before .if1 .left), ← (c .before .peek .ensures), ne-eqb _ _ (c .if2 .taken))
@@ -32,7 +28,7 @@ offset-in-spec =
     tie.close
     (tie.spec
     (λ c κs. search needs)
-    returns
+    (λ c. unfold offsetIn in rw (sym (c .before .clock-in .ensures) ∙ not-true _ (c .if1 .taken)))
     (λ c κs. search needs)
     returns-2
     (λ c κs. search needs)

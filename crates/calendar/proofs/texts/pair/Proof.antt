@@ -9,14 +9,16 @@ use Rattle.calendar.proofs.Numbers.{digit-more}
 use Rattle.calendar.proofs.texts.pair.Statement.{statement}
 use Rattle.calendar.proofs.texts.pair.Tie as tie
 
-returns : tie.Need-returns
-unfolding numberAt valueOf valueFrom
-returns c = (rw (ended (c .before .before .args .t .now) (c .before .before .args .at) (c .if1 .taken)), omega arith)
-
 returns-2 : tie.Need-returns-2
 unfolding numberAt valueOf
 returns-2 c = (c .digit-on2 .ensures .0 ∙ (rw (c .before .digit-on .ensures .0) (digit-more (c .before .before .before .before .args .t .now) (c .before .before .before .before .args .at) 1 0)), omega (arith, c .before .digit-on .ensures .1, c .digit-on2 .ensures .1))
 
 pub pair-spec : {M : Type 1} → statement M
 pair-spec =
-    tie.close (tie.spec returns (λ c. search needs) (λ c κs. search needs) (λ c κs. search needs) returns-2)
+    tie.close
+    (tie.spec
+    (λ c. unfold numberAt valueOf valueFrom in (rw (ended (c .before .before .args .t .now) (c .before .before .args .at) (c .if1 .taken)), omega arith))
+    (λ c. search needs)
+    (λ c κs. search needs)
+    (λ c κs. search needs)
+    returns-2)

@@ -14,14 +14,8 @@ use Rattle.calendar.proofs.texts.put_text.Tie as tie
 wide : (c : tie.Start) → length (c .args .t .octets) ≡ 20
 wide c = sym (map-length (λ v. v) (c .args .t .octets)) ∙ c .good .1 .1 .0 .1 .1 .0 .1 .0 .1
 
-part-put-all-end : tie.Need-part-put-all-end
-part-put-all-end c = rw (wide (c .before .before .before .before .before)) (omega (arith, c .before .before .if1 .taken))
-
 returns : tie.Need-returns
 returns c = as-text (c .before .before .put-all .ensures) (upto (c .before .before .before .before .before .before .before .before .before .args .t .octets) (c .before .before .before .before .before .before .before .before .before .args .t .len))
-
-part-put-all-end-2 : tie.Need-part-put-all-end-2
-part-put-all-end-2 c = rw (wide (c .before .before .before .before .before)) (omega arith)
 
 returns-2 : tie.Need-returns-2
 returns-2 c = as-text (c .before .before .put-all2 .ensures) (upto (c .before .before .before .before .before .before .before .before .before .args .t .octets) 20 ∙ take-all 20 (c .before .before .before .before .before .before .before .before .before .args .t .octets) (rw (wide (c .before .before .before .before .before .before .before .before .before)) (omega arith)) ∙ sym (take-all (c .before .before .before .before .before .before .before .before .before .args .t .len) (c .before .before .before .before .before .before .before .before .before .args .t .octets) (rw (wide (c .before .before .before .before .before .before .before .before .before)) (c .before .before .before .before .before .before .if1 .left))))
@@ -32,13 +26,13 @@ put-text-spec =
     (tie.spec
     (λ c. search needs)
     (λ c. search needs)
-    part-put-all-end
+    (λ c. rw (wide (c .before .before .before .before .before)) (omega (arith, c .before .before .if1 .taken)))
     (λ c κs. search needs)
     (λ c. search needs)
     returns
     (λ c. search needs)
     (λ c. search needs)
-    part-put-all-end-2
+    (λ c. rw (wide (c .before .before .before .before .before)) (omega arith))
     (λ c κs. search needs)
     (λ c. search needs)
     returns-2)

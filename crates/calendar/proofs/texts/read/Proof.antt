@@ -33,10 +33,6 @@ returns-2 c = record {
 loop-again-2 : tie.Need-loop-again-2 Inv-loop μ-loop
 loop-again-2 c = reads _ _ _ _ _ _ (c .before .before .before .before .before .before .before .before .before .loop .inv) _ (c .before .before .before .before .before .before .before .before .loop-test .taken) (omega arith) (c .before .before .before .before .if2 .left) (sym (c .before .before .before .before .before .before .is-added .ensures) ∙ c .before .before .before .before .before .if1 .left) (c .before .before .upper-octet .ensures) (sym (c .before .takes .ensures) ∙ not-false _ (c .if3 .left))
 
-returns-3 : tie.Need-returns-3 Inv-loop μ-loop
-unfolding textSaid
-returns-3 c = record { text = long _ _ _ _ _ _ (c .before .before .loop .inv) (c .before .loop-test .left) (c .if4 .taken); room = omega arith }
-
 returns-4 : tie.Need-returns-4 Inv-loop μ-loop
 unfolding textSaid
 returns-4 c = record {
@@ -67,5 +63,5 @@ read-spec =
     (λ c. search needs)
     (λ c. search needs)
     loop-again-2
-    returns-3
+    (λ c. unfold textSaid in record { text = long _ _ _ _ _ _ (c .before .before .loop .inv) (c .before .loop-test .left) (c .if4 .taken); room = omega arith })
     returns-4)

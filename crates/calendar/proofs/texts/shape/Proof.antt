@@ -17,9 +17,6 @@ returns-2 c = read-by _ _ DateTime (c .before .before .before .before .before .b
 returns-3 : tie.Need-returns-3
 returns-3 c = read-by _ true Offset (c .before .before .before .before .before .before .before .args .s .now) (le-leb _ _ (rw (c .before .before .before .least3 .ensures) at (c .before .before .if3 .taken))) (c .before .before .before .before .enum-told4 .given .1) (c .read6 .ensures)
 
-returns-4 : tie.Need-returns-4
-returns-4 c = read-by _ _ Date (c .before .before .before .before .before .args .s .now) refl (c .before .before .enum-told .given .1) (c .read .ensures)
-
 returns-5 : tie.Need-returns-5
 returns-5 c = read-by _ false Time (c .before .before .before .before .before .before .before .args .s .now) (lt-leb _ _ (rw (c .before .before .before .least .ensures) at (c .before .before .if1 .left))) (c .before .before .before .before .enum-told2 .given .1) (c .read3 .ensures)
 
@@ -57,7 +54,7 @@ shape-spec =
     returns-3
     (λ c. search needs)
     (λ c κs. search needs)
-    returns-4
+    (λ c. read-by _ _ Date (c .before .before .before .before .before .args .s .now) refl (c .before .before .enum-told .given .1) (c .read .ensures))
     returns-5
     returns-6
     returns-7)

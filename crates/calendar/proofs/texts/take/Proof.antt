@@ -2,16 +2,9 @@
 use mathlib.Core.Path.{sym, _∙_}
 use borrow.Author.Needs.{needs}
 use Rattle.octets.proofs.Positions.{upto}
-use Rattle.calendar.specs.Texts.{readForm}
 use Rattle.calendar.proofs.Fixed.{passes, fails}
 use Rattle.calendar.proofs.texts.take.Statement.{statement}
 use Rattle.calendar.proofs.texts.take.Tie as tie
-
-returns : tie.Need-returns
-returns c = passes _ _ _ _ (c .before .before .shape .ensures) (λ n. absurd (n (c .if1 .taken)))
-
-part-numbers-in-end : tie.Need-part-numbers-in-end
-part-numbers-in-end c = c .before .before .before .shape .ensures .room
 
 returns-2 : tie.Need-returns-2
 returns-2 c = passes _ _ _ _ (c .before .before .before .before .before .before .shape .ensures) (λ n. rw (upto (c .before .before .before .before .before .before .shape .result .octets) (c .before .before .before .before .before .before .shape .result .len)) at (sym (c .before .numbers-in .ensures) ∙ c .if2 .taken))
@@ -24,10 +17,10 @@ take-spec =
     tie.close
     (tie.spec
     (λ c κs. search needs)
-    returns
+    (λ c. passes _ _ _ _ (c .before .before .shape .ensures) (λ n. absurd (n (c .if1 .taken))))
     (λ c. search needs)
     (λ c. search needs)
-    part-numbers-in-end
+    (λ c. c .before .before .before .shape .ensures .room)
     (λ c κs. search needs)
     returns-2
     returns-3)

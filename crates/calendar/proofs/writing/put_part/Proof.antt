@@ -5,15 +5,6 @@ use Rattle.calendar.proofs.WrittenItems.{part-wrote}
 use Rattle.calendar.proofs.writing.put_part.Statement.{statement}
 use Rattle.calendar.proofs.writing.put_part.Tie as tie
 
-sub-put-values : tie.Need-sub-put-values
-sub-put-values c = c .before .before .before .before .before .before .before .before .before .before .before .before .before .pre .1
-
-part-put-values-start : tie.Need-part-put-values-start
-part-put-values-start c = c .before .before .before .before .before .before .before .before .before .before .before .before .before .pre .1
-
-part-put-values-end : tie.Need-part-put-values-end
-part-put-values-end c = c .before .before .before .before .before .before .before .before .before .before .before .before .before .pre .2
-
 returns : tie.Need-returns
 returns c = part-wrote (c .before .before .before .before .before .before .before .before .before .before .before .before .before .before .before .before .before .args .s .now) (c .before .before .before .before .before .before .before .before .before .before .before .before .before .before .before .before .before .args .part) (partSortSaid (c .before .before .before .before .sort-of .result)) (c .before .before .before .before .sort-of .ensures) (c .before .before .before .before .before .before .before .before .before .before .before .before .put-upper .ensures) (c .before .before .before .before .before .before .before .before .put .ensures) (c .before .before .put-values .ensures)
 
@@ -27,9 +18,9 @@ put-part-spec =
     (λ c κs. search needs)
     (λ c κs. search needs)
     (λ c κs. search needs)
-    sub-put-values
-    part-put-values-start
-    part-put-values-end
+    (λ c. c .before .before .before .before .before .before .before .before .before .before .before .before .before .pre .1)
+    (λ c. c .before .before .before .before .before .before .before .before .before .before .before .before .before .pre .1)
+    (λ c. c .before .before .before .before .before .before .before .before .before .before .before .before .before .pre .2)
     (λ c κs. search needs)
     (λ c. search needs)
     returns)

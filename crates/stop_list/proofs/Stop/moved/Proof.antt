@@ -5,17 +5,14 @@ use Rattle.stop_list.specs.Runs.{stopAt, stopOn}
 use Rattle.stop_list.proofs.Stop.moved.Statement.{statement}
 use Rattle.stop_list.proofs.Stop.moved.Tie as tie
 
-returns : tie.Need-returns
-unfolding stopAt stopOn
-returns c = rw (sym (c .before .before .before .moved .ensures) ∙ c .before .m .given .1)
-
-returns-2 : tie.Need-returns-2
-unfolding stopAt stopOn
-returns-2 c = rw (sym (c .before .before .moved .ensures) ∙ c .enum-told .given .1)
-
-returns-3 : tie.Need-returns-3
-unfolding stopAt stopOn
-returns-3 c = rw (sym (c .before .before .moved .ensures) ∙ c .enum-told2 .given .1)
-
 pub moved-spec : {M : Type 1} → statement M
-moved-spec = tie.close (tie.spec (λ c κs. search needs) (λ c. search needs) (λ c. search needs) (λ c. search needs) returns returns-2 returns-3)
+moved-spec =
+    tie.close
+    (tie.spec
+    (λ c κs. search needs)
+    (λ c. search needs)
+    (λ c. search needs)
+    (λ c. search needs)
+    (λ c. unfold stopAt stopOn in rw (sym (c .before .before .before .moved .ensures) ∙ c .before .m .given .1))
+    (λ c. unfold stopAt stopOn in rw (sym (c .before .before .moved .ensures) ∙ c .enum-told .given .1))
+    (λ c. unfold stopAt stopOn in rw (sym (c .before .before .moved .ensures) ∙ c .enum-told2 .given .1)))

@@ -3,14 +3,6 @@ use Rattle.stop_list.specs.Stops.{hasBy}
 use Rattle.stop_list.proofs.plans.has_by.Statement.{statement}
 use Rattle.stop_list.proofs.plans.has_by.Tie as tie
 
-returns-3 : tie.Need-returns-3
-unfolding hasBy
-returns-3 c = rw (c .before .before .if1 .left, c .before .if2 .left, c .if3 .taken)
-
-returns-4 : tie.Need-returns-4
-unfolding hasBy
-returns-4 c = rw (c .before .before .before .if1 .left, c .before .before .if2 .left, c .before .if3 .left, c .if4 .taken)
-
 returns-5 : tie.Need-returns-5
 unfolding hasBy
 returns-5 c = rw (c .before .before .before .before .if1 .left, c .before .before .before .if2 .left, c .before .before .if3 .left, c .before .if4 .left, c .if5 .taken)
@@ -37,8 +29,8 @@ has-by-spec =
     (tie.spec
     (λ c. unfold hasBy in rw (c .if1 .taken))
     (λ c. unfold hasBy in rw (c .before .if1 .left, c .if2 .taken))
-    returns-3
-    returns-4
+    (λ c. unfold hasBy in rw (c .before .before .if1 .left, c .before .if2 .left, c .if3 .taken))
+    (λ c. unfold hasBy in rw (c .before .before .before .if1 .left, c .before .before .if2 .left, c .before .if3 .left, c .if4 .taken))
     returns-5
     returns-6
     returns-7

@@ -6,14 +6,6 @@ use Rattle.stop_list.specs.Stops.{endServed}
 use Rattle.stop_list.proofs.plans.is_end_served.Statement.{statement}
 use Rattle.stop_list.proofs.plans.is_end_served.Tie as tie
 
-returns : tie.Need-returns
-unfolding endServed
-returns c = rw (c .before .before .before .end .given .1, sym (c .before .same-kind .ensures) ∙ not-true _ (c .if1 .taken))
-
-returns-3 : tie.Need-returns-3
-unfolding endServed
-returns-3 c = rw (c .before .before .before .before .end .given .1, sym (c .before .before .same-kind .ensures) ∙ not-false _ (c .before .if1 .left))
-
 pub is-end-served-spec : {M : Type 1} → statement M
 is-end-served-spec =
     tie.close
@@ -21,8 +13,8 @@ is-end-served-spec =
     (λ c. search needs)
     (λ c. search needs)
     (λ c κs. search needs)
-    returns
+    (λ c. unfold endServed in rw (c .before .before .before .end .given .1, sym (c .before .same-kind .ensures) ∙ not-true _ (c .if1 .taken)))
     (λ c. search needs)
     (λ c. unfold endServed in rw (c .enum-told .given .1))
-    returns-3
+    (λ c. unfold endServed in rw (c .before .before .before .before .end .given .1, sym (c .before .before .same-kind .ensures) ∙ not-false _ (c .before .if1 .left)))
     (λ c. unfold endServed in rw (c .enum-told2 .given .1)))

@@ -6,10 +6,6 @@ use Rattle.stop_list.specs.Stops.{frequencyServed}
 use Rattle.stop_list.proofs.plans.is_frequency_served.Statement.{statement}
 use Rattle.stop_list.proofs.plans.is_frequency_served.Tie as tie
 
-returns-3 : tie.Need-returns-3
-unfolding frequencyServed
-returns-3 c = rw (c .before .enum-told3 .given .1) (ap not (c .same-kind .ensures))
-
 pub is-frequency-served-spec : {M : Type 1} → statement M
 is-frequency-served-spec =
     tie.close
@@ -24,7 +20,7 @@ is-frequency-served-spec =
     (λ c. search needs)
     (λ c. unfold frequencyServed in rw (c .enum-told .given .1))
     (λ c. unfold frequencyServed in rw (c .enum-told2 .given .1))
-    returns-3
+    (λ c. unfold frequencyServed in rw (c .before .enum-told3 .given .1) (ap not (c .same-kind .ensures)))
     (λ c. unfold frequencyServed in rw (c .enum-told4 .given .1))
     (λ c. unfold frequencyServed in rw (c .enum-told5 .given .1))
     (λ c. unfold frequencyServed in rw (c .enum-told6 .given .1))

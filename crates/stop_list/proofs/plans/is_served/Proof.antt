@@ -6,10 +6,6 @@ use Rattle.stop_list.specs.Stops.{served}
 use Rattle.stop_list.proofs.plans.is_served.Statement.{statement}
 use Rattle.stop_list.proofs.plans.is_served.Tie as tie
 
-returns : tie.Need-returns
-unfolding served
-returns c = rw (sym (c .before .is-frequency-served .ensures) ∙ not-true _ (c .if1 .taken))
-
 returns-2 : tie.Need-returns-2
 unfolding served
 returns-2 c = rw (sym (c .before .before .before .is-frequency-served .ensures) ∙ not-false _ (c .before .before .if1 .left), sym (c .before .has-by .ensures) ∙ c .if2 .taken)
@@ -23,7 +19,7 @@ is-served-spec =
     tie.close
     (tie.spec
     (λ c κs. search needs)
-    returns
+    (λ c. unfold served in rw (sym (c .before .is-frequency-served .ensures) ∙ not-true _ (c .if1 .taken)))
     (λ c κs. search needs)
     returns-2
     (λ c κs. search needs)

@@ -8,9 +8,6 @@ use Rattle.stop_list.proofs.PlanAnswers.{no-start, at-60, no-rule, not-
 use Rattle.stop_list.proofs.plans.make_plan.Statement.{statement}
 use Rattle.stop_list.proofs.plans.make_plan.Tie as tie
 
-returns : tie.Need-returns
-returns c = c .refused .ensures ∙ no-start _ _ _ (ap momentSaid (sym (c .before .enum-told .given .1)) ∙ c .before .before .before .read-moment .ensures)
-
 returns-2 : tie.Need-returns-2
 returns-2 c = c .refused2 .ensures ∙ at-60 _ _ _ _ (ap momentSaid (sym (c .before .before .before .before .m .given .1)) ∙ c .before .before .before .before .before .before .read-moment .ensures) (c .before .if1 .taken)
 
@@ -38,7 +35,7 @@ make-plan-spec =
     (λ c. search needs)
     (λ c. search needs)
     (λ c κs. search needs)
-    returns
+    (λ c. c .refused .ensures ∙ no-start _ _ _ (ap momentSaid (sym (c .before .enum-told .given .1)) ∙ c .before .before .before .read-moment .ensures))
     (λ c κs. search needs)
     returns-2
     (λ c κs. search needs)

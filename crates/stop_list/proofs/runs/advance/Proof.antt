@@ -5,12 +5,8 @@ use Rattle.stop_list.specs.Runs.{advanced}
 use Rattle.stop_list.proofs.runs.advance.Statement.{statement}
 use Rattle.stop_list.proofs.runs.advance.Tie as tie
 
-returns : tie.Need-returns
-unfolding advanced
-returns c = rw (lt-ltb _ _ (c .before .if1 .taken)) (c .next .ensures)
-
 pub advance-spec : {M : Type 1} → statement M
 advance-spec =
     tie.close
     (tie.spec
-    (λ c κs. search needs) returns (λ c. unfold advanced in rw (le-ltb _ _ (c .if1 .left))))
+    (λ c κs. search needs) (λ c. unfold advanced in rw (lt-ltb _ _ (c .before .if1 .taken)) (c .next .ensures)) (λ c. unfold advanced in rw (le-ltb _ _ (c .if1 .left))))

@@ -4,10 +4,6 @@ use Rattle.stop_list.specs.Runs.{within}
 use Rattle.stop_list.proofs.runs.is_within.Statement.{statement}
 use Rattle.stop_list.proofs.runs.is_within.Tie as tie
 
-returns-2 : tie.Need-returns-2
-unfolding within
-returns-2 c = rw (c .before .before .before .end2 .given .1, c .before .seconds-of .ensures, c .seconds-of2 .ensures)
-
 pub is-within-spec : {M : Type 1} → statement M
 is-within-spec =
     tie.close
@@ -18,5 +14,5 @@ is-within-spec =
     (λ c κs. search needs)
     (λ c. search needs)
     (λ c. unfold within in rw (c .before .end .given .1))
-    returns-2
+    (λ c. unfold within in rw (c .before .before .before .end2 .given .1, c .before .seconds-of .ensures, c .seconds-of2 .ensures))
     (λ c. unfold within in rw (c .enum-told .given .1)))

@@ -21,10 +21,6 @@ no-later r (At s) k = absurd (⊎-elim (λ e. omega arith) (λ e. omega arith) k
 no-later r Past k = refl
 no-later r NoMoment k = refl
 
-returns : tie.Need-returns
-unfolding nextRun runEnded
-returns c = rw (← (c .before .before .moved .ensures)) (no-later _ _ (c .before .match .keys2))
-
 returns-2 : tie.Need-returns-2
 unfolding nextRun nextFrom
 returns-2 c =
@@ -38,7 +34,7 @@ next-spec =
     (λ c κs. search needs)
     (λ c. search needs)
     (λ c. search needs)
-    returns
+    (λ c. unfold nextRun runEnded in rw (← (c .before .before .moved .ensures)) (no-later _ _ (c .before .match .keys2)))
     (λ c. search needs)
     (λ c κs. search needs)
     (λ c κs. search needs)

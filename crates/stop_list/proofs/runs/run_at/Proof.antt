@@ -6,13 +6,10 @@ use Rattle.stop_list.specs.Runs.{runAt}
 use Rattle.stop_list.proofs.runs.run_at.Statement.{statement}
 use Rattle.stop_list.proofs.runs.run_at.Tie as tie
 
-returns : tie.Need-returns
-unfolding runAt
-returns c = rw (lt-ltb (c .before .before .args .at) (c .before .before .args .room) (omega arith), c .is-within .ensures)
-
-returns-2 : tie.Need-returns-2
-unfolding runAt
-returns-2 c = rw (le-ltb (c .before .args .at) (c .before .args .room) (omega arith))
-
 pub run-at-spec : {M : Type 1} → statement M
-run-at-spec = tie.close (tie.spec (λ c κs. search needs) returns returns-2)
+run-at-spec =
+    tie.close
+    (tie.spec
+    (λ c κs. search needs)
+    (λ c. unfold runAt in rw (lt-ltb (c .before .before .args .at) (c .before .before .args .room) (omega arith), c .is-within .ensures))
+    (λ c. unfold runAt in rw (le-ltb (c .before .args .at) (c .before .args .room) (omega arith))))

@@ -7,12 +7,6 @@ use Rattle.stop_list.proofs.Seconds.{no-time, no-day, reckoned}
 use Rattle.stop_list.proofs.runs.seconds_of.Statement.{statement}
 use Rattle.stop_list.proofs.runs.seconds_of.Tie as tie
 
-returns : tie.Need-returns
-returns c = no-time _ (sym (c .before .is-clock .ensures) ∙ not-true _ (c .if1 .taken))
-
-returns-2 : tie.Need-returns-2
-returns-2 c = no-day _ (ap dayNumberSaid (sym (c .enum-told .given .1)) ∙ c .before .before .day-number .ensures)
-
 returns-3 : tie.Need-returns-3
 returns-3 c = reckoned _ _ (sym (c .before .before .before .before .before .before .before .before .is-clock .ensures) ∙ not-false _ (c .before .before .before .before .before .before .before .if1 .left)) (ap dayNumberSaid (sym (c .before .before .before .before .n .given .1)) ∙ c .before .before .before .before .before .before .day-number .ensures)
 
@@ -21,11 +15,11 @@ seconds-of-spec =
     tie.close
     (tie.spec
     (λ c κs. search needs)
-    returns
+    (λ c. no-time _ (sym (c .before .is-clock .ensures) ∙ not-true _ (c .if1 .taken)))
     (λ c κs. search needs)
     (λ c. search needs)
     (λ c. search needs)
-    returns-2
+    (λ c. no-day _ (ap dayNumberSaid (sym (c .enum-told .given .1)) ∙ c .before .before .day-number .ensures))
     (λ c. search needs)
     (λ c. search needs)
     (λ c. search needs)

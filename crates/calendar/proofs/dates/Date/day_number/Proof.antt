@@ -11,37 +11,12 @@ use Rattle.calendar.proofs.Days.{Bounds, bounds, marchYear, fromMarch, 
 use Rattle.calendar.proofs.dates.Date.day_number.Statement.{statement}
 use Rattle.calendar.proofs.dates.Date.day_number.Tie as tie
 
-returns : tie.Need-returns
-unfolding when
-returns c = rw (sym (c .before .is-day .ensures) ∙ not-true _ (c .if1 .taken))
-
 -- what is known of the date once it is a day
 is-one : (c : tie.Else1) → let d = c .before .before .args .self in isDay (d .year) (d .month) (d .day) ≡ true
 is-one c = sym (c .before .is-day .ensures) ∙ not-false _ (c .if1 .left)
 
 within : (c : tie.Else1) → let d = c .before .before .args .self in Bounds (d .year) (d .month) (d .day)
 within c = bounds _ _ _ (is-one c)
-
-sub-s : tie.Need-sub-s
-sub-s c = omega (arith, within (c .before .before))
-
-add-k : tie.Need-add-k
-add-k c = omega (arith, within (c .before .before .before))
-
-mul-t8 : tie.Need-mul-t8
-mul-t8 c = omega (arith, within (c .before .before .before))
-
-add-t7 : tie.Need-add-t7
-add-t7 c = omega (arith, within (c .before .before .before))
-
-add-t10 : tie.Need-add-t10
-add-t10 c = omega (arith, within (c .before .before .before))
-
-add-t16 : tie.Need-add-t16
-add-t16 c = omega (arith, within (c .before .before .before))
-
-add-t17 : tie.Need-add-t17
-add-t17 c = omega (arith, within (c .before .before .before .before))
 
 sub-t18 : tie.Need-sub-t18
 unfolding marchYear fromMarch byFormula
@@ -60,18 +35,18 @@ day-number-spec =
     tie.close
     (tie.spec
     (λ c κs. search needs)
-    returns
+    (λ c. unfold when in rw (sym (c .before .is-day .ensures) ∙ not-true _ (c .if1 .taken)))
     (λ c. omega (arith, within (c .before)))
-    sub-s
+    (λ c. omega (arith, within (c .before .before)))
     (λ c. search needs)
-    add-k
-    mul-t8
-    add-t7
-    add-t10
+    (λ c. omega (arith, within (c .before .before .before)))
+    (λ c. omega (arith, within (c .before .before .before)))
+    (λ c. omega (arith, within (c .before .before .before)))
+    (λ c. omega (arith, within (c .before .before .before)))
     (λ c. search needs)
     (λ c. search needs)
     (λ c. search needs)
-    add-t16
-    add-t17
+    (λ c. omega (arith, within (c .before .before .before)))
+    (λ c. omega (arith, within (c .before .before .before .before)))
     sub-t18
     returns-2)

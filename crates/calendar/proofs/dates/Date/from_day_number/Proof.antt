@@ -9,10 +9,6 @@ use Rattle.calendar.proofs.Inverse.{day-count, formula-date}
 use Rattle.calendar.proofs.dates.Date.from_day_number.Statement.{statement}
 use Rattle.calendar.proofs.dates.Date.from_day_number.Tie as tie
 
-returns : tie.Need-returns
-unfolding when
-returns c = rw (day-count, le-ltb _ _ (c .if1 .taken))
-
 returns-2 : tie.Need-returns-2
 unfolding when
 returns-2 c =
@@ -23,7 +19,7 @@ pub from-day-number-spec : {M : Type 1} → statement M
 from-day-number-spec =
     tie.close
     (tie.spec
-    returns
+    (λ c. unfold when in rw (day-count, le-ltb _ _ (c .if1 .taken)))
     (λ c. search needs)
     (λ c. search needs)
     (λ c. search needs)

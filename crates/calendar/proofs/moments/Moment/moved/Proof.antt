@@ -8,12 +8,6 @@ use Rattle.calendar.proofs.Hours.{no-time, no-day, within, past, never-
 use Rattle.calendar.proofs.moments.Moment.moved.Statement.{statement}
 use Rattle.calendar.proofs.moments.Moment.moved.Tie as tie
 
-returns : tie.Need-returns
-returns c = no-time _ _ (sym (c .before .is-clock .ensures) ∙ not-true _ (c .if1 .taken))
-
-returns-2 : tie.Need-returns-2
-returns-2 c = no-day _ _ (ap dayNumberSaid (sym (c .enum-told .given .1)) ∙ c .before .before .day-number .ensures)
-
 sub-if2 : tie.Need-sub-if2
 sub-if2 c = let w = within (c .before .before .before .before .before .before .before .before .args .self) 0 (c .before .before .n .given .0 .0) (sym (c .before .before .before .before .before .before .is-clock .ensures) ∙ not-false _ (c .before .before .before .before .before .if1 .left)) (ap dayNumberSaid (sym (c .before .before .n .given .1)) ∙ c .before .before .before .before .day-number .ensures) in
     omega arith
@@ -35,11 +29,11 @@ moved-spec =
     tie.close
     (tie.spec
     (λ c κs. search needs)
-    returns
+    (λ c. no-time _ _ (sym (c .before .is-clock .ensures) ∙ not-true _ (c .if1 .taken)))
     (λ c κs. search needs)
     (λ c. search needs)
     (λ c. search needs)
-    returns-2
+    (λ c. no-day _ _ (ap dayNumberSaid (sym (c .enum-told .given .1)) ∙ c .before .before .day-number .ensures))
     (λ c. search needs)
     (λ c. search needs)
     (λ c. search needs)
