@@ -7,14 +7,6 @@ use Rattle.types.proofs.Types.{code-found}
 use Rattle.types.proofs.codes.code_named.Statement.{statement}
 use Rattle.types.proofs.codes.code_named.Tie as tie
 
-returns : tie.Need-returns
-unfolding rowFound given
-returns c = sym (code-found _ ∙ rw (← c .before .before .before .find-type .ensures, c .before .code .given .1))
-
-returns-2 : tie.Need-returns-2
-unfolding rowFound given
-returns-2 c = sym (code-found _ ∙ rw (← c .before .before .find-type .ensures, c .enum-told .given .1))
-
 pub code-named-spec : {M : Type 1} → statement M
 code-named-spec =
-    tie.close (tie.spec (λ c κs. search needs) (λ c. search needs) (λ c. search needs) returns returns-2)
+    tie.close (tie.spec (λ c κs. search needs) (λ c. search needs) (λ c. search needs) (λ c. unfold rowFound given in sym (code-found _ ∙ rw (← c .before .before .before .find-type .ensures, c .before .code .given .1))) (λ c. unfold rowFound given in sym (code-found _ ∙ rw (← c .before .before .find-type .ensures, c .enum-told .given .1))))

@@ -8,19 +8,6 @@ use Rattle.types.proofs.Frames.{splits-each, splits-beyond}
 use Rattle.types.proofs.codes.does_split.Statement.{statement}
 use Rattle.types.proofs.codes.does_split.Tie as tie
 
-returns-7 : tie.Need-returns-7
-returns-7 c = let r = c .before .before .match .rest in sym (splits-each _ (c .before .if1 .left) (omega arith) (r .0 .0 .0 .0 .0 .1) (r .0 .0 .0 .1) (λ e. omega arith) (λ e. omega arith))
-
-returns-8 : tie.Need-returns-8
-returns-8 c = sym (splits-each _ (c .before .before .if1 .left) (omega arith) (λ e. omega arith) (λ e. omega arith) (c .before .before .before .match .rest .0 .0 .1) (λ e. omega arith))
-
-returns-9 : tie.Need-returns-9
-unfolding typeSplits
-returns-9 c = rw (below-between 1 14 _ (c .if1 .taken))
-
-returns-10 : tie.Need-returns-10
-returns-10 c = let r = c .before .before .before .match .rest in sym (splits-beyond _ (c .if3 .left) (r .0 .1) (r .1))
-
 pub does-split-spec : {M : Type 1} → statement M
 does-split-spec =
     tie.close
@@ -31,7 +18,7 @@ does-split-spec =
     (λ c. unfold typeSplits between in rw (c .match .keys4))
     (λ c. unfold typeSplits between in rw (c .match .keys5))
     (λ c. unfold typeSplits between in rw (c .match .keys6))
-    returns-7
-    returns-8
-    returns-9
-    returns-10)
+    (λ c. let r = c .before .before .match .rest in sym (splits-each _ (c .before .if1 .left) (omega arith) (r .0 .0 .0 .0 .0 .1) (r .0 .0 .0 .1) (λ e. omega arith) (λ e. omega arith)))
+    (λ c. sym (splits-each _ (c .before .before .if1 .left) (omega arith) (λ e. omega arith) (λ e. omega arith) (c .before .before .before .match .rest .0 .0 .1) (λ e. omega arith)))
+    (λ c. unfold typeSplits in rw (below-between 1 14 _ (c .if1 .taken)))
+    (λ c. let r = c .before .before .before .match .rest in sym (splits-beyond _ (c .if3 .left) (r .0 .1) (r .1))))

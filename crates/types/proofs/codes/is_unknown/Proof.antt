@@ -5,8 +5,5 @@ use Rattle.types.proofs.Types.{unknown-either}
 use Rattle.types.proofs.codes.is_unknown.Statement.{statement}
 use Rattle.types.proofs.codes.is_unknown.Tie as tie
 
-returns : tie.Need-returns
-returns c = c .is-named .ensures ∙ sym (unknown-either _)
-
 pub is-unknown-spec : {M : Type 1} → statement M
-is-unknown-spec = tie.close (tie.spec (λ c. search needs) (λ c κs. search needs) returns)
+is-unknown-spec = tie.close (tie.spec (λ c. search needs) (λ c κs. search needs) (λ c. c .is-named .ensures ∙ sym (unknown-either _)))

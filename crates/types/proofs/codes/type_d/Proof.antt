@@ -7,10 +7,6 @@ use Rattle.types.proofs.Lookup.{one-more}
 use Rattle.types.proofs.codes.type_d.Statement.{statement}
 use Rattle.types.proofs.codes.type_d.Tie as tie
 
-returns : tie.Need-returns
-unfolding led types numbered typeNames upper upperOctet isLower between
-returns c = one-more _ _ _ _ _ (one-more _ _ _ _ _ (c .before .before .before .before .named .ensures) (c .before .before .or-named .ensures)) (c .or-named2 .ensures)
-
 pub type-d-spec : {M : Type 1} → statement M
 type-d-spec =
     tie.close
@@ -18,4 +14,4 @@ type-d-spec =
     (λ c. search needs) (λ c κs. search needs)
     (λ c. search needs) (λ c κs. search needs)
     (λ c. search needs) (λ c κs. search needs)
-    returns)
+    (λ c. unfold led types numbered typeNames upper upperOctet isLower between in one-more _ _ _ _ _ (one-more _ _ _ _ _ (c .before .before .before .before .named .ensures) (c .before .before .or-named .ensures)) (c .or-named2 .ensures)))

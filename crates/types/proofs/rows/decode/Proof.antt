@@ -14,15 +14,6 @@ Inv-loop line frame₀ n₀ frame n = (length line ≤ 68) × (2 * n ≤ length 
 abbrev μ-loop : tie.MeasureT-loop
 μ-loop line frame₀ n₀ frame n = length line - 2 * n
 
-returns : tie.Need-returns Inv-loop μ-loop
-returns c = (omega arith, long-line _ (c .if1 .taken))
-
-loop-holds : tie.Need-loop-holds Inv-loop μ-loop
-loop-holds c = (omega arith, omega arith, c .before .before .before .pre, c .before .before .before .pre, decoded-none _ _)
-
-returns-2 : tie.Need-returns-2 Inv-loop μ-loop
-returns-2 c = (omega arith, odd-digits _ _ (c .before .before .loop .n) (c .before .before .loop .inv .4) (c .if2 .taken))
-
 returns-3 : tie.Need-returns-3 Inv-loop μ-loop
 returns-3 c =
     let l = c .before .before .before .before .before .before .before .loop in
@@ -44,22 +35,19 @@ loop-again c =
           (octet-is _ _ _ _ (c .before .before .before .before .hex-digit .ensures) (c .before .before .hex-digit2 .ensures) (c .before .if3 .left) (c .if4 .left)),
     )
 
-returns-5 : tie.Need-returns-5 Inv-loop μ-loop
-returns-5 c = (omega arith, whole-frame _ _ (c .before .loop .n) (c .before .loop .inv .4) (c .loop-test .left))
-
 pub decode-spec : {M : Type 1} → statement M
 decode-spec =
     tie.close
     (tie.spec
     Inv-loop
     μ-loop
-    returns
-    loop-holds
+    (λ c. (omega arith, long-line _ (c .if1 .taken)))
+    (λ c. (omega arith, omega arith, c .before .before .before .pre, c .before .before .before .pre, decoded-none _ _))
     (λ c. search needs)
     (λ c. search needs)
     (λ c. search needs)
     (λ c. search needs)
-    returns-2
+    (λ c. (omega arith, odd-digits _ _ (c .before .before .loop .n) (c .before .before .loop .inv .4) (c .if2 .taken)))
     (λ c. search needs)
     (λ c. search needs)
     (λ c κs. search needs)
@@ -78,4 +66,4 @@ decode-spec =
     (λ c. search needs)
     loop-again
     (λ c. search needs)
-    returns-5)
+    (λ c. (omega arith, whole-frame _ _ (c .before .loop .n) (c .before .loop .inv .4) (c .loop-test .left))))

@@ -7,14 +7,6 @@ use Rattle.types.proofs.Frames.{kind, no-keyword, too-short, too-long, 
 use Rattle.types.proofs.rows.is_row.Statement.{statement}
 use Rattle.types.proofs.rows.is_row.Tie as tie
 
-returns : tie.Need-returns
-unfolding isSome
-returns c = sym (ap isSome (too-short _ (c .if1 .taken)))
-
-returns-2 : tie.Need-returns-2
-unfolding isSome
-returns-2 c = sym (ap isSome (too-long _ (c .if2 .taken)))
-
 returns-3 : tie.Need-returns-3
 unfolding kind
 returns-3 c =
@@ -51,8 +43,8 @@ pub is-row-spec : {M : Type 1} → statement M
 is-row-spec =
     tie.close
     (tie.spec
-    returns
-    returns-2
+    (λ c. unfold isSome in sym (ap isSome (too-short _ (c .if1 .taken))))
+    (λ c. unfold isSome in sym (ap isSome (too-long _ (c .if2 .taken))))
     (λ c. search needs)
     (λ c. search needs)
     (λ c κs. search needs)

@@ -17,15 +17,6 @@ Inv-loop name i₀ i = (i ≤ length name) × (all rowOctet name ≡ all rowOcte
 abbrev μ-loop : tie.MeasureT-loop
 μ-loop name i₀ i = length name - i
 
-returns : tie.Need-returns Inv-loop μ-loop
-returns c = sym (c .before .before .before .before .loop .inv .1 ∙ all-stop _ _ _ (c .before .before .before .loop-test .taken) (sym (c .before .is-row-octet .ensures) ∙ not-true _ (c .if1 .taken)))
-
-loop-again : tie.Need-loop-again Inv-loop μ-loop
-loop-again c = (omega arith, c .before .before .before .before .loop .inv .1 ∙ all-on _ _ _ (c .before .before .before .loop-test .taken) (sym (c .before .is-row-octet .ensures) ∙ not-false _ (c .if1 .left)))
-
-returns-2 : tie.Need-returns-2 Inv-loop μ-loop
-returns-2 c = sym (c .before .loop .inv .1 ∙ all-end _ _ _ (c .loop-test .left))
-
 pub is-row-name-spec : {M : Type 1} → statement M
 is-row-name-spec =
     tie.close
@@ -35,8 +26,8 @@ is-row-name-spec =
     (λ c. (omega arith, refl))
     (λ c. search needs)
     (λ c κs. search needs)
-    returns
+    (λ c. sym (c .before .before .before .before .loop .inv .1 ∙ all-stop _ _ _ (c .before .before .before .loop-test .taken) (sym (c .before .is-row-octet .ensures) ∙ not-true _ (c .if1 .taken))))
     (λ c. search needs)
     (λ c. search needs)
-    loop-again
-    returns-2)
+    (λ c. (omega arith, c .before .before .before .before .loop .inv .1 ∙ all-on _ _ _ (c .before .before .before .loop-test .taken) (sym (c .before .is-row-octet .ensures) ∙ not-false _ (c .if1 .left))))
+    (λ c. sym (c .before .loop .inv .1 ∙ all-end _ _ _ (c .loop-test .left))))

@@ -12,27 +12,12 @@ use Rattle.types.proofs.rows.lay_frame.Tie as tie
 the-row : (p : tie.Else1) → Framed (p .before .before .before .before .args .frame .now)
 the-row p = framed _ (sym (p .before .is-row .ensures) ∙ not-false _ (p .if1 .left))
 
-returns : tie.Need-returns
-returns c = no-row _ _ _ _ (no-frame _ (sym (c .before .is-row .ensures) ∙ not-true _ (c .if1 .taken)))
-
-sub-is-listed-2 : tie.Need-sub-is-listed-2
-sub-is-listed-2 c = omega (arith, the-row (c .before .before) .low)
-
-part-is-listed-start-2 : tie.Need-part-is-listed-start-2
-part-is-listed-start-2 c = omega (arith, the-row (c .before .before) .low)
-
 returns-2 : tie.Need-returns-2
 returns-2 c =
     let p = c .before .before .before .before .before in
     let a = p .before .before .before .before .args in
     let r = the-row p in
     old-row _ _ _ _ (r .row) (r .is) (beside (a .rows .now) _ (a .at) r (c .before .is-listed .ensures) ∙ c .if2 .taken)
-
-sub-put : tie.Need-sub-put
-sub-put c = omega (arith, the-row (c .before .before .before .before .before .before) .low)
-
-cast-put : tie.Need-cast-put
-cast-put c = omega (arith, the-row (c .before .before .before .before .before .before) .high)
 
 returns-3 : tie.Need-returns-3
 returns-3 c =
@@ -48,18 +33,18 @@ lay-frame-spec =
     tie.close
     (tie.spec
     (λ c κs. search needs)
-    returns
+    (λ c. no-row _ _ _ _ (no-frame _ (sym (c .before .is-row .ensures) ∙ not-true _ (c .if1 .taken))))
     (λ c. search needs)
     (λ c. search needs)
     (λ c. search needs)
-    sub-is-listed-2
-    part-is-listed-start-2
+    (λ c. omega (arith, the-row (c .before .before) .low))
+    (λ c. omega (arith, the-row (c .before .before) .low))
     (λ c. search needs)
     (λ c κs. search needs)
     (λ c. search needs)
     returns-2
-    sub-put
-    cast-put
+    (λ c. omega (arith, the-row (c .before .before .before .before .before .before) .low))
+    (λ c. omega (arith, the-row (c .before .before .before .before .before .before) .high))
     (λ c κs. search needs)
     (λ c κs. search needs)
     (λ c. search needs)

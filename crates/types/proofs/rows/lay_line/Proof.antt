@@ -4,9 +4,6 @@ use Rattle.octets.proofs.Positions.{upto}
 use Rattle.types.proofs.rows.lay_line.Statement.{statement}
 use Rattle.types.proofs.rows.lay_line.Tie as tie
 
-returns : tie.Need-returns
-returns c = let d = c .before .before .before .before .before .before .before .decode in rw (← d .ensures .1, ← upto _ (d .result)) (c .before .before .lay-frame .ensures)
-
 pub lay-line-spec : {M : Type 1} → statement M
 lay-line-spec =
     tie.close
@@ -18,4 +15,4 @@ lay-line-spec =
     (λ c. search needs)
     (λ c κs. search needs)
     (λ c. search needs)
-    returns)
+    (λ c. let d = c .before .before .before .before .before .before .before .decode in rw (← d .ensures .1, ← upto _ (d .result)) (c .before .before .lay-frame .ensures)))

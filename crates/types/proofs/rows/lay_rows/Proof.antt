@@ -29,24 +29,15 @@ a-line p =
 one-more : (q : tie.Else2 Inv-loop μ-loop) → q .before .before .before .before .loop .count < mostRows
 one-more q = omega (arith, most-rows, q .before .before .before .before .loop .inv .few)
 
-same-length : tie.Need-same-length Inv-loop μ-loop
-same-length c = kept (c .before .before .before .loop .inv .written)
-
 returns : tie.Need-returns Inv-loop μ-loop
 returns c =
     let l = c .before .before .before .loop in
     refused-file _ _ _ (l .inv .left ∙ joins-cut _ _ _ (c .before .before .loop-test .taken) (sym (c .before .line-end .ensures) ∙ c .if1 .taken))
 
-same-length-2 : tie.Need-same-length-2 Inv-loop μ-loop
-same-length-2 c = kept (c .before .before .before .before .loop .inv .written)
-
 returns-2 : tie.Need-returns-2 Inv-loop μ-loop
 returns-2 c =
     let l = c .before .before .before .before .loop in
     refused-file _ _ _ (too-many-rows (l .inv) (c .before .before .before .loop-test .taken) (c .before .before .line-end .result) (c .before .before .line-end .ensures) (a-line (c .before)) (omega (arith, most-rows)))
-
-lay-line-requires : tie.Need-lay-line-requires Inv-loop μ-loop
-lay-line-requires c κs = in-room (c .before .before .before .before .before .before .loop .inv)
 
 same-length-3 : tie.Need-same-length-3 Inv-loop μ-loop
 same-length-3 c =
@@ -61,12 +52,6 @@ returns-3 c =
     refused-file _ _ _ (bad-line (l .inv) (p .before .before .loop-test .taken) (p .before .line-end .result) (p .before .line-end .ensures) (a-line p) (one-more (g .before .before .before)) _
     (sym (ap (λ r. penBehind r (g .lay-line .last .1 .0)) (c .enum-told .given .1)) ∙ g .lay-line .ensures))
 
-add-from : tie.Need-add-from Inv-loop μ-loop
-add-from c = omega (arith, a-line (c .before .before .before .before .before .before .before .before .before))
-
-add-count : tie.Need-add-count Inv-loop μ-loop
-add-count c = omega (arith, most-rows, c .before .before .before .before .before .before .before .before .before .before .before .before .loop .inv .few)
-
 loop-less : tie.Need-loop-less Inv-loop μ-loop
 loop-less c =
     let p = c .before .before .before .before .before .before .before .before .before in
@@ -80,9 +65,6 @@ loop-again c =
     good-line (l .inv) (p .before .before .loop-test .taken) (p .before .line-end .result) (p .before .line-end .ensures) (a-line p) (one-more (g .before .before .before)) _ _
     (sym (ap (λ r. penBehind r (g .lay-line .last .1 .0)) (c .before .next .given .1)) ∙ g .lay-line .ensures)
 
-returns-4 : tie.Need-returns-4 Inv-loop μ-loop
-returns-4 c = all-read (c .before .loop .inv) (c .loop-test .left)
-
 pub lay-rows-spec : {M : Type 1} → statement M
 lay-rows-spec =
     tie.close
@@ -91,21 +73,21 @@ lay-rows-spec =
     μ-loop
     (λ c. begun _ _ (c .before .before .pre))
     (λ c κs. search needs)
-    same-length
+    (λ c. kept (c .before .before .before .loop .inv .written))
     returns
-    same-length-2
+    (λ c. kept (c .before .before .before .before .loop .inv .written))
     returns-2
     (λ c. search needs)
     (λ c. search needs)
     (λ c. omega (arith, a-line (c .before)))
-    lay-line-requires
+    (λ c κs. in-room (c .before .before .before .before .before .before .loop .inv))
     (λ c. search needs)
     (λ c. search needs)
     same-length-3
     returns-3
-    add-from
-    add-count
+    (λ c. omega (arith, a-line (c .before .before .before .before .before .before .before .before .before)))
+    (λ c. omega (arith, most-rows, c .before .before .before .before .before .before .before .before .before .before .before .before .loop .inv .few))
     loop-less
     loop-again
     (λ c. kept (c .before .loop .inv .written))
-    returns-4)
+    (λ c. all-read (c .before .loop .inv) (c .loop-test .left)))

@@ -15,15 +15,6 @@ Inv-loop hex from i₀ i = (i ≤ length hex) × (i + length (firstLine (drop i 
 abbrev μ-loop : tie.MeasureT-loop
 μ-loop hex from i₀ i = length hex - i
 
-returns : tie.Need-returns Inv-loop μ-loop
-returns c = omega (arith, line-stop (c .before .before .before .before .args .hex .now) (c .before .before .before .loop .i) (c .before .before .loop-test .taken) (c .if1 .taken))
-
-loop-again : tie.Need-loop-again Inv-loop μ-loop
-loop-again c = omega (arith, line-on (c .before .before .before .before .args .hex .now) (c .before .before .before .loop .i) (c .before .before .loop-test .taken) (c .if1 .left))
-
-returns-2 : tie.Need-returns-2 Inv-loop μ-loop
-returns-2 c = omega (arith, line-last (c .before .before .args .hex .now) (c .before .loop .i) (c .loop-test .left))
-
 pub line-end-spec : {M : Type 1} → statement M
 line-end-spec =
     tie.close
@@ -32,8 +23,8 @@ line-end-spec =
     μ-loop
     (λ c. omega arith)
     (λ c. search needs)
-    returns
+    (λ c. omega (arith, line-stop (c .before .before .before .before .args .hex .now) (c .before .before .before .loop .i) (c .before .before .loop-test .taken) (c .if1 .taken)))
     (λ c. search needs)
     (λ c. search needs)
-    loop-again
-    returns-2)
+    (λ c. omega (arith, line-on (c .before .before .before .before .args .hex .now) (c .before .before .before .loop .i) (c .before .before .loop-test .taken) (c .if1 .left)))
+    (λ c. omega (arith, line-last (c .before .before .args .hex .now) (c .before .loop .i) (c .loop-test .left))))

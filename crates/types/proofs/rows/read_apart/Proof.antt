@@ -7,9 +7,6 @@ use borrow.Author.Needs.{needs}
 use Rattle.types.proofs.rows.read_apart.Statement.{statement}
 use Rattle.types.proofs.rows.read_apart.Tie as tie
 
-part-put-all-end : tie.Need-part-put-all-end
-part-put-all-end c = rows-within _ _ _ (omega (arith, room-is)) _ (sym (ap (λ r. penBehind r (c .before .before .before .before .before .before .lay-rows .last .1 .0)) (c .before .before .before .n .given .1)) ∙ c .before .before .before .before .before .before .lay-rows .ensures)
-
 returns : tie.Need-returns
 returns c =
     let k = c .before .before .before .before .before .before .before .before .before .before .before in
@@ -31,7 +28,7 @@ read-apart-spec =
     (λ c. search needs)
     (λ c. search needs)
     (λ c. search needs)
-    part-put-all-end
+    (λ c. rows-within _ _ _ (omega (arith, room-is)) _ (sym (ap (λ r. penBehind r (c .before .before .before .before .before .before .lay-rows .last .1 .0)) (c .before .before .before .n .given .1)) ∙ c .before .before .before .before .before .before .lay-rows .ensures))
     (λ c κs. search needs)
     (λ c κs. search needs)
     (λ c. search needs)

@@ -6,15 +6,7 @@ use Rattle.types.proofs.Lookup.{found-default, not-default}
 use Rattle.types.proofs.table.find.Statement.{statement}
 use Rattle.types.proofs.table.find.Tie as tie
 
-returns : tie.Need-returns
-unfolding rowFound
-returns c = sym (found-default _ _ _ (sym (c .before .before .before .find-default .ensures) ∙ ap rowFound (c .before .code .given .1)))
-
-returns-2 : tie.Need-returns-2
-unfolding rowFound
-returns-2 c = c .find-in .ensures ∙ sym (not-default _ _ (sym (c .before .before .before .find-default .ensures) ∙ ap rowFound (c .before .enum-told .given .1)))
-
 pub find-spec : {M : Type 1} → statement M
 find-spec =
     tie.close
-    (tie.spec (λ c κs. search needs) (λ c. search needs) (λ c. search needs) (λ c κs. search needs) returns returns-2)
+    (tie.spec (λ c κs. search needs) (λ c. search needs) (λ c. search needs) (λ c κs. search needs) (λ c. unfold rowFound in sym (found-default _ _ _ (sym (c .before .before .before .find-default .ensures) ∙ ap rowFound (c .before .code .given .1)))) (λ c. unfold rowFound in c .find-in .ensures ∙ sym (not-default _ _ (sym (c .before .before .before .find-default .ensures) ∙ ap rowFound (c .before .enum-told .given .1)))))

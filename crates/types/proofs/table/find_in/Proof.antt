@@ -19,12 +19,6 @@ Inv-loop rows name at₀ at = (at ≤ length rows) × (find (rowsIn rows) name �
 abbrev μ-loop : tie.MeasureT-loop
 μ-loop rows name at₀ at = length rows - at
 
-cast-n : tie.Need-cast-n Inv-loop μ-loop
-cast-n c = omega (arith, c .shared-slice-known3 .given (c .before .before .loop .at))
-
-add-if1 : tie.Need-add-if1 Inv-loop μ-loop
-add-if1 c = omega (arith, c .shared-slice-known3 .given (c .before .before .loop .at))
-
 returns : tie.Need-returns Inv-loop μ-loop
 unfolding rowFound
 returns c =
@@ -44,10 +38,6 @@ loop-again c =
     let l = b .before .before .before .loop in
     (omega arith, l .inv .1 ∙ find-behind _ _ (l .at) (b .before .before .loop-test .taken) (b .if1 .left) (sym (c .before .is-named .ensures) ∙ c .if2 .left))
 
-returns-3 : tie.Need-returns-3 Inv-loop μ-loop
-unfolding rowFound
-returns-3 c = sym (c .before .loop .inv .1 ∙ find-end _ _ (c .before .loop .at) (c .loop-test .left))
-
 pub find-in-spec : {M : Type 1} → statement M
 find-in-spec =
     tie.close
@@ -56,9 +46,9 @@ find-in-spec =
     μ-loop
     (λ c. (omega arith, refl))
     (λ c. search needs)
-    cast-n
+    (λ c. omega (arith, c .shared-slice-known3 .given (c .before .before .loop .at)))
     (λ c. search needs)
-    add-if1
+    (λ c. omega (arith, c .shared-slice-known3 .given (c .before .before .loop .at)))
     returns
     (λ c. search needs)
     (λ c. search needs)
@@ -73,4 +63,4 @@ find-in-spec =
     returns-2
     (λ c. search needs)
     loop-again
-    returns-3)
+    (λ c. unfold rowFound in sym (c .before .loop .inv .1 ∙ find-end _ _ (c .before .loop .at) (c .loop-test .left))))

@@ -17,16 +17,10 @@ Inv-loop row name so-far₀ i₀ so-far i = (i ≤ length row) × (length row �
 abbrev μ-loop : tie.MeasureT-loop
 μ-loop row name so-far₀ i₀ so-far i = length row - i
 
-returns : tie.Need-returns Inv-loop μ-loop
-returns c = sym (same-length _ _ (λ e. c .if1 .taken (e ∙ upper-length _)))
-
 loop-again : tie.Need-loop-again Inv-loop μ-loop
 loop-again c =
     let l = c .before .before .before .before .before .loop in
     (omega arith, l .inv .1, rw (c .both .ensures, c .before .upper-octet .ensures) (named-on _ _ (l .i) (l .inv .1) (l .so-far) (c .before .before .before .before .loop-test .taken) ∙ l .inv .2))
-
-returns-2 : tie.Need-returns-2 Inv-loop μ-loop
-returns-2 c = sym (named-end _ _ (c .before .loop .i) (c .before .loop .inv .1) (c .before .loop .so-far) (c .loop-test .left)) ∙ c .before .loop .inv .2
 
 pub is-named-spec : {M : Type 1} → statement M
 is-named-spec =
@@ -34,7 +28,7 @@ is-named-spec =
     (tie.spec
     Inv-loop
     μ-loop
-    returns
+    (λ c. sym (same-length _ _ (λ e. c .if1 .taken (e ∙ upper-length _))))
     (λ c. (omega arith, omega arith, refl))
     (λ c. search needs)
     (λ c. search needs)
@@ -43,4 +37,4 @@ is-named-spec =
     (λ c. search needs)
     (λ c. search needs)
     loop-again
-    returns-2)
+    (λ c. sym (named-end _ _ (c .before .loop .i) (c .before .loop .inv .1) (c .before .loop .so-far) (c .loop-test .left)) ∙ c .before .loop .inv .2))

@@ -6,13 +6,5 @@ use Rattle.types.specs.Laid.{rowFound}
 use Rattle.types.proofs.table.named.Statement.{statement}
 use Rattle.types.proofs.table.named.Tie as tie
 
-returns : tie.Need-returns
-unfolding rowFound find
-returns c = rw (sym (c .before .is-named .ensures) ∙ c .if1 .taken)
-
-returns-2 : tie.Need-returns-2
-unfolding rowFound find
-returns-2 c = rw (sym (c .before .is-named .ensures) ∙ c .if1 .left)
-
 pub named-spec : {M : Type 1} → statement M
-named-spec = tie.close (tie.spec (λ c κs. search needs) returns returns-2)
+named-spec = tie.close (tie.spec (λ c κs. search needs) (λ c. unfold rowFound find in rw (sym (c .before .is-named .ensures) ∙ c .if1 .taken)) (λ c. unfold rowFound find in rw (sym (c .before .is-named .ensures) ∙ c .if1 .left)))

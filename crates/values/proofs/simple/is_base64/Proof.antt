@@ -7,35 +7,15 @@ use Rattle.values.specs.Simple.{base64Octet}
 use Rattle.values.proofs.simple.is_base64.Statement.{statement}
 use Rattle.values.proofs.simple.is_base64.Tie as tie
 
-returns : tie.Need-returns
-unfolding base64Octet isLetter
-returns c = rw (sym (c .before .is-upper .ensures) ∙ c .if1 .taken)
-
-returns-2 : tie.Need-returns-2
-unfolding base64Octet isLetter
-returns-2 c = rw (sym (c .before .before .before .is-upper .ensures) ∙ c .before .before .if1 .left, sym (c .before .is-lower .ensures) ∙ c .if2 .taken)
-
-returns-3 : tie.Need-returns-3
-unfolding base64Octet isLetter
-returns-3 c = rw (sym (c .before .before .before .before .before .is-upper .ensures) ∙ c .before .before .before .before .if1 .left, sym (c .before .before .before .is-lower .ensures) ∙ c .before .before .if2 .left, sym (c .before .is-digit .ensures) ∙ c .if3 .taken)
-
-returns-4 : tie.Need-returns-4
-unfolding base64Octet isLetter
-returns-4 c = rw (sym (c .before .before .before .before .before .before .is-upper .ensures) ∙ c .before .before .before .before .before .if1 .left, sym (c .before .before .before .before .is-lower .ensures) ∙ c .before .before .before .if2 .left, sym (c .before .before .is-digit .ensures) ∙ c .before .if3 .left, eq-eqb _ _ (c .if4 .taken))
-
-returns-5 : tie.Need-returns-5
-unfolding base64Octet isLetter
-returns-5 c = rw (sym (c .before .before .before .before .before .before .is-upper .ensures) ∙ c .before .before .before .before .before .if1 .left, sym (c .before .before .before .before .is-lower .ensures) ∙ c .before .before .before .if2 .left, sym (c .before .before .is-digit .ensures) ∙ c .before .if3 .left, ne-eqb _ 43 (c .if4 .left))
-
 pub is-base64-spec : {M : Type 1} → statement M
 is-base64-spec =
     tie.close
     (tie.spec
     (λ c κs. search needs)
-    returns
+    (λ c. unfold base64Octet isLetter in rw (sym (c .before .is-upper .ensures) ∙ c .if1 .taken))
     (λ c κs. search needs)
-    returns-2
+    (λ c. unfold base64Octet isLetter in rw (sym (c .before .before .before .is-upper .ensures) ∙ c .before .before .if1 .left, sym (c .before .is-lower .ensures) ∙ c .if2 .taken))
     (λ c κs. search needs)
-    returns-3
-    returns-4
-    returns-5)
+    (λ c. unfold base64Octet isLetter in rw (sym (c .before .before .before .before .before .is-upper .ensures) ∙ c .before .before .before .before .if1 .left, sym (c .before .before .before .is-lower .ensures) ∙ c .before .before .if2 .left, sym (c .before .is-digit .ensures) ∙ c .if3 .taken))
+    (λ c. unfold base64Octet isLetter in rw (sym (c .before .before .before .before .before .before .is-upper .ensures) ∙ c .before .before .before .before .before .if1 .left, sym (c .before .before .before .before .is-lower .ensures) ∙ c .before .before .before .if2 .left, sym (c .before .before .is-digit .ensures) ∙ c .before .if3 .left, eq-eqb _ _ (c .if4 .taken)))
+    (λ c. unfold base64Octet isLetter in rw (sym (c .before .before .before .before .before .before .is-upper .ensures) ∙ c .before .before .before .before .before .if1 .left, sym (c .before .before .before .before .is-lower .ensures) ∙ c .before .before .before .if2 .left, sym (c .before .before .is-digit .ensures) ∙ c .before .if3 .left, ne-eqb _ 43 (c .if4 .left))))

@@ -4,9 +4,6 @@ use Rattle.values.proofs.Binaries.{no-groups, groups}
 use Rattle.values.proofs.simple.is_binary.Statement.{statement}
 use Rattle.values.proofs.simple.is_binary.Tie as tie
 
-returns-2 : tie.Need-returns-2
-returns-2 c = groups _ (c .before .before .before .before .unpadded .result) (c .before .before .unpadded2 .result) _ (c .before .before .before .before .before .if1 .left) (c .before .before .before .before .unpadded .ensures .1) (c .before .before .unpadded2 .ensures .1) (c .all-base64 .ensures)
-
 pub is-binary-spec : {M : Type 1} → statement M
 is-binary-spec =
     tie.close
@@ -21,4 +18,4 @@ is-binary-spec =
     (λ c. search needs)
     (λ c. search needs)
     (λ c κs. search needs)
-    returns-2)
+    (λ c. groups _ (c .before .before .before .before .unpadded .result) (c .before .before .unpadded2 .result) _ (c .before .before .before .before .before .if1 .left) (c .before .before .before .before .unpadded .ensures .1) (c .before .before .unpadded2 .ensures .1) (c .all-base64 .ensures)))

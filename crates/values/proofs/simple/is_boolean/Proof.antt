@@ -5,19 +5,13 @@ use Rattle.values.proofs.Booleans.{boolean-true, boolean-other}
 use Rattle.values.proofs.simple.is_boolean.Statement.{statement}
 use Rattle.values.proofs.simple.is_boolean.Tie as tie
 
-returns : tie.Need-returns
-returns c = sym (boolean-true _ (sym (c .before .same-name .ensures) ∙ c .if1 .taken))
-
-returns-2 : tie.Need-returns-2
-returns-2 c = c .same-name2 .ensures ∙ sym (boolean-other _ (sym (c .before .before .before .same-name .ensures) ∙ c .before .before .if1 .left))
-
 pub is-boolean-spec : {M : Type 1} → statement M
 is-boolean-spec =
     tie.close
     (tie.spec
     (λ c. search needs)
     (λ c κs. search needs)
-    returns
+    (λ c. sym (boolean-true _ (sym (c .before .same-name .ensures) ∙ c .if1 .taken)))
     (λ c. search needs)
     (λ c κs. search needs)
-    returns-2)
+    (λ c. c .same-name2 .ensures ∙ sym (boolean-other _ (sym (c .before .before .before .same-name .ensures) ∙ c .before .before .if1 .left))))

@@ -10,12 +10,6 @@ use Rattle.values.specs.Simple.{floatOf}
 use Rattle.values.proofs.simple.is_geo.Statement.{statement}
 use Rattle.values.proofs.simple.is_geo.Tie as tie
 
-returns : tie.Need-returns
-returns c = sym (geo-none _ (sym (c .before .is-pair .ensures) ∙ not-true _ (c .if1 .taken)))
-
-returns-2 : tie.Need-returns-2
-returns-2 c = sym (geo-some _ (sym (c .before .before .before .before .before .is-pair .ensures) ∙ not-false _ (c .before .before .before .before .if1 .left)) ∙ rw (ap (λ (l : List ℕ). isSome (floatOf l)) (sym (first-half _ _ _ (c .before .before .before .find .ensures))) ∙ sym (c .before .is-float .ensures) ∙ not-true _ (c .if2 .taken)))
-
 returns-3 : tie.Need-returns-3
 returns-3 c = sym (geo-some _ (sym (c .before .before .before .before .before .before .before .before .is-pair .ensures) ∙ not-false _ (c .before .before .before .before .before .before .before .if1 .left)) ∙ rw (ap (λ (l : List ℕ). isSome (floatOf l)) (sym (first-half _ _ _ (c .before .before .before .before .before .before .find .ensures))) ∙ sym (c .before .before .before .before .is-float .ensures) ∙ not-false _ (c .before .before .before .if2 .left)) (ap (λ (l : List ℕ). isSome (floatOf l)) (sym (second-half _ _ _ (c .before .before .before .before .before .before .find .ensures) _ (c .before .before .past .ensures .1))) ∙ sym (c .is-float2 .ensures)))
 
@@ -24,13 +18,13 @@ is-geo-spec =
     tie.close
     (tie.spec
     (λ c κs. search needs)
-    returns
+    (λ c. sym (geo-none _ (sym (c .before .is-pair .ensures) ∙ not-true _ (c .if1 .taken))))
     (λ c κs. search needs)
     (λ c. search needs)
     (λ c. search needs)
     (λ c. found-le _ _ _ (c .find .ensures))
     (λ c κs. search needs)
-    returns-2
+    (λ c. sym (geo-some _ (sym (c .before .before .before .before .before .is-pair .ensures) ∙ not-false _ (c .before .before .before .before .if1 .left)) ∙ rw (ap (λ (l : List ℕ). isSome (floatOf l)) (sym (first-half _ _ _ (c .before .before .before .find .ensures))) ∙ sym (c .before .is-float .ensures) ∙ not-true _ (c .if2 .taken))))
     (λ c κs. search needs)
     (λ c. search needs)
     (λ c. search needs)

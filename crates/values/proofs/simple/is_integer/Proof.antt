@@ -7,9 +7,6 @@ use Rattle.values.proofs.Floats.{integer-wrong, integer-some}
 use Rattle.values.proofs.simple.is_integer.Statement.{statement}
 use Rattle.values.proofs.simple.is_integer.Tie as tie
 
-returns : tie.Need-returns
-returns c = sym (integer-wrong _ _ (from (c .before .before .before .before .before .args .s .now) (c .before .before .before .sign-length .result) ∙ sym (c .before .before .before .sign-length .ensures .1)) (sym (c .before .all-digits .ensures) ∙ not-true _ (c .if1 .taken)))
-
 returns-2 : tie.Need-returns-2
 returns-2 c = integer-some _ _ (from (c .before .before .before .before .before .before .before .args .s .now) (c .before .before .before .before .before .sign-length .result) ∙ sym (c .before .before .before .before .before .sign-length .ensures .1)) (c .value-of .result) (c .before .most-of .result) (sym (c .before .before .before .all-digits .ensures) ∙ not-false _ (c .before .before .if1 .left)) (c .value-of .ensures) (c .before .most-of .ensures .0)
 
@@ -22,7 +19,7 @@ is-integer-spec =
     (λ c. search needs)
     (λ c. search needs)
     (λ c κs. search needs)
-    returns
+    (λ c. sym (integer-wrong _ _ (from (c .before .before .before .before .before .args .s .now) (c .before .before .before .sign-length .result) ∙ sym (c .before .before .before .sign-length .ensures .1)) (sym (c .before .all-digits .ensures) ∙ not-true _ (c .if1 .taken))))
     (λ c κs. search needs)
     (λ c κs. search needs)
     (λ c. search needs)

@@ -5,21 +5,15 @@ use Rattle.values.proofs.Halves.{no-pair, pair-more}
 use Rattle.values.proofs.simple.is_pair.Statement.{statement}
 use Rattle.values.proofs.simple.is_pair.Tie as tie
 
-returns : tie.Need-returns
-returns c = sym (no-pair _ _ _ (c .before .find .ensures) (c .if1 .taken))
-
-returns-2 : tie.Need-returns-2
-returns-2 c = pair-more _ _ _ (c .before .before .before .find .ensures) (c .before .before .if1 .left) _ (c .find2 .ensures)
-
 pub is-pair-spec : {M : Type 1} → statement M
 is-pair-spec =
     tie.close
     (tie.spec
     (λ c κs. search needs)
-    returns
+    (λ c. sym (no-pair _ _ _ (c .before .find .ensures) (c .if1 .taken)))
     (λ c. search needs)
     (λ c. search needs)
     (λ c. search needs)
     (λ c. search needs)
     (λ c κs. search needs)
-    returns-2)
+    (λ c. pair-more _ _ _ (c .before .before .before .find .ensures) (c .before .before .if1 .left) _ (c .find2 .ensures)))

@@ -6,8 +6,5 @@ use Rattle.values.proofs.Halves.{past-in}
 use Rattle.values.proofs.simple.past.Statement.{statement}
 use Rattle.values.proofs.simple.past.Tie as tie
 
-returns-2 : tie.Need-returns-2
-returns-2 c = (omega arith, past-in _ _ (c .if1 .left))
-
 pub past-spec : {M : Type 1} → statement M
-past-spec = tie.close (tie.spec (λ c. search needs) (λ c. (omega arith, refl)) returns-2)
+past-spec = tie.close (tie.spec (λ c. search needs) (λ c. (omega arith, refl)) (λ c. (omega arith, past-in _ _ (c .if1 .left))))

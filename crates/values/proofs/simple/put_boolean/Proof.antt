@@ -6,12 +6,6 @@ use Rattle.values.proofs.Booleans.{shown-true, shown-other}
 use Rattle.values.proofs.simple.put_boolean.Statement.{statement}
 use Rattle.values.proofs.simple.put_boolean.Tie as tie
 
-returns : tie.Need-returns
-returns c = as-text (c .before .before .put-all .ensures) (shown-true _ (sym (c .before .before .before .before .before .before .same-name .ensures) ∙ c .before .before .before .before .before .if1 .taken))
-
-returns-2 : tie.Need-returns-2
-returns-2 c = as-text (c .before .before .put-all2 .ensures) (shown-other _ (sym (c .before .before .before .before .before .before .same-name .ensures) ∙ c .before .before .before .before .before .if1 .left))
-
 pub put-boolean-spec : {M : Type 1} → statement M
 put-boolean-spec =
     tie.close
@@ -21,8 +15,8 @@ put-boolean-spec =
     (λ c. search needs)
     (λ c κs. search needs)
     (λ c. search needs)
-    returns
+    (λ c. as-text (c .before .before .put-all .ensures) (shown-true _ (sym (c .before .before .before .before .before .before .same-name .ensures) ∙ c .before .before .before .before .before .if1 .taken)))
     (λ c. search needs)
     (λ c κs. search needs)
     (λ c. search needs)
-    returns-2)
+    (λ c. as-text (c .before .before .put-all2 .ensures) (shown-other _ (sym (c .before .before .before .before .before .before .same-name .ensures) ∙ c .before .before .before .before .before .if1 .left))))

@@ -9,9 +9,6 @@ use Rattle.values.proofs.simple.put_float.Tie as tie
 returns : tie.Need-returns
 returns c = as-text (then (c .before .before .before .before .before .before .before .put .ensures) (c .before .before .put-all .ensures)) (shown-minus _ _ _ (c .before .before .before .before .before .before .before .before .before .before .before .before .before .sign-length .ensures .1) (c .before .before .before .before .before .before .before .before .before .before .before .leading-zeros .ensures .1) (sym (c .before .before .before .before .before .before .before .before .before .before .peek .ensures) ∙ c .before .before .before .before .before .before .before .before .before .if1 .taken))
 
-returns-2 : tie.Need-returns-2
-returns-2 c = as-text (c .before .before .put-all2 .ensures) (shown-plus _ _ _ (c .before .before .before .before .before .before .before .before .before .sign-length .ensures .1) (c .before .before .before .before .before .before .before .leading-zeros .ensures .1) (λ e. c .before .before .before .before .before .if1 .left (c .before .before .before .before .before .before .peek .ensures ∙ e)))
-
 pub put-float-spec : {M : Type 1} → statement M
 put-float-spec =
     tie.close
@@ -34,4 +31,4 @@ put-float-spec =
     (λ c. search needs)
     (λ c κs. search needs)
     (λ c. search needs)
-    returns-2)
+    (λ c. as-text (c .before .before .put-all2 .ensures) (shown-plus _ _ _ (c .before .before .before .before .before .before .before .before .before .sign-length .ensures .1) (c .before .before .before .before .before .before .before .leading-zeros .ensures .1) (λ e. c .before .before .before .before .before .if1 .left (c .before .before .before .before .before .before .peek .ensures ∙ e)))))

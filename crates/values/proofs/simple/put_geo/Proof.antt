@@ -7,9 +7,6 @@ use Rattle.values.proofs.Halves.{found-le, first-half, second-half, arr
 use Rattle.values.proofs.simple.put_geo.Statement.{statement}
 use Rattle.values.proofs.simple.put_geo.Tie as tie
 
-part-put-float-end : tie.Need-part-put-float-end
-part-put-float-end c = found-le _ _ _ (c .before .before .before .before .before .before .find .ensures)
-
 returns : tie.Need-returns
 unfolding geoShown
 returns c = arrayed _ _ (c .before .before .before .before .before .before .before .before .before .before .before .before .before .before .before .before .before .before .before .before .put .ensures) (as-text (c .before .before .before .before .before .before .before .before .before .before .before .before .before .before .before .put-float .ensures) (ap floatShown (first-half _ _ _ (c .before .before .before .before .before .before .before .before .before .before .before .before .before .before .before .before .before .before .before .before .before .before .before .find .ensures)))) (c .before .before .before .before .before .before .before .before .before .before .before .put2 .ensures) (as-text (c .before .before .before .before .before .before .put-float2 .ensures) (ap floatShown (second-half _ _ _ (c .before .before .before .before .before .before .before .before .before .before .before .before .before .before .before .before .before .before .before .before .before .before .before .find .ensures) _ (c .before .before .before .before .before .before .before .before .before .before .before .before .before .before .before .before .before .before .before .before .before .before .past .ensures .1)))) (c .before .before .put3 .ensures)
@@ -23,7 +20,7 @@ put-geo-spec =
     (λ c κs. search needs)
     (λ c. search needs)
     (λ c. search needs)
-    part-put-float-end
+    (λ c. found-le _ _ _ (c .before .before .before .before .before .before .find .ensures))
     (λ c κs. search needs)
     (λ c κs. search needs)
     (λ c. search needs)

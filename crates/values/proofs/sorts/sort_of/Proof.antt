@@ -7,16 +7,6 @@ use Rattle.values.proofs.Naming.{plain-sort}
 use Rattle.values.proofs.sorts.sort_of.Statement.{statement}
 use Rattle.values.proofs.sorts.sort_of.Tie as tie
 
-returns-7 : tie.Need-returns-7
-returns-7 c = rw (c .before .match .keys7) (c .float-sort .ensures)
-
-returns-11 : tie.Need-returns-11
-returns-11 c = rw (c .before .match .keys11) (c .text-sort .ensures)
-
-returns-15 : tie.Need-returns-15
-unfolding sortSaid
-returns-15 c = let r = c .match .rest in sym (plain-sort _ _ (r .0 .0 .0 .0 .0 .0 .0 .0 .0 .0 .0 .0 .0 .1) (r .0 .0 .0 .0 .0 .0 .0 .0 .0 .0 .0 .0 .1) (r .0 .0 .0 .0 .0 .0 .0 .0 .0 .0 .1) (r .0 .0 .0 .0 .0 .0 .0 .0 .0 .1) (r .0 .0 .0 .0 .0 .0 .0 .0 .1) (r .0 .0 .0 .0 .0 .0 .0 .1) (r .0 .0 .0 .0 .0 .0 .1) (r .0 .0 .0 .0 .0 .1) (r .0 .0 .0 .0 .1) (r .0 .0 .0 .1) (r .0 .0 .1) (r .1))
-
 pub sort-of-spec : {M : Type 1} → statement M
 sort-of-spec =
     tie.close
@@ -29,12 +19,12 @@ sort-of-spec =
     (λ c. unfold sortSaid sortOf in rw (c .match .keys4))
     (λ c. unfold sortSaid sortOf in rw (c .match .keys5))
     (λ c. unfold sortSaid sortOf in rw (c .match .keys6))
-    returns-7
+    (λ c. rw (c .before .match .keys7) (c .float-sort .ensures))
     (λ c. unfold sortSaid sortOf in rw (c .match .keys8))
     (λ c. unfold sortSaid sortOf in rw (c .match .keys9))
     (λ c. unfold sortSaid sortOf in rw (c .match .keys10))
-    returns-11
+    (λ c. rw (c .before .match .keys11) (c .text-sort .ensures))
     (λ c. unfold sortSaid sortOf in rw (c .match .keys12))
     (λ c. unfold sortSaid sortOf in rw (c .match .keys13))
     (λ c. unfold sortSaid sortOf in rw (c .match .keys14))
-    returns-15)
+    (λ c. unfold sortSaid in let r = c .match .rest in sym (plain-sort _ _ (r .0 .0 .0 .0 .0 .0 .0 .0 .0 .0 .0 .0 .0 .1) (r .0 .0 .0 .0 .0 .0 .0 .0 .0 .0 .0 .0 .1) (r .0 .0 .0 .0 .0 .0 .0 .0 .0 .0 .1) (r .0 .0 .0 .0 .0 .0 .0 .0 .0 .1) (r .0 .0 .0 .0 .0 .0 .0 .0 .1) (r .0 .0 .0 .0 .0 .0 .0 .1) (r .0 .0 .0 .0 .0 .0 .1) (r .0 .0 .0 .0 .0 .1) (r .0 .0 .0 .0 .1) (r .0 .0 .0 .1) (r .0 .0 .1) (r .1))))

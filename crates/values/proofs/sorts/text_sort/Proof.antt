@@ -7,14 +7,6 @@ use Rattle.values.proofs.Naming.{status-name}
 use Rattle.values.proofs.sorts.text_sort.Statement.{statement}
 use Rattle.values.proofs.sorts.text_sort.Tie as tie
 
-returns : tie.Need-returns
-unfolding sortSaid sortOf
-returns c = rw (status-name (c .before .before .before .before .args .name .now), sym (c .before .same-name .ensures) ∙ c .if1 .taken)
-
-returns-2 : tie.Need-returns-2
-unfolding sortSaid sortOf
-returns-2 c = rw (status-name (c .before .before .before .before .args .name .now), sym (c .before .same-name .ensures) ∙ c .if1 .left)
-
 pub text-sort-spec : {M : Type 1} → statement M
 text-sort-spec =
-    tie.close (tie.spec (λ c. search needs) (λ c κs. search needs) returns returns-2)
+    tie.close (tie.spec (λ c. search needs) (λ c κs. search needs) (λ c. unfold sortSaid sortOf in rw (status-name (c .before .before .before .before .args .name .now), sym (c .before .same-name .ensures) ∙ c .if1 .taken)) (λ c. unfold sortSaid sortOf in rw (status-name (c .before .before .before .before .args .name .now), sym (c .before .same-name .ensures) ∙ c .if1 .left)))
