@@ -97,7 +97,7 @@ fn fold_part(out: &mut [u8], p: Folder, part: PartAt, s: &[u8]) -> Folder
     fold_values(out, behind, sort_of(part.key), &s[from..end])
 }
 
-// Writes a rule, with semicolons between its parts.
+// Writes a rule, with semicolons between its parts. A part is written in two places, so that it is not inlined into the way of every property.
 pub(crate) fn fold_rule(out: &mut [u8], p: Folder, s: &[u8]) -> Folder
     ensures { λ r. ⌜ Folded (folding (now (out .entry)) p) (ruleShown (now (s .entry))) (folding (now (out .exit)) r) ⌝ }
 {
@@ -107,10 +107,10 @@ pub(crate) fn fold_rule(out: &mut [u8], p: Folder, s: &[u8]) -> Folder
         let rest = &s[from..];
         let part = first_part(rest);
         let end = part.to;
-        let f = fold_part(out, q, part, rest);
         if end >= rest.len() {
-            return f;
+            return fold_part(out, q, part, rest);
         }
+        let f = fold_part(out, q, part, rest);
         q = fold_octet(out, f, b';');
         from = from + end + 1;
     }
