@@ -48,6 +48,18 @@ fn unreadable(buf: &mut [u8]) -> usize
     1
 }
 
+// Whether from `from` on there is nothing but b.
+pub fn rest_is(s: &[u8], from: usize, b: u8) -> bool {
+    let mut i = from;
+    while i < s.len() {
+        if s[i] != b {
+            return false;
+        }
+        i += 1;
+    }
+    true
+}
+
 fn print_text(out: &[u8], n: usize) -> u8
     ensures { λ r. ⌜ r ≡ 0 ⌝ }
 {

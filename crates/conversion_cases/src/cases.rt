@@ -1,9 +1,14 @@
 // Cases in files: NAME.ics or NAME.json with the rows of NAME.rows, if there are any, must give NAME.out, a text or the line of a refusal. The file index names them.
 ghost use Prim.Native.Nat.{_≤_};
 ghost use lib.ListN.{length};
+use console::ROOM_FOR_FILE;
+use console::ROOM_FOR_TEXT;
+use console::rest_is;
+use content::line_end;
 use ical::to_ical;
 use jcal::to_jcal;
 use octets::Converted;
+use octets::MOST_TEXT;
 use octets::put;
 use octets::put_all;
 use octets::put_decimal;
@@ -40,18 +45,6 @@ fn load_text(folder: &[u8], to: Direction, name: &[u8], buf: &mut [u8]) -> usize
         Direction::ToJcal => load_part(folder, name, b".ics", buf),
         Direction::ToIcal => load_part(folder, name, b".json", buf),
     }
-}
-
-// Whether from `from` on there is nothing but b.
-fn rest_is(s: &[u8], from: usize, b: u8) -> bool {
-    let mut i = from;
-    while i < s.len() {
-        if s[i] != b {
-            return false;
-        }
-        i += 1;
-    }
-    true
 }
 
 // The line of a refusal is this one.
@@ -99,10 +92,10 @@ fn convert(to: Direction, text: &[u8], rows: &[u8], out: &mut [u8]) -> Converted
 
 // The conversion into a buffer of n octets gives what it must.
 fn gives(to: Direction, text: &[u8], rows: &[u8], n: usize, want: &[u8]) -> bool {
-    if 65536 < n {
+    if MOST_TEXT < n {
         return false;
     }
-    let mut lent = [BLANK; 65536];
+    let mut lent = [BLANK; MOST_TEXT];
     let out = &mut lent[0..n];
     let r = convert(to, text, rows, out);
     is_answer(r, out, want)
@@ -120,7 +113,7 @@ fn just_fits(to: Direction, text: &[u8], rows: &[u8], n: usize, want: &[u8]) -> 
 }
 
 fn holds(to: Direction, text: &[u8], rows: &[u8], want: &[u8]) -> bool {
-    let mut out = [BLANK; 65536];
+    let mut out = [BLANK; MOST_TEXT];
     let r = convert(to, text, rows, &mut out);
     if !is_answer(r, &out, want) {
         return false;
@@ -133,9 +126,9 @@ fn holds(to: Direction, text: &[u8], rows: &[u8], want: &[u8]) -> bool {
 
 // Runs a case, and says so where it fails.
 fn run(folder: &[u8], to: Direction, name: &[u8]) {
-    let mut text = [0u8; 65538];
-    let mut rows = [0u8; 8192];
-    let mut want = [0u8; 65537];
+    let mut text = [0u8; ROOM_FOR_TEXT];
+    let mut rows = [0u8; ROOM_FOR_FILE];
+    let mut want = [0u8; ROOM_FOR_TEXT];
     let n = load_text(folder, to, name, &mut text);
     let m = load_part(folder, name, b".rows", &mut rows);
     let k = load_part(folder, name, b".out", &mut want);
@@ -144,20 +137,6 @@ fn run(folder: &[u8], to: Direction, name: &[u8]) {
         io::write_all(1, name);
         io::write_all(1, b"\n");
     }
-}
-
-fn line_end(s: &[u8], from: usize) -> usize
-    requires { ⌜ from ≤ length (now s) ⌝ }
-    ensures { λ r. ⌜ (from ≤ r) × (r ≤ length (now (s .entry))) ⌝ }
-{
-    let mut i = from;
-    while i < s.len() {
-        if s[i] == b'\n' {
-            return i;
-        }
-        i += 1;
-    }
-    i
 }
 
 // Runs the cases of a folder, and answers how many there are.

@@ -1,1 +1,1 @@
-pub mod Wording
+pub mod Words

@@ -1,22 +1,14 @@
 // Texts read as JSON: a case names a file. Prints the answer for each, with the tape's length and checksum.
 // y_ is JSON, n_ is none, i_ is decided by 01; q_ is written as a JSON string and read back.
 use crate::parts::behind;
+use console::rest_is;
 use json::Parsed;
+
+// Octets of the tape of the longest text.
+const MOST_TAPE: usize = 2 * octets::MOST_TEXT + 2;
 
 // What a tape holds where nothing is written.
 const BLANK: u8 = 170;
-
-// Whether from `from` on there is nothing but b.
-fn rest_is(s: &[u8], from: usize, b: u8) -> bool {
-    let mut i = from;
-    while i < s.len() {
-        if s[i] != b {
-            return false;
-        }
-        i += 1;
-    }
-    true
-}
 
 // Adler-32.
 fn checksum(s: &[u8]) -> u32 {
@@ -67,7 +59,7 @@ fn refused(tape: &[u8], why: &[u8]) -> bool {
 }
 
 fn is_read(text: &[u8]) -> bool {
-    let mut tape = [BLANK; 131074];
+    let mut tape = [BLANK; MOST_TAPE];
     match json::parse(text, &mut tape) {
         Parsed::Tape(n) => accepted(text, &mut tape, n),
         Parsed::TooDeep => refused(&tape, b" too deep"),
@@ -78,16 +70,16 @@ fn is_read(text: &[u8]) -> bool {
 
 // Writes the octets as a JSON string, and reads that.
 fn is_quoted(s: &[u8]) -> bool {
-    let mut out = [0u8; 131074];
+    let mut out = [0u8; MOST_TAPE];
     let n = json::put_string(&mut out, 0, s);
-    if 131074 < n {
+    if MOST_TAPE < n {
         return false;
     }
     is_read(&out[0..n])
 }
 
 pub(crate) fn holds(case: &[u8]) -> bool {
-    let mut text = [0u8; 65537];
+    let mut text = [0u8; console::ROOM_FOR_TEXT];
     let n = console::load(case, &mut text);
     let name = behind(case, b'/');
     io::write_all(1, name);

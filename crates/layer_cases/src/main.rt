@@ -51,7 +51,7 @@ fn run_all(layer: Layer, text: &[u8]) -> u64 {
 
 // Runs the cases of a file, and prints its name and how many there are.
 fn run_file(path: &[u8], layer: Layer) {
-    let mut text = [0u8; 65536];
+    let mut text = [0u8; octets::MOST_TEXT];
     let n = console::load(path, &mut text);
     io::write_all(1, path);
     io::write_all(1, b"\n");

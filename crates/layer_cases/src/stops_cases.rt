@@ -4,7 +4,7 @@ use crate::parts::behind;
 use crate::parts::stands;
 
 pub(crate) fn holds(case: &[u8]) -> bool {
-    let mut text = [0u8; 65537];
+    let mut text = [0u8; console::ROOM_FOR_TEXT];
     let mut page = [0u8; 4096];
     let mut out = [0u8; 4096];
     let n = console::load(before(case, b'\t'), &mut text);

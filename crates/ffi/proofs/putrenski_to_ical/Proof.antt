@@ -1,11 +1,12 @@
 -- `ffi::putrenski_to_ical` meets its contract.
-use Rattle.ffi.proofs.Wording as wording
+use Rattle.ffi.proofs.Words as wording
 use borrow.Author.Needs.{needs}
 use Rattle.ffi.proofs.putrenski_to_ical.Statement.{statement}
 use Rattle.ffi.proofs.putrenski_to_ical.Tie as tie
 
-returns : tie.Need-returns
-returns c = wording.returns _ _ _ _ (c .word-of .ensures) (c .before .before .before .to-ical .ensures)
-
 pub putrenski-to-ical-spec : {M : Type 1} → statement M
-putrenski-to-ical-spec = tie.close (tie.spec (λ c κs. search needs) (λ c κs. search needs) (λ c. search needs) returns)
+putrenski-to-ical-spec =
+    tie.close
+    (tie.spec
+    (λ c κs. search needs) (λ c κs. search needs) (λ c. search needs)
+    (λ c. wording.returns _ _ _ _ (c .word-of .ensures) (c .before .before .before .to-ical .ensures)))

@@ -5,22 +5,11 @@ use Rattle.stops_page.proofs.Lengths.{page-end}
 use Rattle.stops.proofs.main.Statement.{statement}
 use Rattle.stops.proofs.main.Tie as tie
 
-part-write-all-end : tie.Need-part-write-all-end
-part-write-all-end c = omega (arith, page-end _ _ _ _ (omega arith) (c .before .before .print-page .ensures))
-
 pub main-spec : {M : Type 1} → statement M
 main-spec =
     tie.close
     (tie.spec
-    (λ c. search needs)
-    (λ c κs. search needs)
-    (λ c. search needs)
-    (λ c. search needs)
-    (λ c. search needs)
-    (λ c. search needs)
-    (λ c κs. search needs)
-    (λ c. search needs)
-    (λ c. search needs)
-    part-write-all-end
-    (λ c κs. search needs)
+    (λ c. search needs) (λ c κs. search needs) (λ c. search needs) (λ c. search needs) (λ c. search needs)
+    (λ c. search needs) (λ c κs. search needs) (λ c. search needs) (λ c. search needs)
+    (λ c. omega (arith, page-end _ _ _ _ (omega arith) (c .before .before .print-page .ensures))) (λ c κs. search needs)
     (λ c. search needs))

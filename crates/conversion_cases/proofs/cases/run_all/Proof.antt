@@ -1,7 +1,10 @@
 -- `conversion_cases::cases::run_all` meets its contract: there are no more cases than octets.
 use Prim.Native.Nat.{_-_, _≤_}
+use native.Mathlib.Omega.{arith}
 use lib.ListN.{length}
 use borrow.Author.Needs.{needs}
+use Rattle.content.specs.Buffer.{isLf}
+use Rattle.content.proofs.Scanning.{scan-high}
 use Rattle.conversion_cases.proofs.cases.run_all.Statement.{statement}
 use Rattle.conversion_cases.proofs.cases.run_all.Tie as tie
 
@@ -15,16 +18,7 @@ pub run-all-spec : {M : Type 1} → statement M
 run-all-spec =
     tie.close
     (tie.spec
-    Inv-loop
-    μ-loop
-    (λ c. search needs)
-    (λ c κs. search needs)
-    (λ c. search needs)
-    (λ c. search needs)
-    (λ c. search needs)
-    (λ c κs. search needs)
-    (λ c. search needs)
-    (λ c. search needs)
-    (λ c. search needs)
-    (λ c. search needs)
-    (λ c. search needs))
+    Inv-loop μ-loop (λ c. search needs) (λ c κs. search needs) (λ c. search needs) (λ c. search needs)
+    (λ c. scan-high isLf _ _ _ (c .line-end .ensures) (omega arith)) (λ c κs. search needs) (λ c. search needs)
+    (λ c. omega (arith, scan-high isLf _ _ _ (c .before .before .line-end .ensures) (omega arith)))
+    (λ c. search needs) (λ c. search needs) (λ c. search needs))

@@ -16,16 +16,8 @@ pub checksum-spec : {M : Type 1} → statement M
 checksum-spec =
     tie.close
     (tie.spec
-    Inv-loop
-    μ-loop
-    (λ c. omega arith)
-    (λ c. search needs)
+    Inv-loop μ-loop (λ c. omega arith) (λ c. search needs)
     (λ c. omega (arith, c .shared-slice-known .given (c .before .before .loop .i)))
-    (λ c. omega (arith, c .shared-slice-known .given (c .before .before .loop .i)))
-    (λ c. search needs)
-    (λ c. search needs)
-    (λ c. search needs)
-    (λ c. (omega arith, omega arith))
-    (λ c. search needs)
-    (λ c. search needs)
+    (λ c. omega (arith, c .shared-slice-known .given (c .before .before .loop .i))) (λ c. search needs)
+    (λ c. search needs) (λ c. search needs) (λ c. (omega arith, omega arith)) (λ c. search needs) (λ c. search needs)
     (λ c. search needs))
