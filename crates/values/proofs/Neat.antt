@@ -11,7 +11,7 @@ use lib.Dec.{eqb, leb}
 use Rattle.octets.specs.Basics.{octets, _and_, all, All}
 use Rattle.octets.specs.Classes.{between, plainOctet, textOctet}
 use Rattle.octets.specs.Utf8.{Due, start, one, two, three, afterE0, afterED, afterF0, afterF4, broken, lead, due, dueAfter, isStart, utf8, clean}
-use Rattle.octets.proofs.Cases.{cases, never, both, and-true, or-first, or-false, apart-not, all-weaker}
+use Rattle.octets.proofs.Cases.{cases, never, both, and-true, or-false, apart-not, all-weaker}
 use Rattle.octets.proofs.Classes.{above-between}
 use Rattle.octets.proofs.Utf8.{ascii, broken-stays, utf8-both, utf8-ascii, low-utf8}
 use Rattle.octets.proofs.Transducer.{Runs, Keeps, run-utf8}
@@ -21,6 +21,7 @@ use Rattle.json.specs.Numbers.{numberRead}
 use Rattle.json.specs.Print.{escaped, quoted, printString, printKey, print, firstItem, moreItems, firstMember, moreMembers}
 use Rattle.json.proofs.Printing.{Printable, p-null, p-false, p-true, p-num, p-str, p-arr, p-obj, PrintableItems, p-none, p-item, PrintableMembers, p-empty, p-member, fitOctet, text-fit, depth, depthItems, depthMembers}
 use Rattle.tape.specs.Sound.{hasLone, distinctKeys, sound, soundItems, soundMembers}
+use Rattle.content.proofs.LineParts.{plain-text}
 
 -- UTF-8 without control characters but tab and newline
 pub record Textual (t : List ℕ) : Type 0 where
@@ -46,14 +47,10 @@ mutual
     n-member : {d : ℕ} {k : List ℕ} {j : Json} {ms : Members} → Textual k → Neat d j → NeatMembers d ms → NeatMembers d (member k j ms)
 
 -- a clean text is such a text
-text-octet : (c : ℕ) → plainOctet c ≡ true → textOctet c ≡ true
-unfolding textOctet
-text-octet c h = or-first _ h
-
 pub clean-textual : (t : List ℕ) → clean t ≡ true → Textual t
 unfolding clean
 clean-textual t h = let b = both (utf8 t) (all plainOctet t) h in
-    record { encoded = b .0; texts = all-weaker plainOctet textOctet text-octet t (b .1) }
+    record { encoded = b .0; texts = all-weaker plainOctet textOctet plain-text t (b .1) }
 
 -- items of a list
 pub neat-items : (d : ℕ) (js : List Json) → All (Neat d) js → NeatItems d (itemsOf js)

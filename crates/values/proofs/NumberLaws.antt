@@ -26,6 +26,7 @@ use Rattle.octets.proofs.Decimal.{DigitFirst, digits-first, digits-all, trim-tw
 use Rattle.json.specs.Tree.{Json, num, arr, noItems, item, string?, number?, array?, listOfItems, octetsOf, elements}
 use Rattle.json.specs.Reads.{ok}
 use Rattle.json.specs.Numbers.{NumberPlace, start, minus as signed, zero as nought, int, point, frac, behindInt, firstDigit, advance, isBeyond, numberEnds, scan, numberRead}
+use Rattle.tape.proofs.Values.{number-octets}
 use Rattle.values.specs.Sorts.{Sort, float, geo, integer}
 use Rattle.values.specs.Simple.{pointed, floatOf, inRange, integerOf}
 use Rattle.values.specs.Read.{asNumber, geoOf, readGeo}
@@ -265,10 +266,6 @@ integer-read s t e =
     rw (← (w .1)) (record { again = rw (g, r, integer-twice s f); text = integer-twice s f; numeral = integer-numeral s (d .0) })
 
 -- values
-number-text : (t : List ℕ) → octetsOf (num t) ≡ t
-unfolding octetsOf number? string? given
-number-text t = refl
-
 number-test : (f : List ℕ → Option (List ℕ)) (t : List ℕ) → f t ≡ some t → isNumber f (num t) ≡ true
 unfolding isNumber holds number? isSome
 number-test f t e = rw e
@@ -311,7 +308,7 @@ float-law = (number-item float floatOf tests law, number-comma float floatOf tes
     tests j = unfold valueIs in refl
 
     law : (s t : List ℕ) → floatOf s ≡ some t → (floatOf t ≡ some t) × Numeral t × (valueText float (num t) ≡ t)
-    law s t e = let r = float-read s t e in (r .again, r .numeral, unfold valueText in number-text t)
+    law s t e = let r = float-read s t e in (r .again, r .numeral, unfold valueText in number-octets t)
 
 pub integer-law : ListLaw integer (asNumber integerOf)
 integer-law = (number-item integer integerOf tests law, number-comma integer integerOf tests law)
@@ -320,7 +317,7 @@ integer-law = (number-item integer integerOf tests law, number-comma integer int
     tests j = unfold valueIs in refl
 
     law : (s t : List ℕ) → integerOf s ≡ some t → (integerOf t ≡ some t) × Numeral t × (valueText integer (num t) ≡ t)
-    law s t e = let r = integer-read s t e in (r .again, r .numeral, unfold valueText in (rw (number-text t) (r .text)))
+    law s t e = let r = integer-read s t e in (r .again, r .numeral, unfold valueText in (rw (number-octets t) (r .text)))
 
 -- GEO
 module _ (x y : List ℕ) (hx : Float x) (hy : Float y) where

@@ -14,7 +14,7 @@ use Rattle.octets.specs.Pieces.{onto, cut, joined}
 use Rattle.octets.specs.Optional.{map?, both?, when, guard, holds, given, each}
 use Rattle.octets.specs.Classes.{isControl, plainOctet, textOctet}
 use Rattle.octets.specs.Utf8.{utf8, clean}
-use Rattle.octets.proofs.Cases.{cases, same?, never, both, and-true, either, apart-not, all-append, all-All, All-all, All-weaker}
+use Rattle.octets.proofs.Cases.{cases, same?, never, both, and-true, apart-not, all-append, all-All, All-all, All-weaker}
 use Rattle.octets.proofs.Optional.{some-same, when-is, map-is, both-is, guard-is}
 use Rattle.octets.proofs.Utf8.{ascii, ascii-high}
 use Rattle.octets.proofs.Transducer.{Runs, Keeps, run-all, run-utf8}
@@ -25,15 +25,12 @@ use Rattle.values.specs.Read.{twoOrThree, readStatus, readText}
 use Rattle.values.specs.Write.{isString, isTwoOrThree, isArray, valueIs, elementsText, valueText}
 use Rattle.values.proofs.Neat.{Textual, Neat, n-str, n-arr, neat-items}
 use Rattle.content.proofs.WrittenClean.{clean-joined}
+use Rattle.content.proofs.Encoded.{text-plain}
 use Rattle.values.proofs.TextWalk.{Separators, commas, semicolons, nothing-more, bare-filled}
 use Rattle.values.proofs.ListLaws.{Item, ItemLaw, Cuts, each-written, each-All, All-map}
 
 abbrev Text : List ℕ → Type 0
 Text t = all textOctet t ≡ true
-
-plain-octet : (c : ℕ) → textOctet c ≡ true → eqb c (code "\n") ≡ false → plainOctet c ≡ true
-unfolding textOctet
-plain-octet c h n = either (plainOctet c) (eqb c (code "\n")) h (λ e. e) (λ e. never e n)
 
 -- What is written is one piece between bare separators.
 abbrev prefixed : List ℕ → List (List ℕ) → List (List ℕ)
@@ -109,7 +106,7 @@ octet-again c h rest =
     same? c (code ";") (λ e. rw e (nothing-more _)) λ n₂.
     same? c (code ",") (λ e. rw e (nothing-more _)) λ n₃.
     same? c (code "\n") (λ e. rw e (nothing-more _)) λ n₄.
-    rw (n₁, n₂, n₃, n₄, n₁, n₃, n₂, plain-octet c h n₄)
+    rw (n₁, n₂, n₃, n₄, n₁, n₃, n₂, text-plain c h n₄)
 
 text-again : (t : List ℕ) → Text t → unescaped (textText t) ≡ some t
 unfolding unescaped textText all
@@ -230,7 +227,7 @@ escaped-plain t h = run-all (Unit {0}) (λ q c. q) (λ q c. escapedOctet c) (λ 
     each : (q : Unit {0}) (c : ℕ) → textOctet c ≡ true → all plainOctet (escapedOctet c) ≡ true
     each q c h =
         escaped-all plainOctet c (unfold all plainOctet isControl in refl) (unfold all plainOctet isControl in refl) (unfold all plainOctet isControl in refl)
-        (unfold all plainOctet isControl in refl) (plain-octet c h)
+        (unfold all plainOctet isControl in refl) (text-plain c h)
 
 pub text-clean : (t : List ℕ) → Textual t → clean (textText t) ≡ true
 unfolding clean
