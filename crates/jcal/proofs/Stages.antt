@@ -148,10 +148,10 @@ module _ (f : Line → Answer Property) where
     lines-failed n e = rw (sym told-tested ∙ e)
 
     pub lines-laid : (n : ℕ) → r ≡ Laid n → eventsJcal f (eventsIn (take (n - 0) (drop 0 after))) ≡ linesJcal f (linesOf text)
-    unfolding linesJcal readLinesBy eventsJcal eventsIn
+    unfolding linesJcal readLinesBy then eventsJcal eventsIn
     lines-laid n q =
         let t : contentLines (linesOf text) ≡ accepted (cutLines (take n after)) = sym told-tested ∙ (unfold linesTold in rw q) in
-        sym (rw t (unfold then in events-tree _) ∙ rw (upto after n))
+        rw (t, upto after n) (sym (events-tree (structured (eventsIn (take n after)))))
 
 pub laid-within : (m n : ℕ) (r : Lines) → LaidWithin m r → r ≡ Laid n → n ≤ m
 laid-within m n r h q = rw q at h
