@@ -33,7 +33,7 @@ use Rattle.json.proofs.Decoding.{parse-fine}
 use Rattle.tape.specs.Decode.{valueAt}
 use Rattle.tape.specs.Sound.{sound}
 use Rattle.tape.specs.Scan.{soundTape}
-use Rattle.tape.proofs.Back.{tape-back, laid-back, sound-back}
+use Rattle.tape.proofs.Laid.{tape-back, laid-back, sound-back}
 use Rattle.content.specs.Fold.{textOf}
 use Rattle.conversion_theory.specs.Tree.{levels, propertiesOf}
 use Rattle.conversion_theory.specs.Skeleton.{isComponent, isCalendar, componentFrom, calendarOf}

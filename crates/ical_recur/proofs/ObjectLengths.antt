@@ -8,6 +8,7 @@ use mathlib.Core.Option.{Option, none, some}
 use native.Mathlib.Omega.{arith}
 use lib.Dec.{eqb, leb}
 use lib.ListN.{length, drop, getD, length-append, length-drop}
+use Rattle.octets.specs.Search.{until}
 use Rattle.octets.specs.Basics.{_and_}
 use Rattle.octets.specs.Optional.{given}
 use Rattle.octets.specs.Classes.{isDigit, upper}
@@ -57,7 +58,7 @@ ahead true s = length (textAtFront s)
 ahead false s = 0
 
 sized : (s : List ℕ) (m : Bool) → ahead m s + total (groups m s) ≤ length s
-unfolding groups textAtFront inText
+unfolding groups textAtFront until inText
 sized [] true = omega arith
 sized [] false = omega arith
 sized (b ∷ s) true = cases (eqb b tagEnd)

@@ -3,8 +3,8 @@ use Prim.Native.Nat.{_-_, _≤_}
 use native.Mathlib.Omega.{arith}
 use lib.ListN.{length}
 use borrow.Author.Needs.{needs}
-use Rattle.content.specs.Buffer.{isLf}
-use Rattle.content.proofs.Scanning.{scan-high}
+use Rattle.content.specs.Lines.{isLf}
+use Rattle.octets.proofs.Search.{scan-high}
 use Rattle.conversion_cases.proofs.cases.run_all.Statement.{statement}
 use Rattle.conversion_cases.proofs.cases.run_all.Tie as tie
 
