@@ -1,12 +1,15 @@
+-- The meaning, which the promises rest on.
 pub mod Gregorian
 pub mod Forms
 pub mod Dates
-pub mod Texts
 pub mod Durations
-pub mod Letters
 pub mod Recurrence
 pub mod Moments
 pub mod Rules
+
+-- What functions of the code promise.
+pub mod Texts
+pub mod Letters
 pub mod Answers
 pub mod Walk
 pub mod Reading

@@ -1,3 +1,4 @@
+-- The meaning, which the promises rest on.
 pub mod Lines
 pub mod Carets
 pub mod Line
@@ -6,6 +7,8 @@ pub mod Parameters
 pub mod Write
 pub mod Fold
 pub mod Physical
+
+-- What functions of the code promise.
 pub mod LinePlaces
 pub mod Folding
 pub mod Scan

@@ -1,3 +1,4 @@
+-- The meaning, which the promises rest on.
 pub mod Tree
 pub mod Structure
 pub mod Growth

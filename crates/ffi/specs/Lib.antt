@@ -1,1 +1,2 @@
+-- The meaning, which the promises rest on.
 pub mod Words

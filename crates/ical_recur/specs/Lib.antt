@@ -1,3 +1,4 @@
+-- What functions of the code promise.
 pub mod Kinds
 pub mod Wording
 pub mod Laying

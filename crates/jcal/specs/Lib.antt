@@ -1,3 +1,4 @@
+-- What functions of the code promise.
 pub mod Events
 pub mod Nesting
 pub mod Order

@@ -1,3 +1,4 @@
+-- The meaning, which the promises rest on.
 pub mod Basics
 pub mod Pieces
 pub mod Optional
@@ -7,6 +8,8 @@ pub mod Decimal
 pub mod Limits
 pub mod Pen
 pub mod Answers
+
+-- What functions of the code promise.
 pub mod Groups
 pub mod Characters
 pub mod Search
