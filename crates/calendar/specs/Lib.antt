@@ -6,7 +6,6 @@ pub mod Durations
 pub mod Recurrence
 pub mod Moments
 pub mod Rules
-
 -- What functions of the code promise.
 pub mod Texts
 pub mod Letters

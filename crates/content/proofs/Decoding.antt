@@ -14,7 +14,7 @@ use Rattle.octets.proofs.Cases.{same?, neither}
 use Rattle.octets.proofs.Positions.{here, ended, first-of, part-rest}
 use Rattle.json.specs.Print.{escaped, quoted}
 use Rattle.content.specs.Carets.{decodedOctet, caretAfter, decodedFrom, decoded}
-use Rattle.octets.specs.Classes.{asIsOctet}
+use Rattle.octets.specs.Groups.{asIsOctet}
 use Rattle.octets.specs.Search.{until}
 use Rattle.content.specs.Object.{standsFor, octetsRead, special}
 use Rattle.octets.proofs.Search.{until-free, scan-low, scan-is}

@@ -7,7 +7,6 @@ pub mod Parameters
 pub mod Write
 pub mod Fold
 pub mod Physical
-
 -- What functions of the code promise.
 pub mod LinePlaces
 pub mod Folding

@@ -4,7 +4,7 @@ use Prim.Native.Char.{code}
 use mathlib.Core.Bool.{Bool, not}
 use lib.Dec.{eqb}
 use Rattle.octets.specs.Basics.{pick, _or_}
-use Rattle.octets.specs.Classes.{asIsOctet}
+use Rattle.octets.specs.Groups.{asIsOctet}
 
 -- the octet that c stands for, where d follows it
 unfoldable pub standsFor : ℕ → ℕ → ℕ

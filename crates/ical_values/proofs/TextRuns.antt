@@ -15,7 +15,7 @@ use Rattle.octets.specs.Classes.{isControl, plainOctet, textOctet}
 use Rattle.octets.proofs.Cases.{both, and-true, or-false-right, all-append}
 use Rattle.octets.proofs.Positions.{here, ended, part-rest, part-more}
 use Rattle.values.specs.Texts.{escapedOctet, textIs, textText}
-use Rattle.ical_values.specs.Bare.{unescapedOctet, Bare}
+use Rattle.ical_values.specs.Bare.{textAsIs, Bare}
 
 -- an octet that needs no escape
 pub stays : (c : ℕ) → ((c ≡ code "\\") → ⊥) → ((c ≡ code ";") → ⊥) → ((c ≡ code ",") → ⊥) → ((c ≡ code "\n") → ⊥) → escapedOctet c ≡ c ∷ []
@@ -33,8 +33,8 @@ unfolding textOctet
 text-plain c n = rw (ne-eqb c (code "\n") n) (or-false-right (plainOctet c))
 
 -- a bare octet
-bare-octet : (c : ℕ) → unescapedOctet c ≡ true → (textOctet c ≡ true) × (escapedOctet c ≡ c ∷ [])
-unfolding unescapedOctet plainOctet isControl
+bare-octet : (c : ℕ) → textAsIs c ≡ true → (textOctet c ≡ true) × (escapedOctet c ≡ c ∷ [])
+unfolding textAsIs plainOctet isControl
 bare-octet c h =
     let a = both (ltb 31 c) _ h in
     let b = both (not (eqb c 127)) _ (a .1) in
@@ -45,15 +45,15 @@ bare-octet c h =
     (rw (text-plain c n, lt-leb c 31 l, not-true (eqb c 127) (b .0)), stays c (eqb-false c _ (not-true _ (d .0))) (eqb-false c _ (not-true _ (e .0))) (eqb-false c _ (not-true _ (e .1))) n)
 
 -- octets that are bare, with a text behind them
-bare-is : (xs ys : List ℕ) → all unescapedOctet xs ≡ true → textIs (xs ++ ys) ≡ textIs ys
+bare-is : (xs ys : List ℕ) → all textAsIs xs ≡ true → textIs (xs ++ ys) ≡ textIs ys
 unfolding textIs all
 bare-is [] ys h = refl
-bare-is (x ∷ xs) ys h = let a = both (unescapedOctet x) _ h in rw (bare-octet x (a .0) .0) (bare-is xs ys (a .1))
+bare-is (x ∷ xs) ys h = let a = both (textAsIs x) _ h in rw (bare-octet x (a .0) .0) (bare-is xs ys (a .1))
 
-bare-text : (xs ys : List ℕ) → all unescapedOctet xs ≡ true → textText (xs ++ ys) ≡ xs ++ textText ys
+bare-text : (xs ys : List ℕ) → all textAsIs xs ≡ true → textText (xs ++ ys) ≡ xs ++ textText ys
 unfolding textText all
 bare-text [] ys h = refl
-bare-text (x ∷ xs) ys h = let a = both (unescapedOctet x) _ h in rw (bare-octet x (a .0) .1, bare-text xs ys (a .1))
+bare-text (x ∷ xs) ys h = let a = both (textAsIs x) _ h in rw (bare-octet x (a .0) .1, bare-text xs ys (a .1))
 
 -- a run
 module _ {s : List ℕ} {i : ℕ} where
@@ -62,22 +62,22 @@ module _ {s : List ℕ} {i : ℕ} where
   bare-none h = let e : i - i ≡ 0 = omega arith in record { low = omega arith; high = h; is = rw e }
 
   module _ {r : ℕ} (b : Bare s i r) where
-    pub bare-block : (e : ℕ) → r ≤ e → e ≤ length s → all unescapedOctet (take (e - r) (drop r s)) ≡ true → Bare s i e
+    pub bare-block : (e : ℕ) → r ≤ e → e ≤ length s → all textAsIs (take (e - r) (drop r s)) ≡ true → Bare s i e
     bare-block e h k a =
         let n : e - i ≡ r - i + (e - r) = omega (arith, b .low) in
         let m : i + (r - i) ≡ r = omega (arith, b .low) in
         record {
           low = omega (arith, b .low);
           high = k;
-          is = rw (n, take-add (r - i) (e - r) (drop i s), drop-drop (r - i) i s, m, all-append unescapedOctet (take (r - i) (drop i s)) (take (e - r) (drop r s))) (and-true (b .is) a);
+          is = rw (n, take-add (r - i) (e - r) (drop i s), drop-drop (r - i) i s, m, all-append textAsIs (take (r - i) (drop i s)) (take (e - r) (drop r s))) (and-true (b .is) a);
         }
 
-    pub bare-more : r < length s → unescapedOctet (getD s r 0) ≡ true → Bare s i (r + 1)
+    pub bare-more : r < length s → textAsIs (getD s r 0) ≡ true → Bare s i (r + 1)
     unfolding all
     bare-more h e = record {
       low = omega (arith, b .low);
       high = omega arith;
-      is = rw (part-more s i r (b .low) h, all-append unescapedOctet (take (r - i) (drop i s)) (getD s r 0 ∷ [])) (and-true (b .is) (rw e));
+      is = rw (part-more s i r (b .low) h, all-append textAsIs (take (r - i) (drop i s)) (getD s r 0 ∷ [])) (and-true (b .is) (rw e));
     }
 
     -- the text behind it

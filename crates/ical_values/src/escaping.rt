@@ -8,7 +8,7 @@ ghost use Rattle.octets.specs.Basics.{_and_, all};
 ghost use Rattle.octets.specs.Classes.{textOctet};
 ghost use Rattle.content.specs.Folding.{folding, Folded};
 ghost use Rattle.values.specs.Texts.{escapedOctet, textIs, textText};
-ghost use Rattle.ical_values.specs.Bare.{unescapedOctet, Bare};
+ghost use Rattle.ical_values.specs.Bare.{textAsIs, Bare};
 ghost use Rattle.ical_values.specs.Valued.{FoldedIf};
 use crate::Folds;
 use content::Folder;
@@ -27,7 +27,7 @@ fn both(a: bool, b: bool) -> bool
 
 // No control character, and nothing that is escaped.
 fn is_bare(c: u8) -> bool
-    ensures { λ r. ⌜ r ≡ unescapedOctet c ⌝ }
+    ensures { λ r. ⌜ r ≡ textAsIs c ⌝ }
 {
     both(
         31 < c,
@@ -37,7 +37,7 @@ fn is_bare(c: u8) -> bool
 
 // Each octet is bare. The loop has no way out on the way, so that many octets are tested at once.
 fn all_bare(s: &[u8]) -> bool
-    ensures { λ r. ⌜ r ≡ all unescapedOctet (now (s .entry)) ⌝ }
+    ensures { λ r. ⌜ r ≡ all textAsIs (now (s .entry)) ⌝ }
 {
     let mut so_far = true;
     let mut i = 0;

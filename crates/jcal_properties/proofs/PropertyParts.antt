@@ -11,7 +11,8 @@ use lib.Dec.{leb}
 use lib.ListN.{length, take, drop}
 use Rattle.octets.specs.Basics.{octets, pick, _or_, all, any, same, filled, twice}
 use Rattle.octets.specs.Optional.{map?}
-use Rattle.octets.specs.Classes.{isName, lower, lowerNameOctet, isLowerName, isLower, isDigit, between, asIsOctet}
+use Rattle.octets.specs.Groups.{asIsOctet}
+use Rattle.octets.specs.Classes.{isName, lower, lowerNameOctet, isLowerName, isLower, isDigit, between}
 use Rattle.octets.specs.Answers.{Answer, refused, accepted, then, orElse, unless}
 use Rattle.octets.specs.Pen.{Pen, pen, Wrote}
 use Rattle.octets.proofs.Cases.{cases, both, all-weaker}

@@ -7,7 +7,8 @@ use mathlib.Core.Option.{none, some}
 use mathlib.Core.Path.{_≡_, refl, sym, ap, _∙_}
 use borrow.Author.Tests.{eqb-true}
 use Rattle.octets.specs.Basics.{all}
-use Rattle.octets.specs.Classes.{between, isDigit, asIsOctet}
+use Rattle.octets.specs.Groups.{asIsOctet}
+use Rattle.octets.specs.Classes.{between, isDigit}
 use Rattle.octets.specs.Decimal.{isSign}
 use Rattle.octets.specs.Optional.{map?}
 use Rattle.octets.specs.Pen.{Pen, Wrote}

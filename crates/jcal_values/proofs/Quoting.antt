@@ -13,7 +13,7 @@ use Rattle.octets.proofs.Cases.{cases, never, both, neither, apart}
 use Rattle.calendar.specs.Texts.{octetsIn, textSaid, Says}
 use Rattle.calendar.specs.declared.texts.Text.{Text}
 use Rattle.json.specs.Print.{escaped, quoted, printString}
-use Rattle.octets.specs.Classes.{asIsOctet}
+use Rattle.octets.specs.Groups.{asIsOctet}
 use Rattle.values.specs.Shown.{stringShown}
 
 escaped-bare : (b : ℕ) → asIsOctet b ≡ true → escaped b ≡ b ∷ []

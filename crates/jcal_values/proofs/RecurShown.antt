@@ -12,7 +12,8 @@ use lib.ListN.{length, getD, take, drop}
 use Rattle.octets.specs.Basics.{octets, all, All}
 use Rattle.octets.specs.Pieces.{split, joined}
 use Rattle.octets.specs.Optional.{both?, isSome, given, each}
-use Rattle.octets.specs.Classes.{between, isUpper, isDigit, lowerOctet, upper, lower, asIsOctet}
+use Rattle.octets.specs.Groups.{asIsOctet}
+use Rattle.octets.specs.Classes.{between, isUpper, isDigit, lowerOctet, upper, lower}
 use Rattle.octets.specs.Decimal.{isSign}
 use Rattle.octets.proofs.Cases.{cases, both, all-weaker}
 use Rattle.octets.proofs.Classes.{lower-upper}

@@ -9,7 +9,7 @@ use lib.ListN.{length, take, drop, getD}
 use Rattle.octets.specs.Basics.{_or_, all}
 use Rattle.octets.proofs.Cases.{both, neither}
 use Rattle.octets.proofs.Positions.{here, ended, part-rest}
-use Rattle.octets.specs.Classes.{asIsOctet}
+use Rattle.octets.specs.Groups.{asIsOctet}
 use Rattle.json.specs.Print.{escaped, quoted}
 use Rattle.json.specs.Promise.{Run}
 

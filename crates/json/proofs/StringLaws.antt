@@ -9,7 +9,8 @@ use lib.ListN.{length, take, drop, getD, length-drop}
 use lib.Seq.{drop-drop}
 use borrow.Author.Tests.{ne-eqb, eq-eqb, ltb-true, ltb-false, lt-ltb, le-ltb, leb-true, leb-false, eqb-false, not-true}
 use Rattle.octets.specs.Basics.{pick, _and_, _or_, all}
-use Rattle.octets.specs.Classes.{between, isDigit, hexDigit, unescaped}
+use Rattle.octets.specs.Groups.{jsonUnescaped}
+use Rattle.octets.specs.Classes.{between, isDigit, hexDigit}
 use Rattle.octets.specs.Pen.{Pen, Wrote}
 use Rattle.octets.proofs.Cases.{cases, never, both, and-true-right, pick-same}
 use Rattle.octets.proofs.Classes.{between-true}
@@ -208,30 +209,30 @@ unfolding string stringPieces
 string-nil = refl
 
 -- by the octet at a place
-plain-is : (b : ℕ) → unescaped b ≡ true → (ltb b 32 ≡ false) × (eqb b 34 ≡ false) × (eqb b 92 ≡ false)
-unfolding unescaped
+plain-is : (b : ℕ) → jsonUnescaped b ≡ true → (ltb b 32 ≡ false) × (eqb b 34 ≡ false) × (eqb b 92 ≡ false)
+unfolding jsonUnescaped
 plain-is b e =
     let w = both (leb 32 b) (not (eqb b 34) and not (eqb b 92)) e in
     let v = both (not (eqb b 34)) (not (eqb b 92)) (w .1) in
     (le-ltb b 32 (leb-true 32 b (w .0)), not-true _ (v .0), not-true _ (v .1))
 
-plain-not : (b : ℕ) → unescaped b ≡ false → eqb b 34 ≡ false → eqb b 92 ≡ false → ltb b 32 ≡ true
-unfolding unescaped
+plain-not : (b : ℕ) → jsonUnescaped b ≡ false → eqb b 34 ≡ false → eqb b 92 ≡ false → ltb b 32 ≡ true
+unfolding jsonUnescaped
 plain-not b e x y = lt-ltb b 32 (leb-false 32 b (sym (and-true-right (leb 32 b)) ∙ rw (x, y) at e))
 
-string-plain : (b : ℕ) (s : List ℕ) → unescaped b ≡ true → string (b ∷ s) ≡ fmap (λ ys. b ∷ ys) (string s)
+string-plain : (b : ℕ) (s : List ℕ) → jsonUnescaped b ≡ true → string (b ∷ s) ≡ fmap (λ ys. b ∷ ys) (string s)
 unfolding piece
 string-plain b s h = let w = plain-is b h in string-cons b s ∙ rw (w .1, w .2, w .0)
 
-string-plains : (xs ys : List ℕ) → all unescaped xs ≡ true → string (xs ++ ys) ≡ fmap (λ zs. xs ++ zs) (string ys)
+string-plains : (xs ys : List ℕ) → all jsonUnescaped xs ≡ true → string (xs ++ ys) ≡ fmap (λ zs. xs ++ zs) (string ys)
 unfolding all
 string-plains [] ys h = sym (map-same (string ys))
 string-plains (x ∷ xs) ys h =
-    let b = both (unescaped x) (all unescaped xs) h in
+    let b = both (jsonUnescaped x) (all jsonUnescaped xs) h in
     string-plain x (xs ++ ys) (b .0) ∙ ap (fmap (λ zs. x ∷ zs)) (string-plains xs ys (b .1)) ∙ map-map (λ zs. x ∷ zs) (λ zs. xs ++ zs) (string ys)
 
 module _ (text : List ℕ) where
-  pub string-run : {at r : ℕ} → Run unescaped text at r → string (drop at text) ≡ fmap (λ zs. take (r - at) (drop at text) ++ zs) (string (drop r text))
+  pub string-run : {at r : ℕ} → Run jsonUnescaped text at r → string (drop at text) ≡ fmap (λ zs. take (r - at) (drop at text) ++ zs) (string (drop r text))
   string-run {at} {r} w = ap string (part-rest text at r (w .above)) ∙ string-plains (take (r - at) (drop at text)) (drop r text) (w .inside)
 
   pub string-quote : (i : ℕ) → getD text i 0 ≡ 34 → string (drop i text) ≡ ok [] (drop (i + 1) text)
@@ -241,7 +242,7 @@ module _ (text : List ℕ) where
   unfolding piece
   string-escape i h = ap string (here text i (inside-is text i 92 h (omega arith))) ∙ string-cons (getD text i 0) (drop (i + 1) text) ∙ rw h
 
-  pub string-none : (i : ℕ) → unescaped (getD text i 0) ≡ false → ((getD text i 0 ≡ 34) → ⊥) → ((getD text i 0 ≡ 92) → ⊥) → string (drop i text) ≡ bad
+  pub string-none : (i : ℕ) → jsonUnescaped (getD text i 0) ≡ false → ((getD text i 0 ≡ 34) → ⊥) → ((getD text i 0 ≡ 92) → ⊥) → string (drop i text) ≡ bad
   unfolding piece
   string-none i p q b = cases (ltb i (length text))
       (λ h. ap string (here text i (ltb-true i (length text) h)) ∙ string-cons (getD text i 0) (drop (i + 1) text) ∙ rw (ne-eqb _ 34 q, ne-eqb _ 92 b, plain-not (getD text i 0) p (ne-eqb _ 34 q) (ne-eqb _ 92 b)))

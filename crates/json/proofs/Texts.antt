@@ -9,7 +9,7 @@ use types.Run.{OneOf}
 use denote.Enum.Declared.{tagOf}
 use lib.ListN.{take, drop, getD}
 use Rattle.octets.specs.Pen.{Pen, pen, Wrote}
-use Rattle.octets.specs.Classes.{unescaped}
+use Rattle.octets.specs.Groups.{jsonUnescaped}
 use Rattle.json.specs.Reads.{fmap, andThen}
 use Rattle.json.specs.Strings.{escape, string}
 use Rattle.json.specs.Tape.{tagEnd, serText}
@@ -22,13 +22,13 @@ use Rattle.json.proofs.StringLaws.{string-run, string-quote, string-esc
 use Rattle.json.proofs.Agreements.{HasRead, Going, going-on, agrees-by, agrees-fails}
 
 module _ {text : List ℕ} {low : ℕ} {p q : Pen} {i₀ i : ℕ} (g : Going serText string text low p i₀ q i) where
-  pub text-run : {r : ℕ} {q′ : Pen} → Run unescaped text i r → Wrote q (take (r - i) (drop i text)) q′ → Going serText string text low p i₀ q′ r
+  pub text-run : {r : ℕ} {q′ : Pen} → Run jsonUnescaped text i r → Wrote q (take (r - i) (drop i text)) q′ → Going serText string text low p i₀ q′ r
   text-run {r} w v = going-on r (λ ys. take (r - i) (drop i text) ++ ys) g v (λ a. sym (append-assoc (take (r - i) (drop i text)) a (tagEnd ∷ []))) (string-run text w)
 
   pub text-close : {t : List ℕ} {to : ℕ} → getD text i 0 ≡ 34 → low ≤ i → Wrote q (tagEnd ∷ []) (pen t to) → Agrees serText text low p t (string (drop i₀ text)) (Read (i + 1) to)
   text-close {t} {to} h l w = g .goes t (Read (i + 1) to) (read {e = i + 1} [] (string-quote text i h) (omega arith) (omega (arith, inside-is text i 34 h (omega arith))) w)
 
-  pub text-none : {t : List ℕ} → unescaped (getD text i 0) ≡ false → ((getD text i 0 ≡ 34) → ⊥) → ((getD text i 0 ≡ 92) → ⊥) → Agrees serText text low p t (string (drop i₀ text)) NotJson
+  pub text-none : {t : List ℕ} → jsonUnescaped (getD text i 0) ≡ false → ((getD text i 0 ≡ 34) → ⊥) → ((getD text i 0 ≡ 92) → ⊥) → Agrees serText text low p t (string (drop i₀ text)) NotJson
   text-none {t} h a b = g .goes t NotJson (not-json (string-none text i h a b))
 
   module _ (h : getD text i 0 ≡ 92) {l : ℕ} {t : List ℕ} where

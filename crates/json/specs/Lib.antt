@@ -5,7 +5,6 @@ pub mod Numbers
 pub mod Strings
 pub mod Reader
 pub mod Print
-
 -- What functions of the code promise.
 pub mod Tape
 pub mod Parse

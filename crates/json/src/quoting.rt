@@ -3,7 +3,7 @@ ghost use mathlib.Core.Path.{_≡_};
 ghost use Prim.Native.Nat.{_≤_};
 ghost use lib.ListN.{length};
 ghost use Rattle.octets.specs.Pen.{pen, Wrote};
-ghost use Rattle.octets.specs.Classes.{asIsOctet};
+ghost use Rattle.octets.specs.Groups.{asIsOctet};
 ghost use Rattle.json.specs.Print.{escaped, printString};
 ghost use Rattle.json.specs.Promise.{Run};
 use octets::Class;

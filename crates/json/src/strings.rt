@@ -3,7 +3,8 @@ ghost use mathlib.Core.Path.{_≡_};
 ghost use mathlib.Core.List.{List};
 ghost use Prim.Native.Nat.{ℕ, _+_, _≤_, _<_};
 ghost use lib.ListN.{length, drop, getD};
-ghost use Rattle.octets.specs.Classes.{hexDigit, unescaped};
+ghost use Rattle.octets.specs.Groups.{jsonUnescaped};
+ghost use Rattle.octets.specs.Classes.{hexDigit};
 ghost use Rattle.octets.specs.Pen.{pen, Wrote};
 ghost use Rattle.json.specs.Strings.{escapeOf, hex4 as hex4Of, utf8Of, lowSurrogate, partner as partnerOf, unicode as unicodeOf, escape as escapeText, string as stringOf};
 ghost use Rattle.json.specs.Tape.{serString};
@@ -170,7 +171,7 @@ fn escape(text: &[u8], at: usize, tape: &mut [u8], to: usize) -> Step
 // The place behind the octets at `at` that stand for themselves.
 fn past_unescaped(text: &[u8], at: usize) -> usize
     requires { ⌜ at ≤ length (now text) ⌝ }
-    ensures { λ r. ⌜ Run unescaped (now (text .entry)) at r ⌝ }
+    ensures { λ r. ⌜ Run jsonUnescaped (now (text .entry)) at r ⌝ }
 {
     octets::long_run_end(text, at, Class::Unescaped)
 }

@@ -53,14 +53,6 @@ textOctet c = plainOctet c or eqb c (code "\n")
 unfoldable pub isSpace : ℕ → Bool
 isSpace c = eqb c (code " ") or eqb c (code "\n") or eqb c (code "\r") or eqb c (code "\t")
 
--- RFC 8259 7, unescaped: an octet that stands for itself in a JSON string
-unfoldable pub unescaped : ℕ → Bool
-unescaped c = leb 32 c and not (eqb c (code "\"")) and not (eqb c (code "\\"))
-
--- 01, Values: an octet that is written into a JSON string as it is
-unfoldable pub asIsOctet : ℕ → Bool
-asIsOctet c = not (eqb c (code "\"") or eqb c (code "\\") or eqb c (code "\n") or eqb c (code "\t"))
-
 unfoldable pub upperOctet : ℕ → ℕ
 upperOctet c = pick (isLower c) (c - 32) c
 

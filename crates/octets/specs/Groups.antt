@@ -1,12 +1,22 @@
--- The classes of octets by name, for tests over a whole slice and for runs, and the two cases.
+-- The classes of octets by name, for tests over a whole slice and for runs, and the cases in which names are compared and written.
 use Prim.Native.Nat.{ℕ}
-use mathlib.Core.Bool.{Bool}
-use lib.Dec.{leb}
-use Rattle.octets.specs.Classes.{isDigit, nameOctet, lowerNameOctet, plainOctet, textOctet, isSpace, unescaped, asIsOctet, upperOctet, lowerOctet}
+use Prim.Native.Char.{code}
+use mathlib.Core.Bool.{Bool, not}
+use lib.Dec.{eqb, leb}
+use Rattle.octets.specs.Basics.{_and_, _or_}
+use Rattle.octets.specs.Classes.{isDigit, nameOctet, lowerNameOctet, plainOctet, textOctet, isSpace, upperOctet, lowerOctet}
 use Rattle.octets.specs.declared.names.Class.{Class}
 use Rattle.octets.specs.declared.names.Class.the-variants.{Digit, Name, LowerName, Plain, Text, Space, Unescaped, AsIs, Ascii}
 use Rattle.octets.specs.declared.names.Case.{Case}
 use Rattle.octets.specs.declared.names.Case.the-variants.{Upper, Lower, Exact}
+
+-- RFC 8259 7, unescaped: an octet that stands for itself in a JSON string
+unfoldable pub jsonUnescaped : ℕ → Bool
+jsonUnescaped c = leb 32 c and not (eqb c (code "\"")) and not (eqb c (code "\\"))
+
+-- 01, Values: an octet that is written into a JSON string as it is
+unfoldable pub asIsOctet : ℕ → Bool
+asIsOctet c = not (eqb c (code "\"") or eqb c (code "\\") or eqb c (code "\n") or eqb c (code "\t"))
 
 abbrev pub belongs : Class → ℕ → Bool
 belongs Digit c = isDigit c
@@ -15,7 +25,7 @@ belongs LowerName c = lowerNameOctet c
 belongs Plain c = plainOctet c
 belongs Text c = textOctet c
 belongs Space c = isSpace c
-belongs Unescaped c = unescaped c
+belongs Unescaped c = jsonUnescaped c
 belongs AsIs c = asIsOctet c
 belongs Ascii c = leb c 127
 

@@ -8,7 +8,6 @@ pub mod Decimal
 pub mod Limits
 pub mod Pen
 pub mod Answers
-
 -- What functions of the code promise.
 pub mod Groups
 pub mod Characters

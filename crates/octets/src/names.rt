@@ -4,9 +4,9 @@ ghost use mathlib.Core.List.{_++_, map};
 ghost use Prim.Native.Nat.{_+_, _≤_};
 ghost use lib.ListN.{length, take, drop, getD};
 ghost use Rattle.octets.specs.Basics.{_and_, all, same};
-ghost use Rattle.octets.specs.Classes.{between, isDigit, isUpper, isLower, nameOctet, isName, lowerNameOctet, isLowerName, plainOctet, textOctet, isSpace, unescaped, asIsOctet, upperOctet, lowerOctet, upper, lower, sameName, hexDigit};
+ghost use Rattle.octets.specs.Classes.{between, isDigit, isUpper, isLower, nameOctet, isName, lowerNameOctet, isLowerName, plainOctet, textOctet, isSpace, upperOctet, lowerOctet, upper, lower, sameName, hexDigit};
 ghost use Rattle.octets.specs.Decimal.{digits};
-ghost use Rattle.octets.specs.Groups.{belongs, cased};
+ghost use Rattle.octets.specs.Groups.{belongs, cased, jsonUnescaped, asIsOctet};
 ghost use Rattle.octets.specs.Pen.{pen, Wrote};
 use crate::writing::put;
 
@@ -105,7 +105,7 @@ fn is_space(c: u8) -> bool
 
 // Stands for itself in a JSON string; with no branch.
 fn is_unescaped(c: u8) -> bool
-    ensures { λ r. ⌜ r ≡ unescaped c ⌝ }
+    ensures { λ r. ⌜ r ≡ jsonUnescaped c ⌝ }
 {
     both(32 <= c, both(c != b'"', c != b'\\'))
 }

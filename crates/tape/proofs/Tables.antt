@@ -12,7 +12,7 @@ use Rattle.octets.proofs.Slots.{slot-there, slot-absent, Noting, noting-start, 
 use Rattle.json.specs.Tree.{Members, noMembers, member}
 use Rattle.json.specs.Tape.{tagEnd}
 use Rattle.tape.specs.Sound.{hasKey, distinctKeys}
-use Rattle.tape.specs.Decode.{keyAt, tagAt, membersAt}
+use Rattle.tape.specs.Decode.{keyTextAt, tagAt, membersAt}
 use Rattle.tape.specs.declared.Text.{Text}
 use Rattle.tape.proofs.Values.{members-end}
 use Rattle.tape.proofs.Scans.{Keyed, part, members-on}
@@ -38,7 +38,7 @@ key-twice (member k j ms) = rw (key-among k ms, key-twice ms) (neither-of (among
 
 -- The keys up to i are in the table, and differ: what is left tells whether all keys from a on do.
 pub record Telling (t table : List ℕ) (a i : ℕ) : Type 0 where
-  pub is : Noting (keyAt t) table (keysIn (membersAt t a)) (keysIn (membersAt t i))
+  pub is : Noting (keyTextAt t) table (keysIn (membersAt t a)) (keysIn (membersAt t i))
 
 pub telling-start : {t table : List ℕ} {a : ℕ} → Blank table → Telling t table a a
 telling-start b = record { is = noting-start b }
@@ -48,7 +48,7 @@ module _ {t table : List ℕ} {a i : ℕ} (g : Telling t table a i) where
   telling-end z = let n : twice (keysIn (membersAt t a)) ≡ false = noting-end (rw (members-end t i z) at (g .is)) in key-twice (membersAt t a) ∙ rw n
 
   module _ {e : ℕ} {r : Text} (m : Keyed t i r e) where
-    at-key : Noting (keyAt t) table (keysIn (membersAt t a)) (part t r ∷ keysIn (membersAt t e))
+    at-key : Noting (keyTextAt t) table (keysIn (membersAt t a)) (part t r ∷ keysIn (membersAt t e))
     at-key = rw (members-on m) at (g .is)
 
     repeated : twice (keysIn (membersAt t a)) ≡ true → distinctKeys (membersAt t a) ≡ false
@@ -58,12 +58,12 @@ module _ {t table : List ℕ} {a i : ℕ} (g : Telling t table a i) where
     telling-twice h = repeated (noting-twice at-key (sym (key-among (part t r) (membersAt t e)) ∙ h))
 
     -- the key is looked for in the table up to the slot q
-    module _ {q : ℕ} (s : q ≡ slotIn (keyAt t) (part t r) table) where
+    module _ {q : ℕ} (s : q ≡ slotIn (keyTextAt t) (part t r) table) where
       pub telling-there : ((getD table q 0 ≡ 0) → ⊥) → distinctKeys (membersAt t a) ≡ false
-      telling-there z = repeated (noting-there at-key q z (slot-there (keyAt t) (part t r) table q s z))
+      telling-there z = repeated (noting-there at-key q z (slot-there (keyTextAt t) (part t r) table q s z))
 
       pub telling-full : length table ≤ q → hasKey (part t r) (membersAt t e) ≡ false → Telling t table a e
-      telling-full l h = record { is = noting-full at-key (slot-absent (keyAt t) (part t r) table q s (past-end table q l)) (sym (key-among (part t r) (membersAt t e)) ∙ h) }
+      telling-full l h = record { is = noting-full at-key (slot-absent (keyTextAt t) (part t r) table q s (past-end table q l)) (sym (key-among (part t r) (membersAt t e)) ∙ h) }
 
       pub telling-free : 1 ≤ i → q < length table → getD table q 0 ≡ 0 → Telling t (set table q i) a e
       telling-free o l z = record { is = noting-free at-key q i (λ y. omega arith) (sym (m .key .part)) s l z }

@@ -98,8 +98,8 @@ unfoldable pub valueAt : List ℕ → ℕ → Json
 valueAt t i = headItem (top (view t i))
 
 -- the key at a place of an object
-abbrev pub keyAt : List ℕ → ℕ → List ℕ
-keyAt t i = octetsOf (valueAt t i)
+abbrev pub keyTextAt : List ℕ → ℕ → List ℕ
+keyTextAt t i = octetsOf (valueAt t i)
 
 -- the values from a place to the end of its group, as a list, and as members of an object
 unfoldable pub itemsAt : List ℕ → ℕ → Items

@@ -11,7 +11,7 @@ ghost use mathlib.Core.Path.{_≡_};
 ghost use Prim.Native.Nat.{_+_, _≤_};
 ghost use Rattle.octets.specs.Slots.{slotIn, Blank};
 ghost use Rattle.tape.specs.Sound.{hasKey, distinctKeys};
-ghost use Rattle.tape.specs.Decode.{membersAt, keyAt};
+ghost use Rattle.tape.specs.Decode.{membersAt, keyTextAt};
 
 // Keys that are compared with all behind them.
 const FEW: usize = 8;
@@ -39,7 +39,7 @@ fn has_key(t: &[u8], at: usize, key: &[u8]) -> bool
 
 // The slot of a table that holds a key, or the free one for it, or the end of the table; the slots hold places of keys, and 0 where they are free.
 fn slot_in(t: &[u8], table: &[usize], key: &[u8]) -> usize
-    ensures { λ r. ⌜ r ≡ slotIn (keyAt (now (t .entry))) (now (key .entry)) (now (table .entry)) ⌝ }
+    ensures { λ r. ⌜ r ≡ slotIn (keyTextAt (now (t .entry))) (now (key .entry)) (now (table .entry)) ⌝ }
 {
     let mut q = slot_of(key, Case::Exact);
     while q < table.len() {

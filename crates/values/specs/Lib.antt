@@ -5,7 +5,6 @@ pub mod Simple
 pub mod Recur
 pub mod Read
 pub mod Write
-
 -- What functions of the code promise.
 pub mod Coded
 pub mod Shown

@@ -1,6 +1,6 @@
 -- `content::object::is_special` meets its contract.
 use borrow.Author.Tests.{ne-eqb}
-use Rattle.octets.specs.Classes.{asIsOctet}
+use Rattle.octets.specs.Groups.{asIsOctet}
 use Rattle.content.specs.Object.{special}
 use Rattle.content.proofs.object.is_special.Statement.{statement}
 use Rattle.content.proofs.object.is_special.Tie as tie

@@ -5,7 +5,7 @@ use native.Mathlib.Omega.{arith}
 use lib.ListN.{length, drop}
 use denote.Ref.{now}
 use Rattle.octets.specs.Pen.{pen}
-use Rattle.octets.specs.Classes.{unescaped}
+use Rattle.octets.specs.Groups.{jsonUnescaped}
 use Rattle.json.specs.Strings.{escape as escapeText, string as stringOf}
 use Rattle.json.specs.Tape.{serText}
 use Rattle.json.proofs.Runs.{run-next, inside-is}
@@ -34,7 +34,7 @@ returns : tie.Need-returns Inv-loop μ-loop
 returns c = agrees-behind (c .before .before .before .before .before .before .before .before .before .before .before .before .before .before .before .put .ensures) (text-close (going (c .before .before .before .before .before)) (sym (c .before .before .before .before .before .peek .ensures) ∙ c .before .before .before .before .if1 .taken) (omega arith) (c .before .before .put2 .ensures))
 
 returns-2 : tie.Need-returns-2 Inv-loop μ-loop
-unfolding unescaped
+unfolding jsonUnescaped
 returns-2 c = agrees-behind (c .before .before .before .before .before .before .before .before .before .before .before .before .put .ensures) (text-none (going (c .before .before)) (run-next refl (c .before .before .before .before .before .before .before .before .past-unescaped .ensures)) (λ h. c .before .if1 .left (c .before .before .peek .ensures ∙ h)) (λ h. c .if2 .taken (c .before .before .peek .ensures ∙ h)))
 
 add-escape : tie.Need-add-escape Inv-loop μ-loop

@@ -1,6 +1,6 @@
 -- `octets::names::is_as_is` meets its contract.
 use borrow.Author.Tests.{ne-eqb}
-use Rattle.octets.specs.Classes.{asIsOctet}
+use Rattle.octets.specs.Groups.{asIsOctet}
 use Rattle.octets.proofs.names.is_as_is.Statement.{statement}
 use Rattle.octets.proofs.names.is_as_is.Tie as tie
 

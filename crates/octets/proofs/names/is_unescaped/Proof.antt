@@ -1,12 +1,12 @@
 -- `octets::names::is_unescaped` meets its contract.
 use mathlib.Core.Path.{refl}
 use borrow.Author.Needs.{needs}
-use Rattle.octets.specs.Classes.{unescaped}
+use Rattle.octets.specs.Groups.{jsonUnescaped}
 use Rattle.octets.proofs.names.is_unescaped.Statement.{statement}
 use Rattle.octets.proofs.names.is_unescaped.Tie as tie
 
 returns : tie.Need-returns
-unfolding unescaped
+unfolding jsonUnescaped
 returns c = rw (c .both2 .ensures, c .before .both .ensures) refl
 
 pub is-unescaped-spec : {M : Type 1} → statement M

@@ -7,12 +7,12 @@ use Rattle.octets.specs.Basics.{same}
 use Rattle.octets.specs.Slots.{slotOf, passed, slotIn}
 use Rattle.octets.proofs.Classes.{exact}
 use Rattle.octets.proofs.Slots.{seeking-start, seeking-end, seeking-free, seeking-there, seeking-on}
-use Rattle.tape.specs.Decode.{keyAt}
+use Rattle.tape.specs.Decode.{keyTextAt}
 use Rattle.tape.proofs.keys.slot_in.Statement.{statement}
 use Rattle.tape.proofs.keys.slot_in.Tie as tie
 
 abbrev Inv-loop : tie.InvT-loop
-Inv-loop t table key q₀ q = slotIn (keyAt t) key table ≡ q + passed (keyAt t) key (drop q table)
+Inv-loop t table key q₀ q = slotIn (keyTextAt t) key table ≡ q + passed (keyTextAt t) key (drop q table)
 
 abbrev μ-loop : tie.MeasureT-loop
 μ-loop t table key q₀ q = length table - q
