@@ -6,7 +6,7 @@ use lib.Dec.{eqb, leb}
 use Rattle.octets.specs.Basics.{_and_, _or_}
 use Rattle.octets.specs.Classes.{isDigit, nameOctet, lowerNameOctet, plainOctet, textOctet, isSpace, upperOctet, lowerOctet}
 use Rattle.octets.specs.declared.names.Class.{Class}
-use Rattle.octets.specs.declared.names.Class.the-variants.{Digit, Name, LowerName, Plain, Text, Space, Unescaped, AsIs, Ascii}
+use Rattle.octets.specs.declared.names.Class.the-variants.{Digit, Name, LowerName, Plain, Text, Space, Unescaped, AsIs}
 use Rattle.octets.specs.declared.names.Case.{Case}
 use Rattle.octets.specs.declared.names.Case.the-variants.{Upper, Lower, Exact}
 
@@ -27,7 +27,6 @@ belongs Text c = textOctet c
 belongs Space c = isSpace c
 belongs Unescaped c = jsonUnescaped c
 belongs AsIs c = asIsOctet c
-belongs Ascii c = leb c 127
 
 abbrev pub cased : Case → ℕ → ℕ
 cased Upper c = upperOctet c

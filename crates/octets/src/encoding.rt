@@ -1,11 +1,12 @@
 // UTF-8.
 ghost use mathlib.Core.Path.{_≡_};
 ghost use Prim.Native.Nat.{_<_};
+ghost use lib.Dec.{leb};
 ghost use lib.ListN.{getD};
+ghost use Rattle.octets.specs.Basics.{all};
 ghost use Rattle.octets.specs.Utf8.{Due, start, one, two, utf8};
 ghost use Rattle.octets.specs.Characters.{Awaits, Ends};
-use crate::names::Class;
-use crate::names::all_in;
+use crate::names::both;
 use crate::names::peek;
 use crate::names::within;
 
@@ -75,10 +76,23 @@ fn character(s: &[u8], i: usize) -> usize
     0
 }
 
+// Each octet is one of ASCII. The loop has no way out on the way, so that many octets are tested at once.
+fn all_ascii(s: &[u8]) -> bool
+    ensures { λ r. ⌜ r ≡ all (λ c. leb c 127) (now (s .entry)) ⌝ }
+{
+    let mut so_far = true;
+    let mut i = 0;
+    while i < s.len() {
+        so_far = both(so_far, s[i] <= 127);
+        i += 1;
+    }
+    so_far
+}
+
 pub fn is_utf8(s: &[u8]) -> bool
     ensures { λ r. ⌜ r ≡ utf8 (now (s .entry)) ⌝ }
 {
-    if all_in(&*s, Class::Ascii) {
+    if all_ascii(&*s) {
         return true;
     }
     has_characters(&*s)

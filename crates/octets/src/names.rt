@@ -20,7 +20,6 @@ pub enum Class {
     Space,
     Unescaped,
     AsIs,
-    Ascii,
 }
 
 pub(crate) fn within(lo: u8, hi: u8, c: u8) -> bool
@@ -183,7 +182,6 @@ impl Class {
             Class::Space => is_space(c),
             Class::Unescaped => is_unescaped(c),
             Class::AsIs => is_as_is(c),
-            Class::Ascii => c <= 127,
         }
     }
 }

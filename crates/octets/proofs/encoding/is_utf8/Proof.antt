@@ -7,7 +7,7 @@ use Rattle.octets.proofs.encoding.is_utf8.Tie as tie
 
 returns : tie.Need-returns
 unfolding ascii
-returns c = sym (ascii-utf8 _ (sym (c .before .all-in .ensures) ∙ c .if1 .taken))
+returns c = sym (ascii-utf8 _ (sym (c .before .all-ascii .ensures) ∙ c .if1 .taken))
 
 pub is-utf8-spec : {M : Type 1} → statement M
 is-utf8-spec = tie.close (tie.spec (λ c κs. search needs) returns (λ c κs. search needs) (λ c. search needs))

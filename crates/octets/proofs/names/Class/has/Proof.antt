@@ -1,5 +1,4 @@
 -- `octets::has` meets its contract.
-use mathlib.Core.Path.{refl}
 use borrow.Author.Needs.{needs}
 use Rattle.octets.proofs.names.Class.has.Statement.{statement}
 use Rattle.octets.proofs.names.Class.has.Tie as tie
@@ -48,7 +47,6 @@ has-spec =
     (λ c κs. search needs)
     (λ c. search needs)
     (λ c κs. search needs)
-    (λ c. search needs)
     returns
     returns-2
     returns-3
@@ -56,5 +54,4 @@ has-spec =
     returns-5
     returns-6
     returns-7
-    returns-8
-    (λ c. rw (c .enum-told9 .given .1) refl))
+    returns-8)
