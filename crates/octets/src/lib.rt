@@ -39,6 +39,7 @@ pub use numbers::put_integer_text;
 pub use numbers::sign_length;
 pub use numbers::value_of;
 pub use searching::find;
+pub use searching::find_near;
 pub use searching::is_free;
 pub use searching::long_run_end;
 pub use searching::run_end;

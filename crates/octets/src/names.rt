@@ -314,7 +314,7 @@ fn put_each_cased(out: &mut [u8], at: usize, src: &[u8], case: Case) -> usize
 }
 
 // Writes a slice in one case.
-pub(crate) fn put_cased(out: &mut [u8], at: usize, src: &[u8], case: Case) -> usize
+fn put_cased(out: &mut [u8], at: usize, src: &[u8], case: Case) -> usize
     ensures { λ r. ⌜ Wrote (pen (now (out .entry)) at) (map (cased case) (now (src .entry))) (pen (now (out .exit)) r) ⌝ }
 {
     if at <= out.len() {

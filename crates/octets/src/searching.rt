@@ -118,6 +118,28 @@ pub fn find(s: &[u8], at: usize, b: u8) -> usize
     i
 }
 
+// The same, for an octet that mostly stands near: two times eight octets are looked at before whole blocks.
+pub fn find_near(s: &[u8], at: usize, b: u8) -> usize
+    ensures { λ r. ⌜ r ≡ at + length (until (λ c. eqb c b) (drop at (now (s .entry)))) ⌝ }
+{
+    let n = s.len();
+    if n <= at {
+        return find_last(&*s, at, b);
+    }
+    if n - at < BLOCK {
+        return find_last(&*s, at, b);
+    }
+    let e = in_eight(&*s, at, b);
+    if e < at + 8 {
+        return e;
+    }
+    let f = in_eight(&*s, e, b);
+    if f < e + 8 {
+        return f;
+    }
+    find(&*s, f, b)
+}
+
 // The end of the octets of the class from `at` on.
 pub fn run_end(s: &[u8], at: usize, class: Class) -> usize
     ensures { λ r. ⌜ r ≡ at + length (until (λ c. not (belongs class c)) (drop at (now (s .entry)))) ⌝ }

@@ -5,7 +5,7 @@ use super::NUMBER;
 use super::OBJECT;
 use super::STRING;
 use super::Text;
-use octets::find;
+use octets::find_near;
 ghost use mathlib.Core.Path.{_≡_};
 ghost use Prim.Native.Nat.{_+_, min};
 ghost use lib.ListN.{length};
@@ -30,7 +30,7 @@ pub fn after(t: &[u8], at: usize) -> usize
 fn text_end(t: &[u8], at: usize) -> usize
     ensures { λ r. ⌜ r ≡ at + length (textAt (now (t .entry)) at) ⌝ }
 {
-    find(t, at, END)
+    find_near(t, at, END)
 }
 
 // Behind the text at `at` and its end.
