@@ -1,5 +1,5 @@
 -- Properties tested for 7, 8 and 9 by what their ruling says.
-use Prim.Native.Nat.{ℕ, _-_}
+use Prim.Native.Nat.{ℕ, _-_, _≤_}
 use mathlib.Core.Path.{_≡_, refl, sym, ap, _∙_}
 use mathlib.Core.Bool.{Bool, true, false, not}
 use mathlib.Core.List.{List, [], _∷_, _++_, map}
@@ -34,6 +34,8 @@ use Rattle.values.specs.Coded.{sortSaid}
 use Rattle.values.specs.declared.sorts.Sort.{Sort as SortCode}
 use Rattle.values.specs.Read.{readValues, valuesOf}
 use Rattle.values.specs.Write.{valuesAre}
+use Rattle.ical_recur.specs.Room.{hasRoom}
+use Rattle.ical_recur.proofs.Room.{room}
 use Rattle.ical_values.specs.Valued.{ValuedAs}
 use Rattle.ical_values.specs.declared.Valued.{Valued}
 use Rattle.ical_values.specs.declared.Valued.the-variants.{Wrote, Invalid}
@@ -105,7 +107,7 @@ pub taken-by-sort : (s : SortCode) (n : List ℕ) (c : ℕ) (m : Bool) {raw got 
 unfolding valuesOf
 taken-by-sort s n c m e f = rw (e, f)
 
--- the values of a ruling
+-- the values of a ruling, where there is room for them
 module _ (k : Ruling) (n : List ℕ) where
   pub not-taken : (vs : List Json) {b : Bool} → b ≡ (not (k .taken) or isSome (valuesOf n (k .code) (k .many) (firstOctets vs))) → b ≡ false → standing k n vs ≡ false
   unfolding standing
@@ -115,10 +117,10 @@ module _ (k : Ruling) (n : List ℕ) where
   unfolding standing
   is-standing vs e f g = rw (sym e ∙ f, g) (and-true-right _)
 
-  pub stood : (t : List ℕ) (i : ℕ) (f : FoldPen) (out : List ℕ) {b : Bool} (r : Valued) → b ≡ (not (k .taken) or isSome (valuesOf n (k .code) (k .many) (firstOctets (listAt t i)))) → b ≡ true
-      → ValuedAs (k .many) (sortSaid (k .sort)) t i f out r → ValuesWritten k n t i f out r
-  stood t i f out (Wrote e q) g h v = (is-standing (listAt t i) g h (v .0), v .1, v .2)
-  stood t i f out Invalid g h v = (is-standing (listAt t i) g h (v .0), v .1)
+  pub stood : (t s : List ℕ) (i : ℕ) (f : FoldPen) (out : List ℕ) {b : Bool} (r : Valued) → b ≡ (not (k .taken) or isSome (valuesOf n (k .code) (k .many) (firstOctets (listAt t i)))) → b ≡ true
+      → length t ≤ length s → ValuedAs (hasRoom t s) (k .many) (sortSaid (k .sort)) t i f out r → ValuesWritten k n t i f out r
+  stood t s i f out (Wrote e q) g h l v = (is-standing (listAt t i) g h (rw (room t s l) at (v .0)), v .1, v .2)
+  stood t s i f out Invalid g h l v = (is-standing (listAt t i) g h (rw (room t s l) at (v .0)), v .1)
 
   -- by the answer
   module _ (t : List ℕ) (i : ℕ) (f : FoldPen) (out : List ℕ) (r : Valued) (v : ValuesWritten k n t i f out r) where

@@ -1,3 +1,4 @@
+pub mod Room
 pub mod KindTests
 pub mod ObjectTexts
 pub mod Laying

@@ -2,4 +2,5 @@
 pub mod Kinds
 pub mod Wording
 pub mod Laying
+pub mod Room
 pub mod Ruled

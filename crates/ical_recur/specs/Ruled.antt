@@ -2,8 +2,9 @@
 -- long and as before in front of the pen, and the code's choice behind.
 use Prim.Native.Nat.{ℕ}
 use mathlib.Core.Path.{_≡_}
-use mathlib.Core.Bool.{true, false}
+use mathlib.Core.Bool.{Bool, true, false}
 use mathlib.Core.List.{List}
+use Rattle.octets.specs.Basics.{_and_}
 use Rattle.octets.specs.Pen.{FrontKept}
 use Rattle.content.specs.Folding.{FoldPen, folding, Folded}
 use Rattle.tape.specs.Decode.{valueAt}
@@ -12,7 +13,7 @@ use Rattle.values.specs.Write.{valueIs, valueText}
 use Rattle.ical_recur.specs.declared.Ruled.{Ruled}
 use Rattle.ical_recur.specs.declared.Ruled.the-variants.{Wrote, NoRule}
 
--- the rule at i is written behind f
-abbrev pub RuledAs : List ℕ → ℕ → FoldPen → List ℕ → Ruled → Type 0
-RuledAs t i f out (Wrote q) = (valueIs recur (valueAt t i) ≡ true) × Folded f (valueText recur (valueAt t i)) (folding out q)
-RuledAs t i f out NoRule = (valueIs recur (valueAt t i) ≡ false) × FrontKept (f .pen) out
+-- the rule at i is written behind f; without room for it there is none
+abbrev pub RuledAs : Bool → List ℕ → ℕ → FoldPen → List ℕ → Ruled → Type 0
+RuledAs room t i f out (Wrote q) = ((room and valueIs recur (valueAt t i)) ≡ true) × Folded f (valueText recur (valueAt t i)) (folding out q)
+RuledAs room t i f out NoRule = ((room and valueIs recur (valueAt t i)) ≡ false) × FrontKept (f .pen) out

@@ -1,7 +1,6 @@
 // A recurrence object, written as a rule of iCalendar if it is one.
-ghost use Prim.Native.Nat.{_≤_};
-ghost use lib.ListN.{length};
 ghost use Rattle.content.specs.Folding.{folding};
+ghost use Rattle.ical_recur.specs.Room.{hasRoom};
 ghost use Rattle.ical_recur.specs.Ruled.{RuledAs};
 use crate::Ruled;
 use crate::wording::Laid;
@@ -14,11 +13,13 @@ use tape::after;
 use tape::tag;
 
 // Writes the value at `at`, if it is a recurrence rule; else `out` is as before in front of the pen, and the code's choice behind. The object's text
-// is laid into `rule`, which is as long as the tape: it keeps its length, and what is left in it is the code's choice.
+// is laid into `rule`, which is as long as the tape, or there is no rule; it keeps its length, and what is left in it is the code's choice.
 pub fn write_rule(out: &mut [u8], p: Folder, t: &[u8], at: usize, rule: &mut [u8]) -> Ruled
-    requires { ⌜ length (now t) ≤ length (now rule) ⌝ }
-    ensures { λ r. ⌜ RuledAs (now (t .entry)) at (folding (now (out .entry)) p) (now (out .exit)) r ⌝ }
+    ensures { λ r. ⌜ RuledAs (hasRoom (now (t .entry)) (now (rule .entry))) (now (t .entry)) at (folding (now (out .entry)) p) (now (out .exit)) r ⌝ }
 {
+    if rule.len() < t.len() {
+        return Ruled::NoRule;
+    }
     if tag(t, at) != OBJECT {
         return Ruled::NoRule;
     }

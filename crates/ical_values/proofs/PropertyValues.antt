@@ -24,18 +24,18 @@ use Rattle.ical_values.proofs.ValueGroups.{alone-stop, alone-more, alon
 use Rattle.ical_values.proofs.Arrays.{geo-is, geo-text, status-is, status-text}
 
 module _ (many : Bool) (s : Sort) (t : List ℕ) (i : ℕ) (f : FoldPen) (out : List ℕ) where
-  pub as-valued : (several : Bool) (r : Valued) → several ≡ (many and sortSplits s) → ListedAs (code ",") several (valueIs s) (valueText s) t i f out r → ValuedAs many s t i f out r
+  pub as-valued : (several : Bool) (r : Valued) → several ≡ (many and sortSplits s) → ListedAs (code ",") several (valueIs s) (valueText s) t i f out r → ValuedAs true many s t i f out r
   unfolding valuesAre valuesText allTaken
   as-valued several (Wrote k q) e v = rw (← e) v
   as-valued several Invalid e v = rw (← e) v
 
 -- GEO and REQUEST-STATUS
 module _ (many : Bool) (t : List ℕ) (i : ℕ) (f : FoldPen) (out : List ℕ) (r : Valued) where
-  pub geo-valued : ListedAs (code ",") false (partsAre 3 float) (fieldsText float) t i f out r → ValuedAs many geo t i f out r
+  pub geo-valued : ListedAs (code ",") false (partsAre 3 float) (fieldsText float) t i f out r → ValuedAs true many geo t i f out r
   unfolding sortSplits
   geo-valued v = as-valued many geo t i f out false r (sym (and-false-right many)) (rw (fun-ext geo-is, fun-ext geo-text) at v)
 
-  pub status-valued : ListedAs (code ",") false (partsAre 4 text) (fieldsText text) t i f out r → ValuedAs many status t i f out r
+  pub status-valued : ListedAs (code ",") false (partsAre 4 text) (fieldsText text) t i f out r → ValuedAs true many status t i f out r
   unfolding sortSplits
   status-valued v = as-valued many status t i f out false r (sym (and-false-right many)) (rw (fun-ext status-is, fun-ext status-text) at v)
 

@@ -37,7 +37,7 @@ abbrev pub ListedAs : ℕ → Bool → (Json → Bool) → (Json → List ℕ) �
 ListedAs sep several p w t i f out (Wrote e q) = (allTaken several p (listAt t i) ≡ true) × Folded f (joined sep (map w (listAt t i))) (folding out q) × Left t i e
 ListedAs sep several p w t i f out Invalid = (allTaken several p (listAt t i) ≡ false) × FrontKept (f .pen) out
 
--- the values of the group at i, and e is behind its end
-abbrev pub ValuedAs : Bool → Sort → List ℕ → ℕ → FoldPen → List ℕ → Valued → Type 0
-ValuedAs many sort t i f out (Wrote e q) = (valuesAre many sort (listAt t i) ≡ true) × Folded f (valuesText sort (listAt t i)) (folding out q) × Left t i e
-ValuedAs many sort t i f out Invalid = (valuesAre many sort (listAt t i) ≡ false) × FrontKept (f .pen) out
+-- the values of the group at i, and e is behind its end; without room for a recurrence rule none are taken
+abbrev pub ValuedAs : Bool → Bool → Sort → List ℕ → ℕ → FoldPen → List ℕ → Valued → Type 0
+ValuedAs room many sort t i f out (Wrote e q) = ((room and valuesAre many sort (listAt t i)) ≡ true) × Folded f (valuesText sort (listAt t i)) (folding out q) × Left t i e
+ValuedAs room many sort t i f out Invalid = ((room and valuesAre many sort (listAt t i)) ≡ false) × FrontKept (f .pen) out

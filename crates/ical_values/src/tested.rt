@@ -1,7 +1,5 @@
 // The values of a property, tested and written.
 ghost use mathlib.Core.Path.{_≡_};
-ghost use Prim.Native.Nat.{_≤_};
-ghost use lib.ListN.{length};
 ghost use mathlib.Core.Bool.{true, false};
 ghost use Rattle.octets.specs.Basics.{_and_};
 ghost use Rattle.content.specs.Folding.{folding};
@@ -10,6 +8,7 @@ ghost use Rattle.json.specs.Tape.{tagEnd};
 ghost use Rattle.values.specs.Sorts.{sortSplits};
 ghost use Rattle.values.specs.Write.{valueIs, valueText};
 ghost use Rattle.values.specs.Coded.{sortSaid};
+ghost use Rattle.ical_recur.specs.Room.{hasRoom};
 ghost use Rattle.ical_values.specs.Parts.{simple, partsAre, fieldsText};
 ghost use Rattle.ical_values.specs.Valued.{ListedAs, ValuedAs};
 use crate::Valued;
@@ -94,7 +93,7 @@ fn may_be_several(many: bool, sort: Sort) -> bool
 // Writes the values of any sort but recurrence rules.
 fn write_values(out: &mut [u8], p: Folder, t: &[u8], at: usize, sort: Sort, many: bool) -> Valued
     requires { ⌜ ((sort ≡ Sort.Recur) → ⊥) ⌝ }
-    ensures { λ r. ⌜ ValuedAs many (sortSaid sort) (now (t .entry)) at (folding (now (out .entry)) p) (now (out .exit)) r ⌝ }
+    ensures { λ r. ⌜ ValuedAs true many (sortSaid sort) (now (t .entry)) at (folding (now (out .entry)) p) (now (out .exit)) r ⌝ }
 {
     match sort {
         Sort::Geo => write_parts(out, p, t, at, Sort::Float, 3),
@@ -114,7 +113,7 @@ fn write_values(out: &mut [u8], p: Folder, t: &[u8], at: usize, sort: Sort, many
 
 // Writes the values from `at` to the end of their group, if the sort takes them; several of them only where the name may have many and the sort
 // splits. Else `out` is as before in front of the pen, and the code's choice behind. The text of a recurrence object is laid into `rule`, which is as
-// long as the tape: it keeps its length, and what is left in it is the code's choice.
+// long as the tape, or the values are invalid; it keeps its length, and what is left in it is the code's choice.
 pub fn write_tested(
     out: &mut [u8],
     p: Folder,
@@ -124,9 +123,11 @@ pub fn write_tested(
     many: bool,
     rule: &mut [u8],
 ) -> Valued
-    requires { ⌜ length (now t) ≤ length (now rule) ⌝ }
-    ensures { λ r. ⌜ ValuedAs many (sortSaid sort) (now (t .entry)) at (folding (now (out .entry)) p) (now (out .exit)) r ⌝ }
+    ensures { λ r. ⌜ ValuedAs (hasRoom (now (t .entry)) (now (rule .entry))) many (sortSaid sort) (now (t .entry)) at (folding (now (out .entry)) p) (now (out .exit)) r ⌝ }
 {
+    if rule.len() < t.len() {
+        return Valued::Invalid;
+    }
     let Sort::Recur = sort else {
         return write_values(out, p, t, at, sort, many);
     };

@@ -10,7 +10,7 @@ returns : tie.Need-returns
 returns c = (not-taken _ _ _ (c .before .is-taken .ensures) (not-true _ (c .if1 .taken)), front-same)
 
 returns-2 : tie.Need-returns-2
-returns-2 c = stood (c .before .before .before .before .before .before .before .before .before .before .before .before .before .args .k) _ _ _ _ _ (c .before .before .before .before .write-tested .result) (c .before .before .before .before .before .before .before .before .is-taken .ensures) (not-false _ (c .before .before .before .before .before .before .before .if1 .left)) (c .before .before .before .before .write-tested .ensures)
+returns-2 c = stood (c .before .before .before .before .before .before .before .before .before .before .before .before .before .args .k) _ (c .before .before .before .before .before .before .before .before .before .before .before .before .before .args .t .now) (c .before .before .before .before .before .before .before .before .before .before .before .before .before .args .rule .now) _ _ _ (c .before .before .before .before .write-tested .result) (c .before .before .before .before .before .before .before .before .is-taken .ensures) (not-false _ (c .before .before .before .before .before .before .before .if1 .left)) (c .before .before .before .before .before .before .before .before .before .before .before .before .before .pre) (c .before .before .before .before .write-tested .ensures)
 
 pub write-stood-spec : {M : Type 1} → statement M
 write-stood-spec =
