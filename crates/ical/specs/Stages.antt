@@ -14,6 +14,13 @@ use Rattle.conversion_theory.specs.Tree.{Component, levels, propertiesOf}
 use Rattle.conversion_theory.specs.Skeleton.{isCalendar, componentFrom, calendarOf}
 use Rattle.conversion_theory.specs.ToIcal.{jsonOf, checkedAll, componentLines, written}
 
+-- the longest text for which short memory is lent, and the longest for which memory of middle length is
+abbrev pub shortJcal : ℕ
+shortJcal = 8192
+
+abbrev pub middleJcal : ℕ
+middleJcal = 24576
+
 -- the component on a tape
 unfoldable pub componentOn : List ℕ → Component
 componentOn t = componentFrom mostOpen (valueAt t 0)

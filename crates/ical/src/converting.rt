@@ -26,7 +26,7 @@ ghost use Rattle.types.specs.Laid.{tableIn, roomForRows};
 ghost use Rattle.json.specs.Parse.{mostTape};
 ghost use Rattle.conversion_theory.specs.ToIcal.{componentLines, toIcal};
 ghost use Rattle.ical.specs.Converts.{Converts};
-ghost use Rattle.ical.specs.Stages.{componentOn, judged, tapeText, parsedText};
+ghost use Rattle.ical.specs.Stages.{shortJcal, middleJcal, componentOn, judged, tapeText, parsedText};
 
 // A tape that is long enough for a text of a limit's length; memory to work in is zeroed on each call, so a short text has less of it.
 const SHORT_TEXT: usize = 8192;
@@ -91,7 +91,7 @@ fn convert_text(
 
 // Converts a short text.
 fn convert_short(text: &[u8], rows: &[u8], out: &mut [u8]) -> Converted
-    requires { ⌜ (utf8 (now text) ≡ true) × (length (now text) ≤ 8192) ⌝ }
+    requires { ⌜ (utf8 (now text) ≡ true) × (length (now text) ≤ shortJcal) ⌝ }
     ensures { λ r. ⌜ outcome r (now (out .exit)) ≡ answer (parsedText (tableIn (now (rows .entry))) (now (text .entry))) (now (out .entry)) ⌝ }
 {
     let mut tape = [0u8; SHORT_TAPE];
@@ -101,7 +101,7 @@ fn convert_short(text: &[u8], rows: &[u8], out: &mut [u8]) -> Converted
 
 // Converts a text of middle length.
 fn convert_middle(text: &[u8], rows: &[u8], out: &mut [u8]) -> Converted
-    requires { ⌜ (utf8 (now text) ≡ true) × (length (now text) ≤ 24576) ⌝ }
+    requires { ⌜ (utf8 (now text) ≡ true) × (length (now text) ≤ middleJcal) ⌝ }
     ensures { λ r. ⌜ outcome r (now (out .exit)) ≡ answer (parsedText (tableIn (now (rows .entry))) (now (text .entry))) (now (out .entry)) ⌝ }
 {
     let mut tape = [0u8; MIDDLE_TAPE];
