@@ -137,10 +137,6 @@ pub record Leads (p : Pen) (all : List ℕ) (q : Pen) (rest : List ℕ) : Type 0
 pub leads-start : {p : Pen} {all : List ℕ} → Leads p all p all
 leads-start = record { whole = refl }
 
--- the loop begins behind what is written already
-pub leads-behind : {p q : Pen} {xs rest : List ℕ} → Wrote p xs q → Leads p (xs ++ rest) q rest
-leads-behind {p} {q} {xs} {rest} w = record { whole = rw (w .is) (sym (wrote-append p xs rest)) }
-
 -- a turn writes xs, and ys is left
 pub leads-on : {p q r : Pen} {all rest xs ys : List ℕ} → Leads p all q rest → Wrote q xs r → rest ≡ xs ++ ys → Leads p all r ys
 leads-on {p} {q} {r} {all} {rest} {xs} {ys} k w e =

@@ -4,9 +4,8 @@ use mathlib.Core.Path.{_≡_, refl, sym, _∙_}
 use mathlib.Core.Bool.{Bool, true, false}
 use mathlib.Core.List.{List, [], _∷_, _++_}
 use Rattle.octets.specs.Basics.{all}
-use Rattle.octets.specs.Classes.{plainOctet}
-use Rattle.octets.specs.Utf8.{Due, start, due, dueAfter, isStart, utf8, clean}
-use Rattle.octets.proofs.Cases.{cases, both, and-true, all-append}
+use Rattle.octets.specs.Utf8.{Due, start, due, dueAfter, isStart, utf8}
+use Rattle.octets.proofs.Cases.{cases, both, all-append}
 use Rattle.octets.proofs.Utf8.{ascii, due-append, broken-stays, broken-start, start-is, utf8-start, start-utf8, due-ascii, ascii-utf8}
 
 module _ (Q : Type 0) (next : Q → ℕ → Q) (out : Q → ℕ → List ℕ) (last : Q → List ℕ) where

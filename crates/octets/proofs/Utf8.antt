@@ -8,10 +8,9 @@ use native.Mathlib.Omega.{arith}
 use borrow.Author.Tests.{le-leb, lt-leb, leb-true, leb-false, ne-eqb}
 use lib.Dec.{leb}
 use Rattle.octets.specs.Basics.{pick, _and_, all}
-use Rattle.octets.specs.Pieces.{joined}
 use Rattle.octets.specs.Classes.{between, isLower, isControl, plainOctet, upperOctet, upper}
 use Rattle.octets.specs.Utf8.{Due, start, one, two, three, afterE0, afterED, afterF0, afterF4, broken, lead, due, dueAfter, isStart, utf8, clean}
-use Rattle.octets.proofs.Cases.{cases, never, both, and-true, and-true-right, and-swap, all-append, all-weaker}
+use Rattle.octets.proofs.Cases.{cases, never, both, and-true, and-swap, all-append, all-weaker}
 use Rattle.octets.proofs.Classes.{between-true, within-between, below-between, above-between}
 
 -- an octet that is a character of its own
@@ -104,13 +103,6 @@ pub utf8-cut : (xs : List ℕ) (c : ℕ) (ys : List ℕ) → ascii c ≡ true �
 utf8-cut xs c ys e = cases (utf8 xs)
     (λ h. rw h (utf8-append xs (c ∷ ys) h ∙ utf8-ascii c ys e))
     (λ h. rw h (cut-short xs c ys e h))
-
--- in pieces
-pub utf8-joined : (sep : ℕ) (ls : List (List ℕ)) → ascii sep ≡ true → utf8 (joined sep ls) ≡ all utf8 ls
-unfolding joined all
-utf8-joined sep [] e = unfold utf8 dueAfter isStart in refl
-utf8-joined sep (l ∷ []) e = sym (and-true-right (utf8 l))
-utf8-joined sep (l ∷ m ∷ ls) e = utf8-cut l sep (joined sep (m ∷ ls)) e ∙ ap (λ (b : Bool). utf8 l and b) (utf8-joined sep (m ∷ ls) e)
 
 -- no octet of a UTF-8 text is above 244
 pub lead-above : (c : ℕ) → 244 < c → lead c ≡ broken
