@@ -25,8 +25,9 @@ use Rattle.calendar.specs.Recurrence.{PartSort, frequency, moment, count
 use Rattle.calendar.specs.Walk.{beforeFirst, keyPlace, keyAt, keyed, partIn, firstPart, itemShown, valuesShown, partShown, ruleShown}
 use Rattle.calendar.specs.declared.parts.PartAt.{PartAt}
 use Rattle.octets.proofs.Optional.{when-is, guard-is}
+use Rattle.octets.proofs.Classes.{upper-length}
 use Rattle.calendar.proofs.Options.{map-is, then-is}
-use Rattle.calendar.proofs.Pieces.{before-le, before-take, split-more, split-last, comma-uncased, semicolon-uncased, split-upper, upper-length, upper-take, upper-drop, scanned}
+use Rattle.calendar.proofs.Pieces.{before-le, before-take, split-more, split-last, comma-uncased, semicolon-uncased, split-upper, upper-take, upper-drop, scanned}
 use Rattle.calendar.proofs.RuleParts.{both-is, within, first-ends, first-piece, first-from, first-to, readPart, readParts, read-part, found-is, keyed-name, key-name, rule-parts}
 use Rattle.calendar.proofs.ItemTests.{digits-raised, digits-upper, sign-raised, unsigned-upper}
 
@@ -195,13 +196,6 @@ unfolding ruleShown partsText
 rule-shown s ps e =
     let r : each readPart (split (code ";") (upper s)) ≡ some ps = unfold readParts in (rule-parts (upper s) ps e .0) in
     ap (joined (code ";")) (parts-shown (split (code ";") s) ps (rw (split-upper (code ";") semicolon-uncased s) at r))
-
--- writing a part
-pub part-wrote : {p q r t : Pen} (s : List ℕ) (x : PartAt) (sort : PartSort) → sort ≡ (keyAt (x .key)) .sort
-    → Wrote p (upper (take (x .name - 0) (drop 0 s))) q → Wrote q (code "=" ∷ []) r → Wrote r (valuesShown sort (take (x .to - x .from) (drop (x .from) s))) t
-    → Wrote p (partShown x s) t
-unfolding partShown
-part-wrote s x sort e u v w = then (rw (upto s (x .name)) at u) (then v (rw e at w))
 
 -- where the part that a text begins with stands
 pub part-places : (r : List ℕ) (q : PartAt) → q ≡ firstPart r → (q .name ≤ length r) × (q .from ≤ q .to) × (q .to ≤ length r)

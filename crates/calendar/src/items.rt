@@ -168,7 +168,7 @@ fn item_stands(sort: PartSort, s: &[u8]) -> bool
 }
 
 // Only BY parts have several values.
-fn has_several(sort: PartSort) -> bool
+pub fn has_several(sort: PartSort) -> bool
     ensures { λ r. ⌜ r ≡ several (partSortSaid sort) ⌝ }
 {
     match sort {

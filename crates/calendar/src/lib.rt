@@ -6,4 +6,3 @@ pub mod moments;
 pub mod parts;
 pub mod rules;
 pub mod texts;
-pub mod writing;

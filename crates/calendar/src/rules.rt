@@ -8,6 +8,7 @@ ghost use Rattle.octets.specs.Optional.{isSome};
 ghost use Rattle.octets.specs.Classes.{upper};
 ghost use Rattle.calendar.specs.Recurrence.{partsOf};
 ghost use Rattle.calendar.specs.Rules.{frequencyOf, weekdayOf, readRule, ruleSaid};
+ghost use Rattle.calendar.specs.declared.rules.End.the-variants.{Count};
 ghost use Rattle.calendar.specs.Reading.{counted, lastOf, withPart, barred, mayFollow, bySeen, ruleRead};
 use crate::items::values_stand;
 use crate::moments::Moment;
@@ -148,6 +149,17 @@ fn until_of(s: &[u8]) -> End
     }
 }
 
+// A rule's end once the part with the key at a place and its value is read.
+fn end_with(end: End, key: usize, v: &[u8]) -> End
+    ensures { λ r. ⌜ r ≡ pick (eqb key 1) (lastOf (now (v .entry))) (pick (eqb key 2) (Count (counted (now (v .entry)))) end) ⌝ }
+{
+    match key {
+        1 => until_of(v),
+        2 => End::Count(count_of(v)),
+        _ => end,
+    }
+}
+
 // One part more, with the key at a place and its value.
 fn with_value(head: Head, key: usize, v: &[u8]) -> Head
     ensures { λ r. ⌜ r ≡ withPart head key (now (v .entry)) ⌝ }
@@ -162,18 +174,6 @@ fn with_value(head: Head, key: usize, v: &[u8]) -> Head
             end: end,
             wkst: wkst,
         },
-        1 => Head {
-            frequency: frequency,
-            interval: head.interval,
-            end: until_of(v),
-            wkst: wkst,
-        },
-        2 => Head {
-            frequency: frequency,
-            interval: head.interval,
-            end: End::Count(count_of(v)),
-            wkst: wkst,
-        },
         3 => Head {
             frequency: frequency,
             interval: count_of(v),
@@ -186,7 +186,12 @@ fn with_value(head: Head, key: usize, v: &[u8]) -> Head
             end: end,
             wkst: weekday_of(v),
         },
-        _ => head,
+        _ => Head {
+            frequency: frequency,
+            interval: head.interval,
+            end: end_with(end, key, v),
+            wkst: wkst,
+        },
     }
 }
 

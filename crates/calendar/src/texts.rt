@@ -64,43 +64,31 @@ fn read(form: &[u8], whole: bool, s: &[u8]) -> Text
     requires { ⌜ (1 ≤ length (now form)) × (length (now form) ≤ 20) ⌝ }
     ensures { λ r. ⌜ Says r (extended (slots whole (now (form .entry))) (upper (now (s .entry)))) ⌝ }
 {
-    let mut out = [0u8; 20];
+    let mut o = [0u8; 20];
     let mut i = 0;
     let mut k = 0;
     while k < form.len() {
         let f = form[k];
         if is_added(whole, f) {
-            out[k] = f;
+            o[k] = f;
             k += 1;
         } else {
             if s.len() <= i {
-                return Text {
-                    octets: out,
-                    len: 0,
-                };
+                return Text { octets: o, len: 0 };
             }
             let x = upper_octet(s[i]);
             if !takes(f, x) {
-                return Text {
-                    octets: out,
-                    len: 0,
-                };
+                return Text { octets: o, len: 0 };
             }
-            out[k] = x;
+            o[k] = x;
             i += 1;
             k += 1;
         }
     }
     if i < s.len() {
-        return Text {
-            octets: out,
-            len: 0,
-        };
+        return Text { octets: o, len: 0 };
     }
-    Text {
-        octets: out,
-        len: k,
-    }
+    Text { octets: o, len: k }
 }
 
 // The basic text of a text in the extended form.
@@ -108,28 +96,22 @@ fn strip(form: &[u8], t: &[u8]) -> Text
     requires { ⌜ length (now form) ≤ 20 ⌝ }
     ensures { λ r. ⌜ Carries r (basic (slots false (now (form .entry))) (upper (now (t .entry)))) ⌝ }
 {
-    let mut out = [0u8; 20];
+    let mut o = [0u8; 20];
     let mut n = 0;
     let mut k = 0;
     while k < form.len() {
         if t.len() <= k {
-            return Text {
-                octets: out,
-                len: n,
-            };
+            return Text { octets: o, len: n };
         }
         if is_added(false, form[k]) {
             k += 1;
         } else {
-            out[n] = upper_octet(t[k]);
+            o[n] = upper_octet(t[k]);
             n += 1;
             k += 1;
         }
     }
-    Text {
-        octets: out,
-        len: n,
-    }
+    Text { octets: o, len: n }
 }
 
 // A number with the digit at a place behind it, if the text has one there.

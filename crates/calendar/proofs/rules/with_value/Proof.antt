@@ -5,12 +5,12 @@ use Rattle.calendar.specs.Reading.{withPart}
 use Rattle.calendar.proofs.rules.with_value.Statement.{statement}
 use Rattle.calendar.proofs.rules.with_value.Tie as tie
 
-returns-6 : tie.Need-returns-6
+returns-4 : tie.Need-returns-4
 unfolding withPart
-returns-6 c =
-    let k = c .before .before .args .key in
-    let n = c .match .rest in
-    rw (ne-eqb k 0 (n .0 .0 .0 .0 .1), ne-eqb k 1 (n .0 .0 .0 .1), ne-eqb k 2 (n .0 .0 .1), ne-eqb k 3 (n .0 .1), ne-eqb k 13 (n .1))
+returns-4 c =
+    let k = c .before .before .before .args .key in
+    let n = c .before .match .rest in
+    rw (ne-eqb k 0 (n .0 .0 .1), ne-eqb k 3 (n .0 .1), ne-eqb k 13 (n .1), c .end-with .ensures)
 
 pub with-value-spec : {M : Type 1} → statement M
 with-value-spec =
@@ -20,10 +20,7 @@ with-value-spec =
     (λ c κs. search needs)
     (λ c κs. search needs)
     (λ c κs. search needs)
-    (λ c κs. search needs)
     (λ c. unfold withPart in rw (c .before .match .keys1, c .frequency-of .ensures))
-    (λ c. unfold withPart in rw (c .before .match .keys2, c .until-of .ensures))
-    (λ c. unfold withPart in rw (c .before .match .keys3, c .count-of .ensures))
-    (λ c. unfold withPart in rw (c .before .match .keys4, c .count-of2 .ensures))
-    (λ c. unfold withPart in rw (c .before .match .keys5, c .weekday-of .ensures))
-    returns-6)
+    (λ c. unfold withPart in rw (c .before .match .keys2, c .count-of .ensures))
+    (λ c. unfold withPart in rw (c .before .match .keys3, c .weekday-of .ensures))
+    returns-4)
