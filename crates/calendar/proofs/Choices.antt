@@ -10,7 +10,7 @@ use lib.ListN.{length, getD}
 use Rattle.octets.specs.Basics.{octets, pick, same}
 use Rattle.octets.specs.Classes.{upperOctet, upper}
 use Rattle.octets.proofs.Cases.{cases}
-use Rattle.octets.proofs.Classes.{same-length}
+use Rattle.octets.proofs.Classes.{same-length, upper-length}
 use Rattle.calendar.specs.Recurrence.{frequencies}
 use Rattle.calendar.specs.Walk.{wordPlace}
 use Rattle.calendar.specs.Rules.{frequencyOf, weekdayOf}
@@ -18,7 +18,6 @@ use Rattle.calendar.specs.declared.rules.Frequency.{Frequency}
 use Rattle.calendar.specs.declared.rules.Frequency.the-variants.{Secondly, Minutely, Hourly, Daily, Weekly, Monthly, Yearly}
 use Rattle.calendar.specs.declared.rules.Weekday.{Weekday}
 use Rattle.calendar.specs.declared.rules.Weekday.the-variants.{Sunday, Monday, Tuesday, Wednesday, Thursday, Friday, Saturday}
-use Rattle.calendar.proofs.Pieces.{upper-length}
 use Rattle.calendar.proofs.Words.{same-turned}
 use Rattle.calendar.proofs.ItemTests.{two-letters}
 

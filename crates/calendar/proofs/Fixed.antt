@@ -13,6 +13,7 @@ use Rattle.octets.specs.Basics.{octets, pick, _and_}
 use Rattle.octets.specs.Optional.{isSome, when, guard}
 use Rattle.octets.specs.Classes.{upper}
 use Rattle.octets.proofs.Cases.{cases}
+use Rattle.octets.proofs.Classes.{upper-length}
 use Rattle.calendar.specs.Forms.{Slot, digit, letter, added, fits, extended, fitsEither, keeps, basic, dateForm, clockForm, utc, timeForm, dateTimeForm, offsetForm}
 use Rattle.calendar.specs.Dates.{clockIn, momentIn, offsetIn, dateOf, timeOf, dateTimeOf, offsetOf, dateIs, timeIs, dateTimeIs, offsetIs, dateText, timeText, dateTimeText, offsetText}
 use Rattle.calendar.specs.Texts.{formOf, formIs, formText, octetsIn, textSaid, Says, Carries, isAdded, placeAt, slotAt, slots, longFrom, shape, shaped, numbersIn, readForm}
@@ -22,7 +23,6 @@ use Rattle.calendar.specs.declared.texts.Form.the-variants.{Date, Time, 
 use Rattle.calendar.specs.declared.texts.Text.{Text}
 use Rattle.calendar.proofs.Extended.{width, read-by-length, fits-by-length, basic-front}
 use Rattle.calendar.proofs.Slots.{whole-text}
-use Rattle.calendar.proofs.Pieces.{upper-length}
 
 -- what a text of some length says
 pub says-none : (t : Text) → t .len ≡ 0 → textSaid t ≡ none

@@ -13,16 +13,17 @@ use Rattle.octets.specs.Optional.{isSome}
 use Rattle.octets.specs.Classes.{between, isDigit, isUpper, isLower, upperOctet, upper}
 use Rattle.octets.specs.Decimal.{digits, valueOf, isSign, hasSign, unsigned}
 use Rattle.octets.proofs.Cases.{cases, both, either, and-false-right}
-use Rattle.octets.proofs.Classes.{between-true, below-between, above-between, same-length}
+use Rattle.octets.proofs.Classes.{between-true, below-between, above-between, same-length, upper-length}
 use Rattle.octets.proofs.Decimal.{digits-all}
 use Rattle.octets.proofs.Limits.{most-integer}
 use Rattle.octets.proofs.Positions.{from, upto, part-length}
+use Rattle.octets.proofs.Optional.{some-when}
 use Rattle.calendar.specs.Recurrence.{frequencies, weekdays, wordOf, untilOf, countOf, numberOf, ordinalOf, dayOf}
 use Rattle.calendar.specs.Dates.{momentOf}
 use Rattle.calendar.specs.Moments.{momentFrom, readMoment}
 use Rattle.calendar.specs.Walk.{wordPlace}
-use Rattle.calendar.proofs.Options.{some-when, some-then, some-map, some-both}
-use Rattle.calendar.proofs.Pieces.{uncased, upper-length, upper-take, upper-drop}
+use Rattle.calendar.proofs.Options.{some-then, some-map, some-both}
+use Rattle.calendar.proofs.Pieces.{uncased, upper-take, upper-drop}
 use Rattle.calendar.proofs.Words.{place-among}
 
 -- uppercase changes neither digits nor signs

@@ -13,11 +13,11 @@ use lib.Seq.{take-take}
 use Rattle.octets.specs.Basics.{same}
 use Rattle.octets.specs.Classes.{upper}
 use Rattle.octets.proofs.Cases.{cases, never}
-use Rattle.octets.proofs.Classes.{same-length}
+use Rattle.octets.proofs.Classes.{same-length, upper-length}
 use Rattle.octets.proofs.Positions.{upto}
 use Rattle.calendar.specs.Recurrence.{frequency, Key, key, keys}
 use Rattle.calendar.specs.Walk.{beforeFirst, wordPlace, wordPlaceFrom, keyNames, keyPlace, keyAt, partAt, keyed, partIn, firstPart}
-use Rattle.calendar.proofs.Pieces.{before-take, upper-length}
+use Rattle.calendar.proofs.Pieces.{before-take}
 
 pub key-count : length keys ≡ 14
 unfolding keys

@@ -1,8 +1,8 @@
 -- Values that may be missing: what a result that is there tells of what it was made from, and when there is one.
 use mathlib.Core.Path.{_≡_, refl}
-use mathlib.Core.Bool.{Bool, true, false}
+use mathlib.Core.Bool.{true, false}
 use mathlib.Core.Option.{Option, none, some}
-use Rattle.octets.specs.Optional.{map?, then?, or?, isSome, when}
+use Rattle.octets.specs.Optional.{map?, then?, or?, isSome}
 use Rattle.octets.proofs.Cases.{never}
 use Rattle.octets.proofs.Optional.{map-is as mapped, then-is as followed}
 pub use Rattle.octets.proofs.Optional.{when-is, guard-is}
@@ -25,11 +25,6 @@ or-none none = refl
 or-none (some a) = refl
 
 -- whether there is a result
-pub some-when : {A : Type 0} (b : Bool) (a : A) → isSome (when b a) ≡ b
-unfolding isSome when
-some-when true a = refl
-some-when false a = refl
-
 pub some-then : {A B : Type 0} (o : Option A) (f : A → Option B) → isSome o ≡ false → isSome (then? o f) ≡ false
 unfolding isSome then?
 some-then none f e = refl

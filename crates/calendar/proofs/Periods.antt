@@ -10,9 +10,9 @@ use Rattle.octets.specs.Basics.{_or_}
 use Rattle.octets.specs.Optional.{or?, isSome, when}
 use Rattle.octets.specs.Classes.{between, isUpper, isLower, upper}
 use Rattle.octets.specs.Decimal.{minus}
+use Rattle.octets.proofs.Optional.{some-when}
 use Rattle.calendar.specs.Dates.{dateTimeOf}
 use Rattle.calendar.specs.Durations.{forwardIs, periodEndOf}
-use Rattle.calendar.proofs.Options.{some-when}
 use Rattle.calendar.proofs.Pieces.{uncased}
 
 -- a minus has no case

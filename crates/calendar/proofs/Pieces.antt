@@ -14,19 +14,12 @@ use Rattle.octets.specs.Basics.{pick}
 use Rattle.octets.specs.Classes.{between, isUpper, isLower, upperOctet, upper}
 use Rattle.octets.specs.Pieces.{split, onto, cut}
 use Rattle.octets.proofs.Cases.{cases, apart}
-use Rattle.octets.proofs.Classes.{between-true, within-between, map-length}
+use Rattle.octets.proofs.Classes.{between-true, within-between}
 use Rattle.octets.proofs.Positions.{here, ended, from}
+use Rattle.octets.proofs.Search.{le-by, take-by}
 use Rattle.calendar.specs.Walk.{beforeFirst}
 
 -- the piece before the first separator
-le-by : (b : Bool) (c : ℕ) (l s : List ℕ) → length l ≤ length s → length (pick b [] (c ∷ l)) ≤ suc (length s)
-le-by true c l s h = omega arith
-le-by false c l s h = omega arith
-
-take-by : (b : Bool) (c : ℕ) (l s : List ℕ) → l ≡ take (length l) s → pick b [] (c ∷ l) ≡ take (length (pick b [] (c ∷ l))) (c ∷ s)
-take-by true c l s h = refl
-take-by false c l s h = ap (λ (t : List ℕ). c ∷ t) h
-
 more-by : (b : Bool) (c : ℕ) (l s : List ℕ) (f : List ℕ → List (List ℕ)) (ls : List (List ℕ)) → length (pick b [] (c ∷ l)) < suc (length s)
     → f s ≡ ls → (length l < length s → ls ≡ l ∷ f (drop (suc (length l)) s))
     → cut b c ls ≡ pick b [] (c ∷ l) ∷ f (drop (length (pick b [] (c ∷ l))) s)
@@ -109,10 +102,6 @@ semicolon-uncased = uncased (code ";") refl refl
 pub equals-uncased : Uncased (code "=")
 unfolding isLower isUpper between
 equals-uncased = uncased (code "=") refl refl
-
-pub upper-length : (s : List ℕ) → length (upper s) ≡ length s
-unfolding upper
-upper-length s = map-length upperOctet s
 
 pub upper-take : (n : ℕ) (s : List ℕ) → upper (take n s) ≡ take n (upper s)
 unfolding upper

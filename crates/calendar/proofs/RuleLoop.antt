@@ -13,6 +13,7 @@ use Rattle.octets.specs.Optional.{map?, both?, isSome, guard}
 use Rattle.octets.specs.Classes.{upper}
 use Rattle.octets.proofs.Cases.{cases, never, both, or-false-right}
 use Rattle.octets.proofs.Positions.{from}
+use Rattle.octets.proofs.Optional.{none-is}
 use Rattle.calendar.specs.Recurrence.{Key, keys, Part, part, keyedPart, isRule, partsOf}
 use Rattle.calendar.specs.Walk.{keyAt, firstPart}
 use Rattle.calendar.specs.Rules.{ruleFrom, readRule}
@@ -33,11 +34,6 @@ some-is : {A : Type 0} (o : Option A) → isSome o ≡ true → (a : A) × (o �
 unfolding isSome
 some-is none e = never e refl
 some-is (some a) e = (a, refl)
-
-none-is : {A : Type 0} (o : Option A) → isSome o ≡ false → o ≡ none
-unfolding isSome
-none-is none e = refl
-none-is (some a) e = never refl e
 
 keyed-name : (v : List ℕ) (k : Key) (p : Part) → keyedPart (upper v) k ≡ some p → p .name ≡ k .name
 unfolding keyedPart

@@ -1,5 +1,5 @@
 -- A recurrence rule that is written from its parts is read as these parts again, and its text is printable ASCII in uppercase.
-use Prim.Native.Nat.{ℕ, _-_, _≤_}
+use Prim.Native.Nat.{ℕ, _-_}
 use Prim.Native.Char.{code}
 use mathlib.Core.Path.{_≡_, refl, sym, ap, _∙_}
 use mathlib.Core.Bool.{Bool, true, false, not}
@@ -19,7 +19,7 @@ use Rattle.octets.specs.Pieces.{split, joined}
 use Rattle.octets.specs.Utf8.{clean}
 use Rattle.octets.proofs.Cases.{cases, both, either, never, apart, All-append, All-weaker, all-All, All-all}
 use Rattle.octets.proofs.Classes.{between-true, within-between, same-is}
-use Rattle.octets.proofs.Decimal.{DigitFirst, digits-first, trim-first, trim-twice, trim-value, trim-digits, integer-unsigned, integer-value, integer-twice, digit-no-sign}
+use Rattle.octets.proofs.Decimal.{DigitFirst, digits-first, trim-first, trim-twice, trim-value, trim-digits, integer-unsigned, integer-value, integer-twice, digit-no-sign, trim-length}
 use Rattle.octets.proofs.Pieces.{Free, split-last, split-part, list-again}
 use Rattle.octets.proofs.Utf8.{printable-clean}
 use Rattle.calendar.specs.Dates.{momentOf}
@@ -41,15 +41,8 @@ count-again s v e =
     let d = both (digits s) _ (w .0) in
     rw (← (w .1), trim-twice s, trim-value s, trim-digits s (d .0), d .1)
 
-pub trim-shorter : (s : List ℕ) → length (trim s) ≤ length s
-unfolding trim
-trim-shorter [] = omega arith
-trim-shorter (c ∷ s) = cases (eqb c (code "0") and isDigit (getD s 0 0))
-    (λ e. rw e (let h = trim-shorter s in omega arith))
-    (λ e. rw e (omega arith))
-
 trim-most : (s : List ℕ) (most : ℕ) → leb (length s) most ≡ true → leb (length (trim s)) most ≡ true
-trim-most s most h = le-leb (length (trim s)) most (let k = trim-shorter s in omega (arith, leb-true (length s) most h))
+trim-most s most h = le-leb (length (trim s)) most (let k = trim-length s in omega (arith, leb-true (length s) most h))
 
 -- the sign that is left may be there
 no-minus : (s : List ℕ) → hasSign s ≡ false → minus s ≡ false
@@ -251,7 +244,3 @@ module _ (s : List ℕ) (ps : List Part) (e : partsOf s ≡ some ps) where
 
   pub text-clean : clean (partsText ps) ≡ true
   text-clean = printable-clean (partsText ps) (capital-printable (partsText ps) text-capital)
-
--- a rule's text, letters in either case, is read as the text that is written from its parts
-pub rule-again : (s : List ℕ) (ps : List Part) → partsOf (upper s) ≡ some ps → partsOf (upper (partsText ps)) ≡ some ps
-rule-again s ps e = rw (text-upper (upper s) ps e) (parts-again (upper s) ps e)

@@ -21,6 +21,7 @@ use Rattle.calendar.specs.Rules.{firstOf, valueNamed, untilMoment, endOf, ruleF
 use Rattle.calendar.specs.declared.rules.End.the-variants.{Count, Until, Open}
 use Rattle.calendar.specs.declared.rules.Rule.{Rule}
 use Rattle.calendar.proofs.NamedMoments.{text-real}
+use Rattle.calendar.proofs.RuleParts.{named-found}
 use Rattle.stop_list.specs.Runs.{realEnd}
 
 abbrev until : List ℕ
@@ -36,18 +37,10 @@ module _ {A B : Type 0} (f : A → Option B) (P : B → Type 0) (has : (x : A) (
 abbrev Named : Key → Type 0
 Named k = same until (k .name) ≡ true → k .sort ≡ moment
 
-key-name : (ks : List Key) (n : List ℕ) (k : Key) → keyIn ks n ≡ some k → k .name ≡ n
-unfolding keyIn
-key-name [] n k e = missing e
-key-name (j ∷ ks) n k e =
-    cases (same (j .name) n)
-    (λ b. let w : j ≡ k = some-same (rw b at e) in rw w at (same-is (j .name) n b))
-    (λ b. key-name ks n k (rw b at e))
-
 key-named : (n : List ℕ) (k : Key) → keyNamed n ≡ some k → Named k
 unfolding keyNamed keyIn keys same
 key-named n k e h =
-    let q : n ≡ until = sym (same-is until (k .name) h ∙ key-name keys n k e) in
+    let q : n ≡ until = sym (same-is until (k .name) h ∙ named-found keys n k e) in
     let w : key until moment ≡ k = some-same (rw q at e) in
     rw (← w)
 

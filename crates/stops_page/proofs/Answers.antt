@@ -14,8 +14,8 @@ use Rattle.octets.specs.Decimal.{digits, valueOf, trim}
 use Rattle.octets.specs.Answers.{number, refused, accepted}
 use Rattle.octets.proofs.Cases.{both}
 use Rattle.octets.proofs.Optional.{when-is}
+use Rattle.octets.proofs.Answers.{numbered}
 use Rattle.octets.specs.declared.Refusal.{Refusal}
-use Rattle.octets.specs.declared.Refusal.the-variants.{TextTooLong, RowsMalformed, NotClean, NotContentLine, NotPaired, TooDeep, BadParameter, BadEncoding, BadValue, NoRoom, NotJson, NotJcal, BadStart, BadRule, NotServed}
 use Rattle.stop_list.specs.declared.Stop.{Stop}
 use Rattle.stop_list.specs.declared.Listed.{Listed}
 use Rattle.stop_list.specs.declared.Listed.the-variants.{Stops, Refused}
@@ -49,24 +49,6 @@ module _ (start rule : List ℕ) (room : ℕ) (p : Plan) (e : p ≡ planOf start
   pub shows-refusal : (why : Refusal) → p .listed ≡ Refused why → headShown (octets "refused ") (number why) ≡ answerShown (listOf start rule room)
   unfolding listTold answerShown
   shows-refusal why d = ap answerShown (rw d at tells)
-
--- a refusal has a number
-numbered : (r : Refusal) → number r ≡ 0 → ⊥
-numbered TextTooLong e = omega arith
-numbered RowsMalformed e = omega arith
-numbered NotClean e = omega arith
-numbered NotContentLine e = omega arith
-numbered NotPaired e = omega arith
-numbered TooDeep e = omega arith
-numbered BadParameter e = omega arith
-numbered BadEncoding e = omega arith
-numbered BadValue e = omega arith
-numbered NoRoom e = omega arith
-numbered NotJson e = omega arith
-numbered NotJcal e = omega arith
-numbered BadStart e = omega arith
-numbered BadRule e = omega arith
-numbered NotServed e = omega arith
 
 -- an answer and the list that it leaves, held against a plan's
 module _ (ss list old : List Stop) where

@@ -16,7 +16,7 @@ use Rattle.octets.specs.Limits.{mostText}
 use Rattle.octets.specs.Pen.{pen, Wrote}
 use Rattle.octets.specs.Answers.{Answer, refused, accepted, then, orElse, unless}
 use Rattle.octets.proofs.Cases.{cases}
-use Rattle.octets.proofs.Decimal.{figures-length}
+use Rattle.octets.proofs.Decimal.{figures-length, trim-length}
 use Rattle.octets.proofs.Pen.{landed}
 use Rattle.calendar.specs.Moments.{readMoment, moved}
 use Rattle.calendar.specs.Rules.{readRule}
@@ -28,12 +28,11 @@ use Rattle.calendar.specs.declared.rules.Rule.{Rule}
 use Rattle.stop_list.specs.declared.Stop.{Stop}
 use Rattle.stop_list.specs.Stops.{startOf, hoursOf, served, allows, oneLess, momentsFrom, stop, listOf}
 use Rattle.stops_page.specs.Printing.{threeShown, dateShown, clockShown, timeShown, momentShown, stopShown, stopsShown, headShown, answerShown, badInput, mostOf, shownFor, inputLines, linesShown, printed}
-use Rattle.calendar.proofs.WrittenRules.{trim-shorter}
 use Rattle.stops_page.proofs.Answers.{most-bound}
 
 decimal-short : (n : ℕ) → length (decimal n) ≤ 20
 unfolding decimal
-decimal-short n = let h = trim-shorter (figures 20 n) in let k = figures-length 20 n in omega arith
+decimal-short n = let h = trim-length (figures 20 n) in let k = figures-length 20 n in omega arith
 
 three-length : (w sep a b c : ℕ) → length (threeShown w sep a b c) ≡ w + 6
 unfolding threeShown

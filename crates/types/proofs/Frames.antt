@@ -15,7 +15,7 @@ use Rattle.octets.specs.Optional.{map?, both?, then?, isSome, when}
 use Rattle.octets.specs.Classes.{between, hexDigit}
 use Rattle.octets.proofs.Cases.{same?, never, both, and-assoc, and-false-right}
 use Rattle.octets.proofs.Classes.{within-between, below-between, above-between, between-true}
-use Rattle.octets.proofs.Optional.{missing, some-same, both-is, when-true}
+use Rattle.octets.proofs.Optional.{missing, some-same, both-is, when-true, some-when}
 use Rattle.octets.proofs.Positions.{here, ended, from}
 use Rattle.types.specs.Codes.{binary, utcOffset, typeSplits}
 use Rattle.types.specs.Table.{Entry, entry}
@@ -32,11 +32,6 @@ unfolding typeSplits
 splits-beyond c h a b = rw (above-between 1 14 c (omega arith))
 
 -- a frame is a row: the tests in the code's order
-is-some-when : {A : Type 0} (b : Bool) (a : A) → isSome (when b a) ≡ b
-unfolding isSome when
-is-some-when true a = refl
-is-some-when false a = refl
-
 unfoldable pub kind : ℕ → ℕ → Bool
 kind c m = between binary utcOffset c and (eqb m 0 or (eqb m 1 and typeSplits c))
 
@@ -69,7 +64,7 @@ unfolding entryOf
 frame-test [] h k = absurd (omega arith)
 frame-test (c ∷ []) h k = absurd (omega arith)
 frame-test (c ∷ m ∷ n) h k =
-    is-some-when (isRow c m n) (entry n c (eqb m 1)) ∙ right-length c m n (within-between 1 32 (length n) (omega arith) (omega arith)) ∙ rw (from (c ∷ m ∷ n) 2)
+    some-when (isRow c m n) (entry n c (eqb m 1)) ∙ right-length c m n (within-between 1 32 (length n) (omega arith) (omega arith)) ∙ rw (from (c ∷ m ∷ n) 2)
 
 module _ (f : List ℕ) (h : 3 ≤ length f) (k : length f ≤ 34) where
   pub not-kind : kind (getD f 0 0) (getD f 1 0) ≡ false → isSome (entryOf f) ≡ false
@@ -122,7 +117,7 @@ unfolding entryOf isSome
 framed [] e = never e refl
 framed (c ∷ []) e = never e refl
 framed (c ∷ m ∷ n) e =
-    let k : isRow c m n ≡ true = sym (is-some-when (isRow c m n) (entry n c (eqb m 1))) ∙ e in
+    let k : isRow c m n ≡ true = sym (some-when (isRow c m n) (entry n c (eqb m 1))) ∙ e in
     let t = row-told c m n k in
     let s = between-true 1 32 (length n) (t .sized) in
     record {

@@ -10,7 +10,7 @@ use Rattle.octets.specs.Basics.{_and_, all, same}
 use Rattle.octets.specs.Classes.{between, isLower, lowerNameOctet, upperOctet, upper, lower}
 use Rattle.octets.proofs.Cases.{alike, and-assoc, and-true-right}
 use Rattle.octets.proofs.Positions.{here}
-use Rattle.octets.proofs.Classes.{same-is, same-itself, same-end, map-length, upper-lower, lower-upper, lower-name-stays}
+use Rattle.octets.proofs.Classes.{same-is, same-itself, same-end, upper-lower, lower-upper, lower-name-stays, upper-length}
 
 -- a name is m in lowercase where it is m in uppercase
 pub same-lower : (s m : List ℕ) → all lowerNameOctet m ≡ true → same (lower s) m ≡ same (upper m) (upper s)
@@ -19,10 +19,6 @@ same-lower s m h = alike (same (lower s) m) (same (upper m) (upper s))
     (λ e. let q = same-is (upper m) (upper s) e in rw (← lower-upper s, ← q, lower-upper, lower-name-stays m h) (same-itself m))
 
 -- a name in uppercase, by its places
-pub upper-length : (s : List ℕ) → length (upper s) ≡ length s
-unfolding upper
-upper-length s = map-length upperOctet s
-
 pub upper-at : (s : List ℕ) (i : ℕ) → getD (upper s) i 0 ≡ upperOctet (getD s i 0)
 unfolding upper upperOctet isLower between
 upper-at s i = List·getD-map upperOctet s i 0

@@ -17,12 +17,11 @@ use Rattle.octets.specs.Limits.{mostRows}
 use Rattle.octets.specs.Pen.{pen, wrote, Wrote}
 use Rattle.octets.specs.Answers.{refused, accepted, then, orElse, number, Settled, settled, zeroed, answer, outcome, finished}
 use Rattle.octets.specs.declared.Refusal.{Refusal}
-use Rattle.octets.specs.declared.Refusal.the-variants.{TextTooLong, RowsMalformed, NotClean, NotContentLine, NotPaired, TooDeep, BadParameter, BadEncoding, BadValue, NoRoom, NotJson, NotJcal, BadStart, BadRule, NotServed}
 use Rattle.octets.specs.declared.Converted.the-variants.{Written, Refused}
 use Rattle.octets.proofs.Cases.{both}
 use Rattle.octets.proofs.Limits.{most-rows}
 use Rattle.octets.proofs.Optional.{map-is, guard-is, then-is, each-none, each-is}
-use Rattle.octets.proofs.Answers.{finished-answer}
+use Rattle.octets.proofs.Answers.{finished-answer, numbered}
 use Rattle.octets.proofs.Positions.{upto}
 use Rattle.octets.proofs.Pen.{as-text, Landed, landed}
 use Rattle.types.specs.Table.{Table, namesOf, defaults}
@@ -55,24 +54,6 @@ file-fits hex es e =
     let g = guard-is mayJoin (then? (endedLines (split (code "\n") hex)) (each rowOf)) es e in
     let f = leb-true (length es) mostRows (both (leb (length es) mostRows) (not (twice (namesOf (defaults ++ es)))) (g .1) .0) in
     then-is (endedLines (split (code "\n") hex)) (each rowOf) es (g .0) (λ ls _ k. omega (arith, rows-size ls es k))
-
--- a refusal has a number
-refusal-number : (w : Refusal) → number w ≡ 0 → ⊥
-refusal-number TextTooLong e = omega arith
-refusal-number RowsMalformed e = omega arith
-refusal-number NotClean e = omega arith
-refusal-number NotContentLine e = omega arith
-refusal-number NotPaired e = omega arith
-refusal-number TooDeep e = omega arith
-refusal-number BadParameter e = omega arith
-refusal-number BadEncoding e = omega arith
-refusal-number BadValue e = omega arith
-refusal-number NoRoom e = omega arith
-refusal-number NotJson e = omega arith
-refusal-number NotJcal e = omega arith
-refusal-number BadStart e = omega arith
-refusal-number BadRule e = omega arith
-refusal-number NotServed e = omega arith
 
 -- the rows of a file, laid out
 module _ (hex : List ℕ) where
@@ -157,4 +138,4 @@ module _ (hex o b : List ℕ) (h : roomForRows ≤ length o) where
     where
       by : (g : Option Table) → guard mayJoin (rowsOf hex) ≡ g → (tableOf hex ≡ refused 2) × (number w ≡ 2)
       by none q = (table-laid hex ∙ rw (none-laid hex q), ap (λ (s : Settled). s .number) (e ∙ read-none q))
-      by (some es) q = absurd (refusal-number w (ap (λ (s : Settled). s .number) (e ∙ read-some es q)))
+      by (some es) q = absurd (numbered w (ap (λ (s : Settled). s .number) (e ∙ read-some es q)))

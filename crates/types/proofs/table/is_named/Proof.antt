@@ -5,8 +5,8 @@ use native.Mathlib.Omega.{arith}
 use lib.ListN.{length, drop}
 use Rattle.octets.specs.Basics.{_and_, same}
 use Rattle.octets.specs.Classes.{upper}
-use Rattle.octets.proofs.Classes.{same-length}
-use Rattle.types.proofs.Names.{upper-length, named-on, named-end}
+use Rattle.octets.proofs.Classes.{same-length, upper-length}
+use Rattle.types.proofs.Names.{named-on, named-end}
 use borrow.Author.Needs.{needs}
 use Rattle.types.proofs.table.is_named.Statement.{statement}
 use Rattle.types.proofs.table.is_named.Tie as tie
