@@ -12,11 +12,12 @@ use lib.ListN.{length, getD, take, drop}
 use Rattle.octets.specs.Basics.{octets, all, any}
 use Rattle.octets.specs.Classes.{isControl, plainOctet, textOctet}
 use Rattle.octets.specs.Utf8.{utf8}
-use Rattle.octets.proofs.Cases.{cases, same?, either, never, apart-not}
+use Rattle.octets.proofs.Cases.{cases, same?, apart-not}
 use Rattle.octets.proofs.Pieces.{Free}
 use Rattle.octets.proofs.Positions.{here, ended, part-more, from}
 use Rattle.octets.proofs.Utf8.{ascii}
 use Rattle.octets.proofs.Transducer.{Runs, Keeps, run-all, run-utf8}
+use Rattle.octets.proofs.Classes.{text-plain}
 use Rattle.content.specs.Carets.{decodedOctet, caretAfter, decodedFrom, decoded, encodedOctet, encoded}
 use Rattle.content.specs.Write.{asksQuotes}
 
@@ -109,10 +110,6 @@ encoded-utf8 v h = run-utf8 (Unit {0}) (λ q c. q) (λ q c. encodedOctet c) (λ 
     }
 
 -- a text has no control character but tab once its newlines are encoded
-pub text-plain : (c : ℕ) → textOctet c ≡ true → eqb c (code "\n") ≡ false → plainOctet c ≡ true
-unfolding textOctet
-text-plain c h n = either (plainOctet c) (eqb c (code "\n")) h (λ e. e) (λ e. never e n)
-
 pub encoded-plain : (v : List ℕ) → all textOctet v ≡ true → all plainOctet (encoded v) ≡ true
 encoded-plain v h = run-all (Unit {0}) (λ q c. q) (λ q c. encodedOctet c) (λ q. []) (λ q s. encoded s) encodes textOctet plainOctet each (λ q. unfold all in refl) v tt h
   where

@@ -136,10 +136,6 @@ leads-on {p} {q} {r} {all} {rest} {xs} {ys} k w e =
     let b = leads-behind {rest = ys} w in
     record { text = b .text ∙ ap (λ l. wrote (q .pen) (foldFrom (q .column) l)) (sym e) ∙ k .text; column = b .column ∙ ap (columnAfter (q .column)) (sym e) ∙ k .column }
 
--- a turn writes nothing
-pub leads-same : {p q : FoldPen} {all rest ys : List ℕ} → Leads p all q rest → rest ≡ ys → Leads p all q ys
-leads-same k e = rw (← e) k
-
 -- nothing is left
 pub leads-end : {p q : FoldPen} {all rest : List ℕ} → Leads p all q rest → rest ≡ [] → Folded p all q
 leads-end {p} {q} {all} {rest} k e = record {

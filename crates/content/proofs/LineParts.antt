@@ -10,8 +10,8 @@ use Rattle.octets.specs.Basics.{octets, pick, all, filled, All}
 use Rattle.octets.specs.Pieces.{onto, cut, joined}
 use Rattle.octets.specs.Classes.{isControl, isName, plainOctet, textOctet}
 use Rattle.octets.specs.Utf8.{utf8, clean}
-use Rattle.octets.proofs.Cases.{cases, same?, never, both, and-true, or-first, apart-not, all-All}
-use Rattle.octets.proofs.Classes.{name-lower}
+use Rattle.octets.proofs.Cases.{cases, same?, never, both, and-true, apart-not, all-All}
+use Rattle.octets.proofs.Classes.{name-lower, plain-text}
 use Rattle.octets.proofs.Utf8.{ascii, clean-cut}
 use Rattle.octets.proofs.Transducer.{Runs, Keeps, run-all, run-utf8}
 use Rattle.content.specs.Carets.{decodedOctet, caretAfter, decodedFrom, decoded}
@@ -61,10 +61,6 @@ decoded-utf8 v h = run-utf8 Bool caretAfter decodedOctet (λ e. pick e (octets "
       pres = waits-all ascii refl;
       lasts = waits-all ascii refl;
     }
-
-pub plain-text : (c : ℕ) → plainOctet c ≡ true → textOctet c ≡ true
-unfolding textOctet
-plain-text c h = or-first _ h
 
 pub decoded-text : (v : List ℕ) → all plainOctet v ≡ true → all textOctet (decoded v) ≡ true
 unfolding decoded all textOctet plainOctet isControl

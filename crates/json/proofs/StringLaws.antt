@@ -1,7 +1,7 @@
 -- Strings read at a place of the text: hexadecimal digits, surrogates, escapes, runs.
 use Prim.Native.Nat.{ℕ, zero, suc, _+_, _-_, _*_, _/_, _%_, _≤_, _<_}
 use mathlib.Core.Path.{_≡_, refl, sym, ap, _∙_}
-use mathlib.Core.Bool.{Bool, true, false, not}
+use mathlib.Core.Bool.{true, false, not}
 use mathlib.Core.List.{List, [], _∷_, _++_}
 use native.Mathlib.Omega.{arith}
 use lib.Dec.{eqb, leb, ltb}
@@ -12,7 +12,7 @@ use Rattle.octets.specs.Basics.{pick, _and_, _or_, all}
 use Rattle.octets.specs.Groups.{jsonUnescaped}
 use Rattle.octets.specs.Classes.{between, isDigit, hexDigit}
 use Rattle.octets.specs.Pen.{Pen, Wrote}
-use Rattle.octets.proofs.Cases.{cases, never, both, and-true-right, pick-same}
+use Rattle.octets.proofs.Cases.{cases, both, and-true-right, pick-same}
 use Rattle.octets.proofs.Classes.{between-true}
 use Rattle.octets.proofs.Positions.{here, ended, past-end, part-rest}
 use Rattle.json.specs.Reads.{Out, ok, deep, bad, fmap, andThen}

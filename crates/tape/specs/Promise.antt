@@ -5,7 +5,7 @@ use mathlib.Core.List.{List}
 use lib.ListN.{length, take, drop}
 use Rattle.json.specs.Tree.{octetsOf}
 use Rattle.json.specs.Tape.{tagArray, tagObject, tagEnd}
-use Rattle.tape.specs.Decode.{pop, skipValue, view, tagAt, textAt, valueAt}
+use Rattle.tape.specs.Decode.{pop, skipValue, view, tagAt, valueAt}
 use Rattle.tape.specs.declared.Text.{Text}
 
 -- e is one octet behind i, or the end of the tape

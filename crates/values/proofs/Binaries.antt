@@ -7,7 +7,7 @@ use native.Mathlib.Omega.{arith}
 use borrow.Author.Tests.{eq-eqb, ne-eqb}
 use lib.ListN.{length, getD, take, drop}
 use lib.Seq.{take-all}
-use Rattle.octets.specs.Basics.{_and_, all}
+use Rattle.octets.specs.Basics.{all}
 use Rattle.octets.proofs.Positions.{ended, upto}
 use Rattle.values.specs.Simple.{base64Octet, unpadded, binaryIs}
 

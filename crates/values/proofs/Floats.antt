@@ -18,8 +18,8 @@ use Rattle.octets.proofs.Cases.{cases, alike, apart, All-weaker, all-All}
 use Rattle.octets.proofs.Decimal.{digits-all}
 use Rattle.octets.proofs.Pieces.{split-filled, joined-split, split-last as split-alone}
 use Rattle.octets.proofs.Positions.{from, upto}
+use Rattle.octets.proofs.Optional.{some-when}
 use Rattle.calendar.specs.Walk.{beforeFirst}
-use Rattle.calendar.proofs.Options.{some-when}
 use Rattle.calendar.proofs.Pieces.{before-take, split-more, split-last}
 use Rattle.values.specs.Simple.{pointed, floatOf, inRange, integerOf}
 use Rattle.values.specs.Shown.{floatShown}

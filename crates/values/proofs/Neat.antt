@@ -12,7 +12,7 @@ use Rattle.octets.specs.Basics.{octets, _and_, all, All}
 use Rattle.octets.specs.Classes.{between, plainOctet, textOctet}
 use Rattle.octets.specs.Utf8.{Due, start, one, two, three, afterE0, afterED, afterF0, afterF4, broken, lead, due, dueAfter, isStart, utf8, clean}
 use Rattle.octets.proofs.Cases.{cases, never, both, and-true, or-false, apart-not, all-weaker}
-use Rattle.octets.proofs.Classes.{above-between}
+use Rattle.octets.proofs.Classes.{above-between, plain-text}
 use Rattle.octets.proofs.Utf8.{ascii, broken-stays, utf8-both, utf8-ascii, low-utf8}
 use Rattle.octets.proofs.Transducer.{Runs, Keeps, run-utf8}
 use Rattle.json.specs.Tree.{Json, null, falsity, truth, num, str, arr, obj, Items, noItems, item, Members, noMembers, member, itemsOf}
@@ -21,7 +21,6 @@ use Rattle.json.specs.Numbers.{numberRead}
 use Rattle.json.specs.Print.{escaped, quoted, printString, printKey, print, firstItem, moreItems, firstMember, moreMembers}
 use Rattle.json.proofs.Printing.{Printable, p-null, p-false, p-true, p-num, p-str, p-arr, p-obj, PrintableItems, p-none, p-item, PrintableMembers, p-empty, p-member, fitOctet, text-fit, depth, depthItems, depthMembers}
 use Rattle.tape.specs.Sound.{hasLone, distinctKeys, sound, soundItems, soundMembers}
-use Rattle.content.proofs.LineParts.{plain-text}
 
 -- UTF-8 without control characters but tab and newline
 pub record Textual (t : List ℕ) : Type 0 where

@@ -18,6 +18,7 @@ use Rattle.octets.proofs.Cases.{cases, same?, never, both, and-true, apart-not,
 use Rattle.octets.proofs.Optional.{some-same, when-is, map-is, both-is, guard-is}
 use Rattle.octets.proofs.Utf8.{ascii, ascii-high}
 use Rattle.octets.proofs.Transducer.{Runs, Keeps, run-all, run-utf8}
+use Rattle.octets.proofs.Classes.{text-plain}
 use Rattle.json.specs.Tree.{Json, str, arr, string?, number?, array?, itemsOf, listOfItems, octetsOf, elements}
 use Rattle.values.specs.Sorts.{text, status}
 use Rattle.values.specs.Texts.{escapesNext, bareFrom, bareSplit, unescapedOctet, unescapedFrom, unescaped, fields, textIs, escapedOctet, textText}
@@ -25,7 +26,6 @@ use Rattle.values.specs.Read.{twoOrThree, readStatus, readText}
 use Rattle.values.specs.Write.{isString, isTwoOrThree, isArray, valueIs, elementsText, valueText}
 use Rattle.values.proofs.Neat.{Textual, Neat, n-str, n-arr, neat-items}
 use Rattle.content.proofs.WrittenClean.{clean-joined}
-use Rattle.content.proofs.Encoded.{text-plain}
 use Rattle.values.proofs.TextWalk.{Separators, commas, semicolons, nothing-more, bare-filled}
 use Rattle.values.proofs.ListLaws.{Item, ItemLaw, Cuts, each-written, each-All, All-map}
 

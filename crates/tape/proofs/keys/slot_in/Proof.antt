@@ -4,7 +4,7 @@ use mathlib.Core.Path.{_≡_, sym, ap, _∙_}
 use borrow.Author.Needs.{needs}
 use lib.ListN.{length, drop}
 use Rattle.octets.specs.Basics.{same}
-use Rattle.octets.specs.Slots.{slotOf, passed, slotIn}
+use Rattle.octets.specs.Slots.{passed, slotIn}
 use Rattle.octets.proofs.Classes.{exact}
 use Rattle.octets.proofs.Slots.{seeking-start, seeking-end, seeking-free, seeking-there, seeking-on}
 use Rattle.tape.specs.Decode.{keyTextAt}
