@@ -3,7 +3,8 @@ use borrow.Author.Needs.{needs}
 use mathlib.Core.Path.{refl, sym, _∙_}
 use Rattle.octets.proofs.Pen.{front-same}
 use Rattle.calendar.specs.Durations.{durationOf}
-use Rattle.calendar.proofs.Options.{some-when, some-map}
+use Rattle.octets.proofs.Optional.{some-when}
+use Rattle.calendar.proofs.Options.{some-map}
 use Rattle.values.specs.Sorts.{isText}
 use Rattle.values.specs.Coded.{sortSaid}
 use Rattle.jcal_values.specs.Parts.{readAlone}
