@@ -53,12 +53,12 @@ def main():
         modules = re.findall(r"(?m)^pub mod (\w+)$", lib)
         kinds = [[m for m in modules if ("%s.%s" % (crate, m) in believed) == kind] for kind in (True, False)]
         parts = [comment + "\n" + "".join("pub mod %s\n" % m for m in ms) for comment, ms in zip((MEANING, INNER), kinds) if ms]
-        if lib != "\n".join(parts):
+        if lib != "".join(parts):
             faults += 1
             print("crates/%s/specs/Lib.antt is not in order" % crate)
             if "--write" in sys.argv[1:]:
                 with open(os.path.join(ROOT, "crates", crate, "specs", "Lib.antt"), "w", encoding="utf-8") as f:
-                    f.write("\n".join(parts))
+                    f.write("".join(parts))
         if kinds[0] and sorted(table.get(crate, "").split(", ")) != sorted(kinds[0]):
             faults += 1
             print("docs/PROMISES.md should have | `%s` | %s |" % (crate, ", ".join(kinds[0])))
