@@ -6,19 +6,19 @@ use mathlib.Core.Bool.{Bool, true, false, not}
 use mathlib.Core.List.{List, [], _∷_}
 use mathlib.Core.Option.{Option, none, some}
 use native.Mathlib.Omega.{arith}
-use lib.Dec.{eqb, leb}
-use lib.ListN.{length, drop, getD, length-append, length-drop}
+use lib.Dec.{eqb}
+use lib.ListN.{length, drop, length-append, length-drop}
 use Rattle.octets.specs.Search.{until}
-use Rattle.octets.specs.Basics.{_and_}
 use Rattle.octets.specs.Optional.{given}
-use Rattle.octets.specs.Classes.{isDigit, upper}
+use Rattle.octets.specs.Classes.{upper}
 use Rattle.octets.specs.Decimal.{isSign, minus, unsigned, valueOf, trim, minusIf, integerText}
 use Rattle.octets.specs.Pieces.{joined}
 use Rattle.octets.proofs.Cases.{cases, same?}
+use Rattle.octets.proofs.Classes.{upper-length}
+use Rattle.octets.proofs.Decimal.{trim-length}
 use Rattle.calendar.specs.Forms.{dateTimeForm, Slot, digit, sign, letter, added, keeps, basic}
 use Rattle.calendar.specs.Dates.{dateTimeText, momentText}
 use Rattle.calendar.specs.Recurrence.{PartSort, frequency, moment, count, weekday, ordinal, numbers, Key, keyNamed}
-use Rattle.calendar.proofs.Pieces.{upper-length}
 use Rattle.json.specs.Tree.{Json, null, falsity, truth, num, str, arr, obj, Items, noItems, item, noMembers, member, string?, number?, array?, octetsOf}
 use Rattle.json.specs.Tape.{tagFalse, tagTrue, tagNumber, tagString, tagArray, tagObject, tagEnd}
 use Rattle.tape.specs.Decode.{paired, valued, Groups, last, group, top, pop, push, textAtFront, inText, groups, view, itemsAt, membersAt}
@@ -76,11 +76,6 @@ sized (b ∷ s) false =
     rw u (omega (arith, sized s false, total-push null (groups false s))))))))))))
 
 -- numbers and dates are written no longer
-trim-length : (s : List ℕ) → length (trim s) ≤ length s
-unfolding trim
-trim-length [] = omega arith
-trim-length (c ∷ s) = let h = trim-length s in cases (eqb c (code "0") and isDigit (getD s 0 0)) (λ e. rw e (omega arith)) (λ e. rw e (omega arith))
-
 integer-length : (s : List ℕ) → length (integerText s) ≤ length s
 unfolding integerText minusIf minus unsigned isSign
 integer-length [] = unfold trim in omega arith

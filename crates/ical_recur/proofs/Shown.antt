@@ -1,7 +1,7 @@
 -- A recurrence rule as the folding pen writes it: a weekday with its number, and a part.
 use Prim.Native.Nat.{ℕ, _-_, _<_}
 use Prim.Native.Char.{code}
-use mathlib.Core.Path.{_≡_, refl, sym}
+use mathlib.Core.Path.{_≡_, refl}
 use mathlib.Core.List.{List, [], _∷_}
 use native.Mathlib.Omega.{arith}
 use lib.ListN.{length, take, drop}

@@ -1,7 +1,6 @@
 // The JSON kinds that the values of a recurrence object take.
 ghost use mathlib.Core.Path.{_≡_};
 ghost use Rattle.octets.specs.Basics.{all};
-ghost use Rattle.calendar.specs.Recurrence.{several};
 ghost use Rattle.calendar.specs.Walk.{partSortSaid};
 ghost use Rattle.json.specs.Tree.{num, str};
 ghost use Rattle.values.specs.Recur.{wordOctet};
@@ -68,19 +67,5 @@ pub fn number_is(sort: PartSort, s: &[u8]) -> bool
         PartSort::Weekday => false,
         PartSort::Ordinal => false,
         PartSort::Numbers(_) => is_integer(s),
-    }
-}
-
-// Only BY parts have several values.
-pub fn has_several(sort: PartSort) -> bool
-    ensures { λ r. ⌜ r ≡ several (partSortSaid sort) ⌝ }
-{
-    match sort {
-        PartSort::Frequency => false,
-        PartSort::Moment => false,
-        PartSort::Count => false,
-        PartSort::Weekday => false,
-        PartSort::Ordinal => true,
-        PartSort::Numbers(_) => true,
     }
 }

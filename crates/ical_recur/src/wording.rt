@@ -9,9 +9,9 @@ ghost use Rattle.values.specs.Recur.{someItems, kindIs, kindsAre, stringText, i
 ghost use Rattle.ical_recur.specs.Kinds.{itemIs, memberIs};
 ghost use Rattle.ical_recur.specs.Laying.{LaidAs};
 ghost use Rattle.ical_recur.specs.Wording.{itemsText, partValuesText, objectText};
-use crate::kinds::has_several;
 use crate::kinds::number_is;
 use crate::kinds::string_is;
+use calendar::items::has_several;
 use calendar::parts::PartSort;
 use calendar::parts::key_place;
 use calendar::parts::sort_of;
