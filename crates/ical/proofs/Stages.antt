@@ -10,7 +10,7 @@ use lib.ListN.{length, take, drop}
 use Rattle.octets.specs.Basics.{octets, _and_, same}
 use Rattle.octets.specs.Limits.{mostText, mostLevels, mostOpen}
 use Rattle.octets.specs.Utf8.{utf8}
-use Rattle.octets.specs.Answers.{refused, accepted, then, unless, zeroed, answer, outcome}
+use Rattle.octets.specs.Answers.{refused, accepted, then, unless, answer, outcome}
 use Rattle.octets.specs.declared.Refusal.{Refusal}
 use Rattle.octets.specs.declared.Converted.{Converted}
 use Rattle.octets.specs.declared.Converted.the-variants.{Written, Refused}
@@ -86,10 +86,6 @@ module _ (T : Table) (t : List ℕ) where
   text-accepted e = rw e
 
 -- a refusal leaves what the buffer's length says
-pub refused-alike : (n : ℕ) (a b : List ℕ) → length a ≡ length b → answer (refused n) a ≡ answer (refused n) b
-unfolding answer zeroed
-refused-alike n a b e = rw e
-
 -- what the shape of a tape tells
 module _ (t : List ℕ) (r : Shape) (c : Shapes t r) where
   pub calendar-told : {n : ℕ} → r ≡ Calendar n → (isCalendar (valueAt t 0) ≡ true) × (n ≡ levels (componentFrom mostOpen (valueAt t 0)))

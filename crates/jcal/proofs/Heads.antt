@@ -11,15 +11,16 @@ use lib.Dec.{eqb, ltb}
 use lib.ListN.{length, getD, take, drop}
 use Rattle.octets.specs.Basics.{_or_, all, filled}
 use Rattle.octets.specs.Pieces.{cut}
-use Rattle.octets.specs.Classes.{between, isDigit, isLower, isUpper, isLetter, nameOctet, isName, upperOctet, upper, sameName}
-use Rattle.octets.proofs.Cases.{cases, same?, never, both, either, apart, alike, or-first, or-second}
+use Rattle.octets.specs.Classes.{between, isDigit, isLower, isUpper, isLetter, nameOctet, isName, upper, sameName}
+use Rattle.octets.proofs.Cases.{cases, same?, never, both, either, apart, alike, or-first}
 use Rattle.octets.proofs.Positions.{here, ended}
-use Rattle.octets.proofs.Classes.{name-is, name-length, name-upper, upper-octet-other}
+use Rattle.octets.proofs.Classes.{name-is, name-length, name-upper}
 use Rattle.content.specs.Line.{quoteAfter, bare, before, behind, pieces, paramOf, headed, lineOf}
 use Rattle.content.specs.Scan.{untilBare}
 use Rattle.content.specs.Parts.{otherPieces}
 use Rattle.content.proofs.Scanning.{bare-le, bare-take, bare-stop}
 use Rattle.content.proofs.Separators.{oneOf, skips, pieces-first}
+use Rattle.content.proofs.ParamValues.{upper-back}
 use Rattle.conversion_theory.specs.Structure.{bounds}
 
 pub not-twice : (b : Bool) → not (not b) ≡ b
@@ -91,21 +92,9 @@ pass-names (suc n) (c ∷ l) h =
     pass-name c l (b .0) ∙ ap (λ (r : List ℕ). c ∷ r) (pass-names n l (b .1))
 
 -- a name in any case has name octets
-name-octet-upper : (c : ℕ) → nameOctet (upperOctet c) ≡ true → nameOctet c ≡ true
-name-octet-upper c h = cases (isLower c)
-    (λ e. unfold nameOctet isLetter in or-first _ (or-second (isUpper c) e))
-    (λ e. rw (upper-octet-other c e) at h)
-
-name-octets-upper : (s : List ℕ) → all nameOctet (upper s) ≡ true → all nameOctet s ≡ true
-unfolding all upper
-name-octets-upper [] h = refl
-name-octets-upper (c ∷ s) h =
-    let b = both (nameOctet (upperOctet c)) (all nameOctet (upper s)) h in
-    rw (name-octet-upper c (b .0)) (name-octets-upper s (b .1))
-
 octets-alike : (a w : List ℕ) → isName w ≡ true → sameName a w ≡ true → all nameOctet a ≡ true
 unfolding isName
-octets-alike a w h e = name-octets-upper a (rw (name-is a w e) (both (filled (upper w)) (all nameOctet (upper w)) (name-upper w h) .1))
+octets-alike a w h e = upper-back a (rw (name-is a w e) (both (filled (upper w)) (all nameOctet (upper w)) (name-upper w h) .1))
 
 -- where a name can end
 module _ (l : List ℕ) (n : ℕ) where

@@ -31,7 +31,7 @@ use Rattle.jcal.specs.Nesting.{stack, inner, nestOf, aroundOf, NestsBehi
 use Rattle.jcal.specs.declared.events.LineKind.{LineKind}
 use Rattle.jcal.specs.declared.events.LineKind.the-variants.{Opens, Closes, Plain, Broken}
 use Rattle.jcal.specs.declared.nesting.Nesting.{Nesting}
-use Rattle.jcal.specs.declared.nesting.Nesting.the-variants.{Unbegun, Within, Complete, Wrong}
+use Rattle.jcal.specs.declared.nesting.Nesting.the-variants.{Within, Complete, Wrong}
 use Rattle.jcal.proofs.events.LineKind.{the-type}
 use Rattle.jcal.proofs.LineKinds.{line-is}
 

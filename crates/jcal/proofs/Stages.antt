@@ -9,36 +9,35 @@ use lib.ListN.{length, take, drop}
 use types.Run.{OneOf, miss}
 use denote.Enum.Declared.{tagOf}
 use Rattle.octets.specs.Basics.{all}
-use Rattle.octets.specs.Utf8.{clean}
 use Rattle.octets.specs.Limits.{mostText, mostLevels}
 use Rattle.octets.specs.Pen.{pen}
-use Rattle.octets.specs.Answers.{Answer, refused, accepted, then, unless, number, zeroed, answer, outcome, finished}
+use Rattle.octets.specs.Answers.{Answer, refused, accepted, then, unless, number, answer, outcome, finished}
 use Rattle.octets.specs.declared.Refusal.{Refusal}
 use Rattle.octets.specs.declared.Converted.{Converted}
 use Rattle.octets.specs.declared.Converted.the-variants.{Written, Refused}
 use Rattle.octets.proofs.Cases.{never}
 use Rattle.octets.proofs.Positions.{upto}
-use Rattle.octets.proofs.Answers.{not-accepted, accepted-same, finished-answer}
+use Rattle.octets.proofs.Answers.{not-accepted, accepted-same, finished-answer, refused-alike}
 use Rattle.json.specs.Print.{print}
 use Rattle.types.specs.Rows.{tableOf}
 use Rattle.types.specs.Table.{Table}
 use Rattle.types.specs.Laid.{tableIn, laidOf, roomForRows}
 use Rattle.types.proofs.Reading.{Read-table, rows-written, rows-refused}
-use Rattle.content.specs.Line.{Line, lineOf}
+use Rattle.content.specs.Line.{Line}
 use Rattle.content.specs.Buffer.{laidOut}
 use Rattle.content.specs.Lines.{linesOf, cutLines}
-use Rattle.content.specs.Form.{formed, contentLines}
+use Rattle.content.specs.Form.{contentLines}
 use Rattle.content.specs.Reading.{linesTold, LaidWithin, ReadLines}
 use Rattle.content.specs.declared.reading.Lines.{Lines}
-use Rattle.content.specs.declared.reading.Lines.the-variants.{Laid, NotClean, NotFormed, NoRoom}
+use Rattle.content.specs.declared.reading.Lines.the-variants.{Laid}
 use Rattle.content.proofs.LineRuns.{laid-short}
-use Rattle.conversion_theory.specs.Tree.{Property, Component, levels}
-use Rattle.conversion_theory.specs.Structure.{Event, begins, ends, carries, stray, Nest, fresh, closed, inside, fault, nestAfter, verdict, structured}
+use Rattle.conversion_theory.specs.Tree.{Property, levels}
+use Rattle.conversion_theory.specs.Structure.{Event, begins, Nest, fresh, closed, inside, fault, nestAfter, verdict, structured}
 use Rattle.conversion_theory.specs.Growth.{behindEvent, eachProperty, treeOf}
 use Rattle.conversion_theory.specs.Jcal.{jcalOf}
 use Rattle.conversion_theory.specs.Property.{readProperty}
 use Rattle.conversion_theory.specs.ToJcal.{readLinesBy, readLines, reading, toJcal}
-use Rattle.jcal.specs.Events.{eventsIn, lineFrom, LineAt, nameFrom, lineTold, TellsLine}
+use Rattle.jcal.specs.Events.{eventsIn, LineAt, nameFrom, lineTold, TellsLine}
 use Rattle.jcal.specs.Components.{isAccepted, reads, eventTested, eachTested, behindEnd, nextOf, componentAt}
 use Rattle.jcal.specs.Placing.{ready, placeOf, PartWritten}
 use Rattle.jcal.specs.declared.components.Next.{Next}
@@ -59,10 +58,6 @@ refused-same : {A : Type 0} {m n : ℕ} → _≡_ {A = Answer A} (refused m) (re
 refused-same e = cc
 
 -- a refusal zeroes whatever stands in the buffer
-pub refused-alike : (n : ℕ) (a b : List ℕ) → length a ≡ length b → answer (refused n) a ≡ answer (refused n) b
-unfolding answer zeroed
-refused-alike n a b e = rw e
-
 -- a refusal stands, whatever comes behind
 then-refused : {A B C : Type 0} (a : Answer A) (g : A → B) (h : A → Answer C) (n : ℕ) → refused n ≡ then a (λ x. accepted (g x)) → refused n ≡ then a h
 unfolding then

@@ -1,9 +1,9 @@
 -- `ical::converting::convert_tape` meets its contract.
 use mathlib.Core.Path.{sym, ap, _∙_}
 use Rattle.octets.specs.Answers.{answer}
-use Rattle.octets.proofs.Answers.{finished-answer}
+use Rattle.octets.proofs.Answers.{finished-answer, refused-alike}
 use Rattle.ical.proofs.PropertyTests.{passes, refuses}
-use Rattle.ical.proofs.Stages.{refused-alike, text-refused, text-accepted}
+use Rattle.ical.proofs.Stages.{text-refused, text-accepted}
 use borrow.Author.Needs.{needs}
 use Rattle.ical.proofs.converting.convert_tape.Statement.{statement}
 use Rattle.ical.proofs.converting.convert_tape.Tie as tie
