@@ -1,14 +1,13 @@
 -- Values by their sort: texts together, others one by one.
 use Prim.Native.Nat.{ℕ}
 use mathlib.Core.Path.{_≡_, refl}
-use mathlib.Core.List.{List, [], _∷_, map}
-use mathlib.Core.Option.{Option, none, some}
+use mathlib.Core.List.{List, [], map}
 use Rattle.octets.specs.Basics.{pick}
-use Rattle.octets.specs.Optional.{map?, both?, each}
+use Rattle.octets.specs.Optional.{map?, each}
 use Rattle.octets.specs.Classes.{between}
 use Rattle.types.specs.Codes as typed
 use Rattle.values.specs.TextWalk.{texts}
-use Rattle.json.specs.Tree.{Json, str}
+use Rattle.json.specs.Tree.{str}
 use Rattle.values.specs.Sorts.{Sort, plain, binary, boolean, date, dateTime, duration, float, geo, integer, period, recur, text, status, time, utcOffset, sortSplits, isText}
 use Rattle.values.specs.Read.{readOne, valuesIn, readValues}
 use Rattle.values.proofs.TextWalk.{texts-read}

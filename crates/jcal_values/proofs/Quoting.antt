@@ -5,24 +5,17 @@ use mathlib.Core.Path.{_≡_, refl, sym, _∙_}
 use mathlib.Core.Bool.{Bool, true, false}
 use mathlib.Core.List.{List, [], _∷_, _++_}
 use mathlib.Core.Option.{Option, none, some}
-use borrow.Author.Tests.{not-true, eqb-true}
+use borrow.Author.Tests.{eqb-true}
 use lib.Dec.{eqb}
 use Rattle.octets.specs.Basics.{_or_, all}
 use Rattle.octets.specs.Optional.{isSome, given}
-use Rattle.octets.proofs.Cases.{cases, never, both, neither, apart}
+use Rattle.octets.proofs.Cases.{cases, never, both, apart}
 use Rattle.calendar.specs.Texts.{octetsIn, textSaid, Says}
 use Rattle.calendar.specs.declared.texts.Text.{Text}
-use Rattle.json.specs.Print.{escaped, quoted, printString}
+use Rattle.json.specs.Print.{quoted, printString}
+use Rattle.json.proofs.Quotes.{escaped-bare}
 use Rattle.octets.specs.Groups.{asIsOctet}
 use Rattle.values.specs.Shown.{stringShown}
-
-escaped-bare : (b : ℕ) → asIsOctet b ≡ true → escaped b ≡ b ∷ []
-unfolding escaped asIsOctet
-escaped-bare b e =
-    let w = neither (eqb b 34) (eqb b 92 or eqb b 10 or eqb b 9) (not-true _ e) in
-    let v = neither (eqb b 92) (eqb b 10 or eqb b 9) (w .1) in
-    let u = neither (eqb b 10) (eqb b 9) (v .1) in
-    rw (w .0, v .0, u .0, u .1)
 
 pub quoted-bare : (xs : List ℕ) → all asIsOctet xs ≡ true → quoted xs ≡ xs ++ code "\"" ∷ []
 unfolding all quoted

@@ -2,6 +2,7 @@
 use borrow.Author.Needs.{needs}
 use mathlib.Core.Path.{refl, sym, _∙_}
 use Rattle.octets.proofs.Pen.{front-same}
+use Rattle.octets.proofs.Optional.{some-when}
 use Rattle.calendar.specs.Durations.{durationOf}
 use Rattle.octets.proofs.Optional.{some-when}
 use Rattle.calendar.proofs.Options.{some-map}
