@@ -4,7 +4,6 @@ use mathlib.Core.Path.{refl, sym, _∙_}
 use Rattle.octets.proofs.Pen.{front-same}
 use Rattle.octets.proofs.Optional.{some-when}
 use Rattle.calendar.specs.Durations.{durationOf}
-use Rattle.octets.proofs.Optional.{some-when}
 use Rattle.calendar.proofs.Options.{some-map}
 use Rattle.values.specs.Sorts.{isText}
 use Rattle.values.specs.Coded.{sortSaid}
