@@ -1,12 +1,15 @@
 -- What the crate's own readers promise each other; `parse` promises what Parse says.
 use Prim.Native.Nat.{ℕ, _-_, _≤_, _<_}
+use Prim.Native.Char.{code}
 use mathlib.Core.Path.{_≡_}
 use mathlib.Core.Bool.{Bool, true, false}
-use mathlib.Core.List.{List}
+use mathlib.Core.List.{List, [], _∷_}
+use lib.Dec.{eqb}
 use lib.ListN.{length, take, drop, getD}
-use Rattle.octets.specs.Basics.{all}
+use Rattle.octets.specs.Basics.{pick, all}
 use Rattle.octets.specs.Pen.{Pen, pen, Wrote}
 use Rattle.json.specs.Reads.{Out, ok, deep, bad}
+use Rattle.json.specs.Print.{escaped}
 use Rattle.json.specs.declared.Step.{Step}
 use Rattle.json.specs.declared.Step.the-variants.{Read, TooDeep, NotJson}
 use Rattle.json.specs.declared.Found.{Found}
@@ -41,3 +44,7 @@ unfoldable pub hexCode : Out ℕ → ℕ
 hexCode (ok n s) = n
 hexCode deep = 65536
 hexCode bad = 65536
+
+-- a string has r behind a backslash for c; 0, where c stands as it is
+abbrev pub WrittenAs : ℕ → ℕ → Type 0
+WrittenAs c r = escaped c ≡ pick (eqb r 0) (c ∷ []) (code "\\" ∷ r ∷ [])

@@ -5,7 +5,7 @@ ghost use lib.ListN.{length};
 ghost use Rattle.octets.specs.Pen.{pen, Wrote};
 ghost use Rattle.octets.specs.Groups.{asIsOctet};
 ghost use Rattle.json.specs.Print.{escaped, printString};
-ghost use Rattle.json.specs.Promise.{Run};
+ghost use Rattle.json.specs.Promise.{Run, WrittenAs};
 use octets::Class;
 
 // The place behind the octets at `at` that are written as they are.
@@ -16,17 +16,29 @@ fn past_bare(s: &[u8], at: usize) -> usize
     octets::run_end(s, at, Class::AsIs)
 }
 
+// What stands behind a backslash for b in a string; 0 where b stands as it is.
+fn escape_for(b: u8) -> u8
+    ensures { λ r. ⌜ WrittenAs b r ⌝ }
+{
+    match b {
+        b'"' => b,
+        b'\\' => b,
+        b'\n' => b'n',
+        b'\t' => b't',
+        _ => 0,
+    }
+}
+
 // Writes one octet of a string.
 pub fn put_escaped(out: &mut [u8], at: usize, b: u8) -> usize
     ensures { λ r. ⌜ Wrote (pen (now (out .entry)) at) (escaped b) (pen (now (out .exit)) r) ⌝ }
 {
-    match b {
-        b'"' => octets::put_all(out, at, b"\\\""),
-        b'\\' => octets::put_all(out, at, b"\\\\"),
-        b'\n' => octets::put_all(out, at, b"\\n"),
-        b'\t' => octets::put_all(out, at, b"\\t"),
-        _ => octets::put(out, at, b),
+    let e = escape_for(b);
+    if e == 0 {
+        return octets::put(out, at, b);
     }
+    let q = octets::put(out, at, b'\\');
+    octets::put(out, q, e)
 }
 
 // Writes a string between quotes; octets that are written as they are go run by run.
