@@ -148,7 +148,7 @@ def worker(jobs, opened):
 
 def needed():
     """The lines of crates.txt that the two conversions and the stop list stand on, theirs included."""
-    lines = [l for l in open(os.path.join(ROOT, "crates.txt"), encoding="utf-8") if l.strip()]
+    lines = [l for l in open(os.path.join(ROOT, "crates.txt"), encoding="utf-8") if l.split("#")[0].strip()]
     under = {l.split(":")[0].strip(): l.split(":")[1].split() for l in lines}
     wanted = set()
     todo = ["conversion_theory", "stop_list"]
