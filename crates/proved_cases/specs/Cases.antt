@@ -18,14 +18,14 @@ jcal property = octets "[\"vcalendar\",[" ++ (property ++ octets "],[]]")
 -- What a case says: under these rows the line has this property in jCal, or is refused; the property has this line in iCalendar; a whole text
 -- and this jCal are written as each other; for this input `stops` prints this page.
 pub data Case : Type 0 where
-  holds : List ℕ → List ℕ → List ℕ → Case
+  becomes : List ℕ → List ℕ → List ℕ → Case
   refuses : List ℕ → List ℕ → ℕ → Case
   returns : List ℕ → List ℕ → List ℕ → Case
   pairs : List ℕ → List ℕ → List ℕ → Case
   prints : List ℕ → List ℕ → Case
 
 abbrev pub Holds : Case → Type 0
-Holds (holds rows line property) = toJcal rows (calendar line) ≡ accepted (jcal property)
+Holds (becomes rows line property) = toJcal rows (calendar line) ≡ accepted (jcal property)
 Holds (refuses rows line number) = toJcal rows (calendar line) ≡ refused number
 Holds (returns rows property line) = toIcal rows (jcal property) ≡ accepted (calendar line)
 Holds (pairs rows text j) = (toJcal rows text ≡ accepted j) × (toIcal rows j ≡ accepted text)
@@ -54,21 +54,21 @@ stated = octets "X-TROUGH;VALUE=DATE-TIME:20240229T060000Z"
 
 abbrev pub cases : List Case
 cases =
-    holds noRows (octets "DTSTART;VALUE=DATE:20240229") (octets "[\"dtstart\",{},\"date\",\"2024-02-29\"]")
-    ∷ holds noRows (octets "DTSTART;VALUE=DATE:20000229") (octets "[\"dtstart\",{},\"date\",\"2000-02-29\"]")
+    becomes noRows (octets "DTSTART;VALUE=DATE:20240229") (octets "[\"dtstart\",{},\"date\",\"2024-02-29\"]")
+    ∷ becomes noRows (octets "DTSTART;VALUE=DATE:20000229") (octets "[\"dtstart\",{},\"date\",\"2000-02-29\"]")
     ∷ refuses noRows (octets "DTSTART;VALUE=DATE:20230229") 9
     ∷ refuses noRows (octets "DTSTART;VALUE=DATE:21000229") 9
     ∷ refuses noRows (octets "DURATION:PT1H30S") 9
-    ∷ holds noRows (octets "X-LOAD;VALUE=FLOAT:+007.50") (octets "[\"x-load\",{},\"float\",7.50]")
-    ∷ holds noRows (octets "X-LOAD;X-NOTE=^^n:1") (octets "[\"x-load\",{\"x-note\":\"^n\"},\"unknown\",\"1\"]")
+    ∷ becomes noRows (octets "X-LOAD;VALUE=FLOAT:+007.50") (octets "[\"x-load\",{},\"float\",7.50]")
+    ∷ becomes noRows (octets "X-LOAD;X-NOTE=^^n:1") (octets "[\"x-load\",{\"x-note\":\"^n\"},\"unknown\",\"1\"]")
     ∷ refuses noRows (octets "TZOFFSETTO:-0000") 9
     ∷ refuses noRows (octets "PRIORITY:2147483648") 9
-    ∷ holds noRows (octets "PRIORITY:-2147483648") (octets "[\"priority\",{},\"integer\",-2147483648]")
+    ∷ becomes noRows (octets "PRIORITY:-2147483648") (octets "[\"priority\",{},\"integer\",-2147483648]")
     ∷ prints (octets "20240228T180000\nFREQ=HOURLY;INTERVAL=12;COUNT=4\n10\n")
     (octets "stops 4\n1 2024-02-28T18:00:00\n2 2024-02-29T06:00:00\n3 2024-02-29T18:00:00\n4 2024-03-01T06:00:00\n")
     ∷ prints (octets "20240229\nFREQ=DAILY;INTERVAL=366\n2\n") (octets "stops 2\n1 2024-02-29\n2 2025-03-01\n")
-    ∷ holds noRows sent unlistedJcal
-    ∷ holds added sent listedJcal
+    ∷ becomes noRows sent unlistedJcal
+    ∷ becomes added sent listedJcal
     ∷ returns noRows listedJcal stated
     ∷ pairs noRows (octets "BEGIN:VCALENDAR\r\nEND:VCALENDAR\r\n") (octets "[\"vcalendar\",[],[]]")
     ∷ []
