@@ -74,7 +74,7 @@ params-utf e-empty = tt
 params-utf (e-member {k} {j} e es) = (values-utf j e, params-utf es)
 
 -- a property
-string-is : (p : List ℕ → Bool) (j : Json) → holds p (string? j) ≡ true → p (octetsOf j) ≡ true
+pub string-is : (p : List ℕ → Bool) (j : Json) → holds p (string? j) ≡ true → p (octetsOf j) ≡ true
 string-is p j h = holds-is p (string? j) h (λ t e k. rw (string-octets j t e) k)
 
 property-fine : (j : Json) → Encoded j → isProperty j ≡ true → PropertyFine (propertyFrom j)

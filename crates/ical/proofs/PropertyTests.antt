@@ -10,7 +10,7 @@ use lib.ListN.{length, take, drop}
 use borrow.Author.Tests.{eq-eqb}
 use lib.Dec.{leb}
 use Rattle.octets.specs.Basics.{octets, pick, _and_, _or_, all, same, single, filled}
-use Rattle.octets.specs.Optional.{isSome, holds, given, map?, guard}
+use Rattle.octets.specs.Optional.{isSome, holds, map?, guard}
 use Rattle.octets.specs.Classes.{lowerNameOctet, isLowerName, lower, isName}
 use Rattle.octets.specs.Answers.{Answer, refused, accepted, then, orElse, unless, number}
 use Rattle.octets.specs.Pen.{pen, FrontKept}
@@ -19,7 +19,7 @@ use Rattle.octets.proofs.Answers.{not-accepted}
 use Rattle.octets.proofs.Cases.{same?, never, both, and-true-right, and-false-right}
 use Rattle.octets.proofs.Classes.{lower-name, lower-name-stays}
 use Rattle.types.specs.Table.{Row, Table, find}
-use Rattle.json.specs.Tree.{Json, null, falsity, truth, num, str, arr, obj, string?, number?, array?, object?, listOfItems, octetsOf, elements, element}
+use Rattle.json.specs.Tree.{Json, string?, array?, object?, listOfItems, octetsOf, elements, element}
 use Rattle.json.specs.Tape.{tagEnd}
 use Rattle.tape.specs.Decode.{otherItems, tagAt, valueAt, itemsAt, listAt, membersAt}
 use Rattle.tape.specs.Promise.{Next, Left}
@@ -44,6 +44,7 @@ use Rattle.conversion_theory.specs.Property.{codeOf, manyOf, encodingFits, read
 use Rattle.conversion_theory.specs.Skeleton.{areParameters, isPropertyName, isProperty, paramsFrom, propertyFrom}
 use Rattle.conversion_theory.specs.Return.{isUnknown, statedType, writtenSort, firstOctets, takenBy, checked}
 use Rattle.conversion_theory.specs.ToIcal.{checkedAll}
+use Rattle.conversion_theory.proofs.FromJcal.{string-is}
 use Rattle.ical_properties.specs.PartPlaces.{InGroup, PartsAt}
 use Rattle.ical_properties.specs.declared.PropertyParts.{PropertyParts}
 use Rattle.ical_properties.specs.Ruled.{Rules}
@@ -55,16 +56,6 @@ use Rattle.ical.specs.declared.Conversion.the-variants.{Passed, Refused}
 use Rattle.ical.proofs.Arrays.{property-array}
 
 -- a string's test is passed by its octets
-holds-octets : (p : List ℕ → Bool) (j : Json) → holds p (string? j) ≡ true → p (octetsOf j) ≡ true
-unfolding holds string? number? octetsOf given
-holds-octets p null h = never h refl
-holds-octets p falsity h = never h refl
-holds-octets p truth h = never h refl
-holds-octets p (num t) h = never h refl
-holds-octets p (str t) h = h
-holds-octets p (arr js) h = never h refl
-holds-octets p (obj ms) h = never h refl
-
 -- the name and the type of a property are in lowercase
 module _ (j : Json) (h : isProperty j ≡ true) where
   parts : (isSome (array? j) ≡ true)
@@ -77,14 +68,14 @@ module _ (j : Json) (h : isProperty j ≡ true) where
   name-lower =
       let a = both (holds isPropertyName (string? (element 0 j))) (holds areParameters (object? (element 1 j)) and (holds isLowerName (string? (element 2 j)) and leb 4 (length (elements j)))) (parts .1) .0 in
       let n = octetsOf (element 0 j) in
-      both (isLowerName n) (not (same n (octets "begin")) and not (same n (octets "end"))) (holds-octets isPropertyName (element 0 j) a) .0
+      both (isLowerName n) (not (same n (octets "begin")) and not (same n (octets "end"))) (string-is isPropertyName (element 0 j) a) .0
 
   pub type-lower : isLowerName (propertyFrom j .type) ≡ true
   unfolding propertyFrom
   type-lower =
       let a = both (holds isPropertyName (string? (element 0 j))) (holds areParameters (object? (element 1 j)) and (holds isLowerName (string? (element 2 j)) and leb 4 (length (elements j)))) (parts .1) .1 in
       let b = both (holds areParameters (object? (element 1 j))) (holds isLowerName (string? (element 2 j)) and leb 4 (length (elements j))) a .1 in
-      holds-octets isLowerName (element 2 j) (both (holds isLowerName (string? (element 2 j))) (leb 4 (length (elements j))) b .0)
+      string-is isLowerName (element 2 j) (both (holds isLowerName (string? (element 2 j))) (leb 4 (length (elements j))) b .0)
 
 pub stays-lower : (s : List ℕ) → isLowerName s ≡ true → lower s ≡ s
 unfolding isLowerName

@@ -7,7 +7,7 @@ use mathlib.Core.Option.{Option, none}
 use lib.ListN.{length}
 use Rattle.octets.specs.Basics.{octets, pick}
 use Rattle.octets.specs.Pieces.{split}
-use Rattle.calendar.specs.Recurrence.{PartSort as Kind}
+use Rattle.calendar.specs.Recurrence.{PartSort}
 use Rattle.calendar.specs.Walk.{beforeFirst, itemShown}
 use Rattle.json.specs.Tree.{Json}
 use Rattle.values.specs.Sorts.{Sort, isText}
@@ -33,5 +33,5 @@ commaList f s = listShown f (code ",") s
 abbrev pub semicolonList : (List ℕ → List ℕ) → List ℕ → List ℕ
 semicolonList f s = listShown f (code ";") s
 
-abbrev pub wordShown : Kind → List ℕ → List ℕ
+abbrev pub wordShown : PartSort → List ℕ → List ℕ
 wordShown k s = code "\"" ∷ (itemShown k s ++ octets "\"")
