@@ -1,8 +1,10 @@
 // What the converters' programs share: a file that may be there, and a conversion's answer on standard output.
 ghost use mathlib.Core.Path.{_≡_};
 ghost use Prim.Native.Nat.{_≤_};
-ghost use lib.ListN.{length};
+ghost use lib.Dec.{eqb};
+ghost use lib.ListN.{length, drop};
 ghost use Rattle.octets.specs.Answers.{outcome};
+ghost use Rattle.octets.specs.Basics.{all};
 use octets::Converted;
 
 // Octets that are read of standard input: one more than the longest text that is not refused.
@@ -49,7 +51,9 @@ fn unreadable(buf: &mut [u8]) -> usize
 }
 
 // Whether from `from` on there is nothing but b.
-pub fn rest_is(s: &[u8], from: usize, b: u8) -> bool {
+pub fn rest_is(s: &[u8], from: usize, b: u8) -> bool
+    ensures { λ r. ⌜ r ≡ all (λ c. eqb c b) (drop from (now (s .entry))) ⌝ }
+{
     let mut i = from;
     while i < s.len() {
         if s[i] != b {
