@@ -18,14 +18,15 @@ use Rattle.json.specs.Tree.{Json}
 use Rattle.json.specs.Reads.{Out, bad, fmap, andThen, skipSpace, literal}
 use Rattle.json.specs.Reader.{Separator, comma, close, odd, separatorOf, memberKey, pair, afterElement, onMark, elementsUpTo, elementsFrom, bracketed}
 use Rattle.json.specs.Tape.{tagEnd, serString, ser}
-use Rattle.json.specs.Promise.{Run, Agrees}
+use Rattle.octets.specs.Search.{ClassRun}
+use Rattle.json.specs.Promise.{Agrees}
 use Rattle.json.specs.declared.Step.{Step}
 use Rattle.json.proofs.Step.{the-type}
 use Rattle.json.proofs.Outs.{Gives, gives-weaker, then-alike}
 use Rattle.json.proofs.Tapes.{serList, serPair}
 use Rattle.json.proofs.Sizes.{skip-less}
 use Rattle.json.proofs.Words.{skip-run}
-use Rattle.json.proofs.Runs.{inside-is}
+use Rattle.octets.proofs.Runs.{inside-is}
 use Rattle.json.proofs.Agreements.{HasRead, Going, going-on, agrees-by, agrees-after, agrees-map, agrees-fails}
 
 -- each element takes an octet at least, so that one more than the octets is enough
@@ -66,7 +67,7 @@ module _ {A : Type 0} (end : ℕ) (P : List ℕ → Out A) (h : Shortens P) wher
       (gives-weaker _ _ (P s) (h s) (λ a t w. after-alike (elementsUpTo end P (length s)) (several end P) a t (λ u v. elements-enough (length s) (suc (length u)) u (omega arith) (omega arith))))
 
 -- what follows `[` or `{`, by the octet at i, behind white space
-module _ {A : Type 0} (f : A → List ℕ) (end : ℕ) (P : List ℕ → Out A) (text : List ℕ) {at i : ℕ} (blank : Run isSpace text at i) where
+module _ {A : Type 0} (f : A → List ℕ) (end : ℕ) (P : List ℕ → Out A) (text : List ℕ) {at i : ℕ} (blank : ClassRun isSpace text at i) where
   group-ends : getD text i 0 ≡ end → 0 < end → bracketed end P (drop at text) ≡ fmap (λ _. []) (literal (end ∷ []) (drop i text))
   unfolding bracketed elementsFrom literal
   group-ends e z = rw (← (skip-run text blank), here text i (inside-is text i end e z), eq-eqb _ end e)
@@ -88,11 +89,11 @@ module _ {A : Type 0} (f : A → List ℕ) (end : ℕ) (P : List ℕ → Out A) 
   element-fails {t} {l} {v} not x = g .goes t v (agrees-by (several-step end P h (drop i text)) (le-refl low) (agrees-fails _ not x))
 
   -- an element was read up to e, and n is behind white space
-  module _ {t : List ℕ} {l e n to : ℕ} (x : HasRead f text l q t (P (drop i text)) e to) (blank : Run isSpace text e n) where
+  module _ {t : List ℕ} {l e n to : ℕ} (x : HasRead f text l q t (P (drop i text)) e to) (blank : ClassRun isSpace text e n) where
     element-then : several end P (drop i text) ≡ onMark end (λ m u. afterElement m (several end P) (x .it) u) (drop n text)
     element-then = several-step end P h (drop i text) ∙ rw (x .is, ← (skip-run text blank))
 
-    pub element-more : {i′ : ℕ} → getD text n 0 ≡ 44 → Run isSpace text (n + 1) i′ → Going (serList f) (several end P) text low p i₀ (pen t to) i′
+    pub element-more : {i′ : ℕ} → getD text n 0 ≡ 44 → ClassRun isSpace text (n + 1) i′ → Going (serList f) (several end P) text low p i₀ (pen t to) i′
     element-more {i′} c next = going-on i′ (λ w. x .it ∷ w) g (x .wrote) tape (element-then ∙ step)
       where
         tape : (w : List A) → f (x .it) ++ serList f w ≡ serList f (x .it ∷ w)

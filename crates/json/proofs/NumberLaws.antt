@@ -14,9 +14,10 @@ use Rattle.octets.proofs.Cases.{cases}
 use Rattle.octets.proofs.Positions.{here, ended}
 use Rattle.json.specs.Reads.{Out, ok, bad}
 use Rattle.json.specs.Numbers.{NumberPlace, start, minus, zero, int, point, frac, e, sign, exp, beyond, isExponent, isPlusMinus, behindInt, firstDigit, advance, isBeyond, numberEnds, scan}
-use Rattle.json.specs.Promise.{Run, FoundAt, found, missing}
+use Rattle.octets.specs.Search.{ClassRun}
+use Rattle.json.specs.Promise.{FoundAt, found, missing}
 use Rattle.json.specs.declared.Found.{Found}
-use Rattle.json.proofs.Runs.{run-passes, run-next, run-first, run-rest, inside, inside-is}
+use Rattle.octets.proofs.Runs.{run-passes, run-next, run-first, run-rest, inside, inside-is}
 
 module _ (text : List ℕ) (i : ℕ) (q : NumberPlace) where
   -- the octet at i belongs to the number
@@ -44,11 +45,11 @@ unfolding isDigit between
 digit-zero = refl
 
 -- digits are passed at a place that they lead back to
-scan-digits : (text : List ℕ) {at r : ℕ} → Run isDigit text at r → (q : NumberPlace) → ((b : ℕ) → isDigit b ≡ true → advance q b ≡ q) → isBeyond q ≡ false → scan q (drop at text) ≡ scan q (drop r text)
+scan-digits : (text : List ℕ) {at r : ℕ} → ClassRun isDigit text at r → (q : NumberPlace) → ((b : ℕ) → isDigit b ≡ true → advance q b ≡ q) → isBeyond q ≡ false → scan q (drop at text) ≡ scan q (drop r text)
 unfolding scan
 scan-digits text w q f n = run-passes (scan q) (λ b s h. rw (f b h, n)) w
 
-module _ (text : List ℕ) {at r : ℕ} (w : Run isDigit text at r) where
+module _ (text : List ℕ) {at r : ℕ} (w : ClassRun isDigit text at r) where
   -- no digit where one is due
   pub scan-no-digit : (q : NumberPlace) → (isDigit (getD text at 0) ≡ false → advance q (getD text at 0) ≡ beyond) → numberEnds q ≡ false → r ≡ at → scan q (drop at text) ≡ bad
   scan-no-digit q f m h = scan-over text at q (f (ap (λ (k : ℕ). isDigit (getD text k 0)) (sym h) ∙ run-next digit-zero w)) ∙ rw m
@@ -82,7 +83,7 @@ unfolding isExponent
 exponent-none text i h k = rw (ne-eqb _ 101 h, ne-eqb _ 69 k)
 
 -- the parts that begin with digits
-module _ (text : List ℕ) {at r : ℕ} (w : Run isDigit text at r) where
+module _ (text : List ℕ) {at r : ℕ} (w : ClassRun isDigit text at r) where
   pub last-none : r ≡ at → scan sign (drop at text) ≡ bad
   unfolding advance isBeyond numberEnds
   last-none h = scan-no-digit text w sign (λ d. rw d) refl h

@@ -11,7 +11,7 @@ use Rattle.octets.proofs.Cases.{both, neither}
 use Rattle.octets.proofs.Positions.{here, ended, part-rest}
 use Rattle.octets.specs.Groups.{asIsOctet}
 use Rattle.json.specs.Print.{escaped, quoted}
-use Rattle.json.specs.Promise.{Run}
+use Rattle.octets.specs.Search.{ClassRun}
 
 pub escaped-bare : (b : ℕ) → asIsOctet b ≡ true → escaped b ≡ b ∷ []
 unfolding escaped asIsOctet
@@ -29,7 +29,7 @@ quoted-bare (x ∷ xs) ys h =
     rw (escaped-bare x (b .0), quoted-bare xs ys (b .1))
 
 module _ (s : List ℕ) where
-  pub quoted-run : {i e : ℕ} → Run asIsOctet s i e → quoted (drop i s) ≡ take (e - i) (drop i s) ++ quoted (drop e s)
+  pub quoted-run : {i e : ℕ} → ClassRun asIsOctet s i e → quoted (drop i s) ≡ take (e - i) (drop i s) ++ quoted (drop e s)
   quoted-run {i} {e} w = ap quoted (part-rest s i e (w .above)) ∙ quoted-bare (take (e - i) (drop i s)) (drop e s) (w .inside)
 
   pub quoted-octet : (i : ℕ) → i < length s → quoted (drop i s) ≡ escaped (getD s i 0) ++ quoted (drop (i + 1) s)

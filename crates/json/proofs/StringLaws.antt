@@ -17,9 +17,10 @@ use Rattle.octets.proofs.Classes.{between-true}
 use Rattle.octets.proofs.Positions.{here, ended, past-end, part-rest}
 use Rattle.json.specs.Reads.{Out, ok, deep, bad, fmap, andThen}
 use Rattle.json.specs.Strings.{escapeOf, digit, hex4, utf8Of, lowOf, lowSurrogate, partner, unit, unicode, escape, piece, stringPieces, string}
-use Rattle.json.specs.Promise.{Run, hexCode}
+use Rattle.octets.specs.Search.{ClassRun}
+use Rattle.json.specs.Promise.{hexCode}
 use Rattle.json.proofs.Outs.{Gives, gives-weaker, by, then-alike, map-map, map-same}
-use Rattle.json.proofs.Runs.{inside, inside-is}
+use Rattle.octets.proofs.Runs.{inside, inside-is}
 
 -- four hexadecimal digits, or none
 pub data Digit (s : List ℕ) : Out ℕ → Type 0 where
@@ -232,7 +233,7 @@ string-plains (x ∷ xs) ys h =
     string-plain x (xs ++ ys) (b .0) ∙ ap (fmap (λ zs. x ∷ zs)) (string-plains xs ys (b .1)) ∙ map-map (λ zs. x ∷ zs) (λ zs. xs ++ zs) (string ys)
 
 module _ (text : List ℕ) where
-  pub string-run : {at r : ℕ} → Run jsonUnescaped text at r → string (drop at text) ≡ fmap (λ zs. take (r - at) (drop at text) ++ zs) (string (drop r text))
+  pub string-run : {at r : ℕ} → ClassRun jsonUnescaped text at r → string (drop at text) ≡ fmap (λ zs. take (r - at) (drop at text) ++ zs) (string (drop r text))
   string-run {at} {r} w = ap string (part-rest text at r (w .above)) ∙ string-plains (take (r - at) (drop at text)) (drop r text) (w .inside)
 
   pub string-quote : (i : ℕ) → getD text i 0 ≡ 34 → string (drop i text) ≡ ok [] (drop (i + 1) text)

@@ -13,16 +13,17 @@ use Rattle.octets.specs.Groups.{jsonUnescaped}
 use Rattle.json.specs.Reads.{fmap, andThen}
 use Rattle.json.specs.Strings.{escape, string}
 use Rattle.json.specs.Tape.{tagEnd, serText}
-use Rattle.json.specs.Promise.{Run, Agrees, read, not-json}
+use Rattle.octets.specs.Search.{ClassRun}
+use Rattle.json.specs.Promise.{Agrees, read, not-json}
 use Rattle.json.specs.declared.Step.{Step}
 use Rattle.json.specs.declared.Step.the-variants.{Read, NotJson}
 use Rattle.json.proofs.Step.{the-type}
-use Rattle.json.proofs.Runs.{inside-is}
+use Rattle.octets.proofs.Runs.{inside-is}
 use Rattle.json.proofs.StringLaws.{string-run, string-quote, string-escape, string-none}
 use Rattle.json.proofs.Agreements.{HasRead, Going, going-on, agrees-by, agrees-fails}
 
 module _ {text : List ℕ} {low : ℕ} {p q : Pen} {i₀ i : ℕ} (g : Going serText string text low p i₀ q i) where
-  pub text-run : {r : ℕ} {q′ : Pen} → Run jsonUnescaped text i r → Wrote q (take (r - i) (drop i text)) q′ → Going serText string text low p i₀ q′ r
+  pub text-run : {r : ℕ} {q′ : Pen} → ClassRun jsonUnescaped text i r → Wrote q (take (r - i) (drop i text)) q′ → Going serText string text low p i₀ q′ r
   text-run {r} w v = going-on r (λ ys. take (r - i) (drop i text) ++ ys) g v (λ a. sym (append-assoc (take (r - i) (drop i text)) a (tagEnd ∷ []))) (string-run text w)
 
   pub text-close : {t : List ℕ} {to : ℕ} → getD text i 0 ≡ 34 → low ≤ i → Wrote q (tagEnd ∷ []) (pen t to) → Agrees serText text low p t (string (drop i₀ text)) (Read (i + 1) to)

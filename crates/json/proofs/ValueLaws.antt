@@ -23,10 +23,11 @@ use Rattle.json.specs.Numbers.{start, firstDigit, advance, numberEnds, s
 use Rattle.json.specs.Strings.{string}
 use Rattle.json.specs.Reader.{Opening, bracket, brace, quote, numeral, nullWord, falseWord, trueWord, other, openingOf, colon, memberKey, Pair, pair, membersFrom, bracketed, valueBy, valueWith, valueWithin, nothingBehind, parseText}
 use Rattle.json.specs.Tape.{tagNull, tagFalse, tagTrue, tagNumber, tagArray, tagObject, serText, serString, ser}
-use Rattle.json.specs.Promise.{Run, Agrees}
+use Rattle.octets.specs.Search.{ClassRun}
+use Rattle.json.specs.Promise.{Agrees}
 use Rattle.json.specs.declared.Step.{Step}
 use Rattle.json.proofs.Step.{the-type}
-use Rattle.json.proofs.Runs.{inside, inside-is}
+use Rattle.octets.proofs.Runs.{inside, inside-is}
 use Rattle.json.proofs.Words.{skip-run}
 use Rattle.json.proofs.NumberLaws.{scan-over}
 use Rattle.json.proofs.Outs.{gives-weaker}
@@ -57,7 +58,7 @@ pub key-quote : (text : List ℕ) (i : ℕ) → getD text i 0 ≡ 34 → memberK
 unfolding memberKey
 key-quote text i h = rw (here text i (inside-is text i 34 h (omega arith)), h)
 
-module _ (text : List ℕ) (i : ℕ) {l e n to : ℕ} {p : Pen} {t : List ℕ} (q : getD text i 0 ≡ 34) (x : HasRead serString text l p t (string (drop (i + 1) text)) e to) (blank : Run isSpace text e n) where
+module _ (text : List ℕ) (i : ℕ) {l e n to : ℕ} {p : Pen} {t : List ℕ} (q : getD text i 0 ≡ 34) (x : HasRead serString text l p t (string (drop (i + 1) text)) e to) (blank : ClassRun isSpace text e n) where
   colon-at : memberKey (drop i text) ≡ colon (x .it) (drop n text)
   colon-at = key-quote text i q ∙ rw (x .is, ← (skip-run text blank))
 
@@ -67,7 +68,7 @@ module _ (text : List ℕ) (i : ℕ) {l e n to : ℕ} {p : Pen} {t : List ℕ} (
       (λ h. colon-at ∙ rw (here text n (ltb-true n (length text) h), ne-eqb _ 58 c))
       (λ h. colon-at ∙ rw (ended text n (ltb-false n (length text) h)))
 
-  pub key-read : {m : ℕ} → getD text n 0 ≡ 58 → Run isSpace text (n + 1) m → memberKey (drop i text) ≡ ok (x .it) (drop m text)
+  pub key-read : {m : ℕ} → getD text n 0 ≡ 58 → ClassRun isSpace text (n + 1) m → memberKey (drop i text) ≡ ok (x .it) (drop m text)
   unfolding colon
   key-read c next = colon-at ∙ rw (here text n (inside-is text n 58 c (omega arith)), c, ← (skip-run text next))
 
@@ -198,7 +199,7 @@ module _ (text : List ℕ) (i d : ℕ) (a : (getD text i 0 ≡ 91) → ⊥) (o :
   number-agrees x = agrees-by number-is (le-refl _) (agrees-map ser num (λ _. refl) x)
 
 -- a whole text: white space up to i, a value up to e, white space up to n
-module _ (text : List ℕ) {i : ℕ} (blank : Run isSpace text 0 i) where
+module _ (text : List ℕ) {i : ℕ} (blank : ClassRun isSpace text 0 i) where
   text-at : parseText text ≡ andThen (valueWithin mostOpen (drop i text)) (λ j s. nothingBehind j (skipSpace s))
   unfolding parseText
   text-at = rw (skip-run text blank)
@@ -206,7 +207,7 @@ module _ (text : List ℕ) {i : ℕ} (blank : Run isSpace text 0 i) where
   pub text-fails : {low low′ : ℕ} {p : Pen} {t : List ℕ} {v : Step} → OneOf (1 ∷ 2 ∷ []) (tagOf the-type v) → Agrees ser text low p t (valueWithin mostOpen (drop i text)) v → Agrees ser text low′ p t (parseText text) v
   text-fails {low} {low′} n x = agrees-by text-at (le-refl low′) (agrees-fails _ n x)
 
-  module _ {low e n to : ℕ} {p : Pen} {t : List ℕ} (x : HasRead ser text low p t (valueWithin mostOpen (drop i text)) e to) (behind : Run isSpace text e n) where
+  module _ {low e n to : ℕ} {p : Pen} {t : List ℕ} (x : HasRead ser text low p t (valueWithin mostOpen (drop i text)) e to) (behind : ClassRun isSpace text e n) where
     text-ended : parseText text ≡ nothingBehind (x .it) (drop n text)
     text-ended = text-at ∙ rw (x .is, ← (skip-run text behind))
 

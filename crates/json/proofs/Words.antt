@@ -8,8 +8,8 @@ use lib.ListN.{length, drop, getD}
 use Rattle.octets.proofs.Positions.{here, ended}
 use Rattle.octets.specs.Classes.{isSpace}
 use Rattle.json.specs.Reads.{ok, bad, skipSpace, literal}
-use Rattle.json.specs.Promise.{Run}
-use Rattle.json.proofs.Runs.{at-place, run-passes}
+use Rattle.octets.specs.Search.{ClassRun}
+use Rattle.octets.proofs.Runs.{at-place, run-passes}
 
 skip-space : (b : ℕ) (s : List ℕ) → isSpace b ≡ true → skipSpace (b ∷ s) ≡ skipSpace s
 unfolding skipSpace
@@ -20,7 +20,7 @@ unfolding skipSpace
 skip-over text r h l = at-place text r l (λ i. rw (here text r i, h i)) (λ e. rw e)
 
 -- behind a run of white space nothing is skipped
-pub skip-run : (text : List ℕ) {at r : ℕ} → Run isSpace text at r → drop r text ≡ skipSpace (drop at text)
+pub skip-run : (text : List ℕ) {at r : ℕ} → ClassRun isSpace text at r → drop r text ≡ skipSpace (drop at text)
 skip-run text {at} {r} w = sym (run-passes skipSpace skip-space w ∙ skip-over text r (w .over) (w .below))
 
 -- one octet of a name

@@ -15,19 +15,6 @@ use Rattle.json.specs.declared.Step.the-variants.{Read, TooDeep, NotJson
 use Rattle.json.specs.declared.Found.{Found}
 use Rattle.json.specs.declared.Found.the-variants.{At, Nothing}
 
--- from `at` to i stand octets of a class
-pub record Passed (class : ℕ → Bool) (text : List ℕ) (at i : ℕ) : Type 0 where
-  pub above : at ≤ i
-  pub below : i ≤ length text
-  pub inside : all class (take (i - at) (drop at text)) ≡ true
-
--- from `at` to r stand octets of a class, and at r none
-pub record Run (class : ℕ → Bool) (text : List ℕ) (at r : ℕ) : Type 0 where
-  pub above : at ≤ r
-  pub below : r ≤ length text
-  pub inside : all class (take (r - at) (drop at text)) ≡ true
-  pub over : r < length text → class (getD text r 0) ≡ false
-
 -- the place of the answer, `low` at least, is where the reading o ends
 pub data FoundAt (text : List ℕ) (low : ℕ) (o : Out (Unit {0})) : Found → Type 0 where
   found : {e : ℕ} → o ≡ ok tt (drop e text) → low ≤ e → e ≤ length text → FoundAt text low o (At e)

@@ -5,12 +5,13 @@ ghost use Rattle.octets.specs.Basics.{pick};
 ghost use Rattle.octets.specs.Classes.{isDigit};
 ghost use Rattle.json.specs.Reads.{ok};
 ghost use Rattle.json.specs.Numbers.{isExponent, scan, start, minus, zero, point, e as behindE, sign};
-ghost use Rattle.json.specs.Promise.{Run, FoundAt};
+ghost use Rattle.octets.specs.Search.{ClassRun};
+ghost use Rattle.json.specs.Promise.{FoundAt};
 use crate::Found;
 
 fn past_digits(text: &[u8], at: usize) -> usize
     requires { ⌜ at ≤ length (now text) ⌝ }
-    ensures { λ r. ⌜ Run isDigit (now (text .entry)) at r ⌝ }
+    ensures { λ r. ⌜ ClassRun isDigit (now (text .entry)) at r ⌝ }
 {
     octets::run_end(text, at, octets::Class::Digit)
 }

@@ -5,13 +5,14 @@ ghost use lib.ListN.{length};
 ghost use Rattle.octets.specs.Pen.{pen, Wrote};
 ghost use Rattle.octets.specs.Groups.{asIsOctet};
 ghost use Rattle.json.specs.Print.{escaped, printString};
-ghost use Rattle.json.specs.Promise.{Run, WrittenAs};
+ghost use Rattle.octets.specs.Search.{ClassRun};
+ghost use Rattle.json.specs.Promise.{WrittenAs};
 use octets::Class;
 
 // The place behind the octets at `at` that are written as they are.
 fn past_bare(s: &[u8], at: usize) -> usize
     requires { ⌜ at ≤ length (now s) ⌝ }
-    ensures { λ r. ⌜ Run asIsOctet (now (s .entry)) at r ⌝ }
+    ensures { λ r. ⌜ ClassRun asIsOctet (now (s .entry)) at r ⌝ }
 {
     octets::run_end(s, at, Class::AsIs)
 }

@@ -4,14 +4,15 @@ ghost use Prim.Native.Nat.{_≤_};
 ghost use lib.ListN.{length, drop};
 ghost use Rattle.octets.specs.Classes.{isSpace};
 ghost use Rattle.json.specs.Reads.{literal};
-ghost use Rattle.json.specs.Promise.{Run, FoundAt};
+ghost use Rattle.octets.specs.Search.{ClassRun};
+ghost use Rattle.json.specs.Promise.{FoundAt};
 use crate::Found;
 use octets::Class;
 
 // The place behind the white space at `at`.
 pub(crate) fn past_space(text: &[u8], at: usize) -> usize
     requires { ⌜ at ≤ length (now text) ⌝ }
-    ensures { λ r. ⌜ Run isSpace (now (text .entry)) at r ⌝ }
+    ensures { λ r. ⌜ ClassRun isSpace (now (text .entry)) at r ⌝ }
 {
     octets::run_end(text, at, Class::Space)
 }

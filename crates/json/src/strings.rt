@@ -8,7 +8,8 @@ ghost use Rattle.octets.specs.Classes.{hexDigit};
 ghost use Rattle.octets.specs.Pen.{pen, Wrote};
 ghost use Rattle.json.specs.Strings.{escapeOf, hex4 as hex4Of, utf8Of, lowSurrogate, partner as partnerOf, unicode as unicodeOf, escape as escapeText, string as stringOf};
 ghost use Rattle.json.specs.Tape.{serString};
-ghost use Rattle.json.specs.Promise.{Run, Agrees, hexCode};
+ghost use Rattle.octets.specs.Search.{ClassRun};
+ghost use Rattle.json.specs.Promise.{Agrees, hexCode};
 use crate::END;
 use crate::STRING;
 use crate::Step;
@@ -171,7 +172,7 @@ fn escape(text: &[u8], at: usize, tape: &mut [u8], to: usize) -> Step
 // The place behind the octets at `at` that stand for themselves.
 fn past_unescaped(text: &[u8], at: usize) -> usize
     requires { ⌜ at ≤ length (now text) ⌝ }
-    ensures { λ r. ⌜ Run jsonUnescaped (now (text .entry)) at r ⌝ }
+    ensures { λ r. ⌜ ClassRun jsonUnescaped (now (text .entry)) at r ⌝ }
 {
     octets::long_run_end(text, at, Class::Unescaped)
 }

@@ -11,4 +11,5 @@ pub mod Utf8
 pub mod Transducer
 pub mod Characters
 pub mod Search
+pub mod Runs
 pub mod Slots

@@ -1,18 +1,21 @@
 -- Names found again by a table of slots.
-use Prim.Native.Nat.{ℕ, zero, suc, _+_, _-_, _*_, _%_, _≤_, _<_}
+use Prim.Native.Nat.{ℕ, zero, suc, _+_, _-_, _*_, _/_, _%_, _≤_, _<_, min}
 use mathlib.Core.Path.{_≡_, refl, sym, ap, _∙_}
 use mathlib.Core.Bool.{Bool, true, false}
 use mathlib.Core.List.{List, [], _∷_, map}
 use native.Mathlib.Omega.{arith}
-use borrow.Author.Tests.{ne-eqb, eqb-true, eqb-false, ltb-true, ltb-false}
-use lib.Dec.{eqb, ltb}
-use lib.ListN.{length, drop, getD, set, replicate, length-drop}
-use lib.Seq.{drop-set-lt, drop-set-add, getD-drop, getD-set-same, getD-set-other}
-use Rattle.octets.specs.Basics.{_or_, any, same, among, twice}
-use Rattle.octets.specs.Slots.{slotFrom, slotOf, passed, slotIn, stands, inTable, Blank, Within}
-use Rattle.octets.proofs.Cases.{cases, same?, never, or-first, or-second, or-false, either, neither}
+use borrow.Author.Tests.{ne-eqb, eqb-true, eqb-false, ltb-true, ltb-false, leb-true, leb-false}
+use lib.Dec.{eqb, ltb, leb}
+use lib.ListN.{length, take, drop, getD, set, replicate, length-drop}
+use lib.Seq.{take-all, drop-set-lt, drop-set-add, getD-drop, getD-set-same, getD-set-other}
+use Rattle.octets.specs.Basics.{_and_, _or_, any, same, among, twice}
+use Rattle.octets.specs.Groups.{cased}
+use Rattle.octets.specs.Slots.{slotFrom, slotOf, passed, slotIn, stands, inTable, Blank, slotFor, nameIn, Enters}
+use Rattle.octets.specs.declared.names.Case.{Case}
+use Rattle.octets.specs.declared.tables.Entry.the-variants.{Seen, Placed, Full}
+use Rattle.octets.proofs.Cases.{cases, same?, never, both, or-first, or-second, or-false, either, neither}
 use Rattle.octets.proofs.Classes.{same-itself, same-is}
-use Rattle.octets.proofs.Positions.{here, ended}
+use Rattle.octets.proofs.Positions.{here, ended, from}
 
 -- the slot of a name, octet by octet; f turns its octets into one case
 module _ (f : ℕ → ℕ) (n : List ℕ) where
@@ -28,6 +31,49 @@ module _ (f : ℕ → ℕ) (n : List ℕ) where
     pub slot-end : length n ≤ i → h ≡ slotFrom h (map f (drop i n))
     unfolding slotFrom
     slot-end l = rw (ended n i l)
+
+take-none : (n : ℕ) → take {A = ℕ} n [] ≡ []
+take-none zero = refl
+take-none (suc n) = refl
+
+-- the octets between two places, which need not stand in s
+between-places : (s : List ℕ) (a b : ℕ) → take (min b (length s) - min a (min b (length s))) (drop (min a (min b (length s))) s) ≡ take (b - a) (drop a s)
+between-places s a b = cases (leb a (min b (length s)))
+    (λ e.
+    let l : a ≤ min b (length s) = leb-true a (min b (length s)) e in
+    let m : min a (min b (length s)) ≡ a = omega arith in
+    rw m (cases (leb b (length s))
+    (λ f. let n : min b (length s) ≡ b = (let k = leb-true b (length s) f in omega arith) in rw n)
+    (λ f.
+    let k : length s < b = leb-false b (length s) f in
+    let n : min b (length s) ≡ length s = omega arith in
+    rw (n, from s a) (sym (take-all (b - a) (drop a s) (rw (length-drop a s) (omega arith)))))))
+    (λ e.
+    let l : min b (length s) < a = leb-false a (min b (length s)) e in
+    let m : min a (min b (length s)) ≡ min b (length s) = omega arith in
+    let z : min b (length s) - min b (length s) ≡ 0 = omega arith in
+    rw (m, z) (cases (leb a b)
+    (λ f.
+    let k : length s ≤ a = (let g = leb-true a b f in omega arith) in
+    rw (ended s a k) (sym (take-none (b - a))))
+    (λ f.
+    let y : b - a ≡ 0 = (let g = leb-false a b f in omega arith) in
+    rw y)))
+
+pub cut-to : (s : List ℕ) (a b i j : ℕ) → j ≡ min b (length s) → i ≡ min a j → take (j - i) (drop i s) ≡ take (b - a) (drop a s)
+cut-to s a b i j e f = rw (f, e) (between-places s a b)
+
+-- a slot holds the name whose ends it was made for
+module _ (case : Case) (s : List ℕ) (a b : ℕ) (z : (slotFor a b ≡ 0) → ⊥) where
+  pub slot-holds : nameIn case s (slotFor a b) ≡ map (cased case) (take (b - a) (drop a s))
+  unfolding slotFor nameIn
+  slot-holds = cases (leb a b and ltb b 4294967296)
+      (λ e.
+      let l : b < 4294967296 = ltb-true b 4294967296 (both (leb a b) (ltb b 4294967296) e .1) in
+      let q : (a * 4294967296 + b) / 4294967296 ≡ a = omega arith in
+      let r : (a * 4294967296 + b) % 4294967296 ≡ b = omega arith in
+      rw (e, q, r))
+      (λ e. absurd (z (rw e)))
 
 -- n is looked for from the slot q on
 module _ (name : ℕ → List ℕ) (n table : List ℕ) where
@@ -98,6 +144,17 @@ module _ (name : ℕ → List ℕ) (n : List ℕ) where
         let l : passed name n (drop (slotOf n) table) < length (drop (slotOf n) table) = rw (length-drop (slotOf n) table) (omega arith) in
         rw (q, drop-set-add (slotOf n) table (passed name n (drop (slotOf n) table)) p) (ends-filled (drop (slotOf n) table) p z k l)
 
+-- the search for n ended at the slot q
+module _ (name : ℕ → List ℕ) (n old : List ℕ) (q : ℕ) (e : q ≡ slotIn name n old) where
+  pub enters-full : getD old q 0 ≡ 0 → Enters name n old old Full
+  enters-full z = rw (sym e) (refl, z)
+
+  pub enters-seen : ((getD old q 0 ≡ 0) → ⊥) → Enters name n old old Seen
+  enters-seen z = rw (sym e) (refl, z)
+
+  pub enters-placed : (p : ℕ) → ((p ≡ 0) → ⊥) → name p ≡ n → q < length old → getD old q 0 ≡ 0 → Enters name n old (set old q p) Placed
+  enters-placed p o k h z = rw (sym e) (p, o, k, h, z, refl)
+
 -- a name that stands in a table stands there after a free slot is filled
 stands-set : (name : ℕ → List ℕ) (n ps : List ℕ) (m p : ℕ) → getD ps m 0 ≡ 0 → stands name n ps ≡ true → stands name n (set ps m p) ≡ true
 unfolding stands
@@ -139,15 +196,6 @@ pub record Noting (name : ℕ → List ℕ) (table : List ℕ) (all left : List 
   pub noted : (q : ℕ) → ((getD table q 0 ≡ 0) → ⊥) → twice all ≡ false → among (name (getD table q 0)) left ≡ false
   pub whole : Fresh name table left → twice left ≡ false → twice all ≡ false
 
--- the places in a table
-pub within-blank : (m : ℕ) (table : List ℕ) → Blank table → Within m table
-within-blank m table b q = let z : getD table q 0 ≡ 0 = b q in omega arith
-
-pub within-set : (m : ℕ) (table : List ℕ) (r p : ℕ) → r < length table → p ≤ m → Within m table → Within m (set table r p)
-within-set m table r p h l w q = same? q r
-    (λ c. rw (c, getD-set-same table r p 0 h) l)
-    (λ c. rw (getD-set-other table r q p 0 (eqb-false q r c)) (w q))
-
 pub blank : (n : ℕ) → Blank (replicate n 0)
 blank zero q = refl
 blank (suc n) zero = refl
@@ -177,32 +225,35 @@ module _ {name : ℕ → List ℕ} {table n : List ℕ} {all left : List (List �
   unfolding twice
   joined a d = rw (a, d)
 
-  -- the name was found in the table, or behind it
-  pub noting-there : (q : ℕ) → ((getD table q 0 ≡ 0) → ⊥) → same n (name (getD table q 0)) ≡ true → twice all ≡ true
-  unfolding among any
-  noting-there q z e = passes _ (λ d.
-      let f : among n (n ∷ left) ≡ false = ap (λ (x : List ℕ). among x (n ∷ left)) (same-is n _ e) ∙ g .noted q z d in
-      never (same-itself n) (neither (same n n) (any (same n) left) f .0))
-
+  -- the name stands behind, among those left
   pub noting-twice : among n left ≡ true → twice all ≡ true
   noting-twice h = passes _ (λ d. never h (once d .0))
 
-  -- the name is new, and cannot be put into the table
-  pub noting-full : inTable name n table ≡ false → among n left ≡ false → Noting name table all left
-  noting-full f h = record {
-    rest = λ d. once d .1;
-    noted = λ q z d. later _ (g .noted q z d);
-    whole = λ w d. g .whole (f, w) (joined h d);
-  }
+  -- what became of the name that is entered
+  module _ {new : List ℕ} where
+    pub noting-seen : Enters name n table new Seen → twice all ≡ true
+    unfolding among any
+    noting-seen (c, z) = passes _ (λ d.
+        let q = slotIn name n table in
+        let e : same n (name (getD table q 0)) ≡ true = slot-there name n table q refl z in
+        let f : among n (n ∷ left) ≡ false = ap (λ (x : List ℕ). among x (n ∷ left)) (same-is n _ e) ∙ g .noted q z d in
+        never (same-itself n) (neither (same n n) (any (same n) left) f .0))
 
-  -- the name is new, and its place was put into the table
-  pub noting-free : (r p : ℕ) → ((p ≡ 0) → ⊥) → name p ≡ n → r ≡ slotIn name n table → r < length table → getD table r 0 ≡ 0 → Noting name (set table r p) all left
-  noting-free r p o k e h z =
-      let i : inTable name n (set table r p) ≡ true = slot-filled name n table r e h p o k in
-      record {
-        rest = λ d. once d .1;
-        noted = λ q y d. same? q r
-            (λ c. rw (c, getD-set-same table r p 0 h, k) (once d .0))
-            (λ c. let w = getD-set-other table r q p 0 (eqb-false q r c) in rw w (later _ (g .noted q (rw w at y) d)));
-        whole = λ f d. g .whole (slot-absent name n table r e z, fresh-before name table r p z left f) (joined (fresh-name name (set table r p) n i left f) d);
-      }
+    pub noting-full : Enters name n table new Full → among n left ≡ false → Noting name new all left
+    noting-full (c, z) h = rw c (record {
+      rest = λ d. once d .1;
+      noted = λ q y d. later _ (g .noted q y d);
+      whole = λ w d. g .whole (slot-absent name n table (slotIn name n table) refl z, w) (joined h d);
+    })
+
+    pub noting-placed : Enters name n table new Placed → Noting name new all left
+    noting-placed (p, o, k, h, z, c) =
+        let r = slotIn name n table in
+        let i : inTable name n (set table r p) ≡ true = slot-filled name n table r refl h p o k in
+        rw c (record {
+          rest = λ d. once d .1;
+          noted = λ q y d. same? q r
+              (λ e. rw (e, getD-set-same table r p 0 h, k) (once d .0))
+              (λ e. let w = getD-set-other table r q p 0 (eqb-false q r e) in rw w (later _ (g .noted q (rw w at y) d)));
+          whole = λ f d. g .whole (slot-absent name n table r refl z, fresh-before name table r p z left f) (joined (fresh-name name (set table r p) n i left f) d);
+        })

@@ -6,7 +6,7 @@ use lib.Dec.{eqb, leb}
 use Rattle.octets.specs.Basics.{_and_, _or_}
 use Rattle.octets.specs.Classes.{isDigit, nameOctet, lowerNameOctet, plainOctet, textOctet, isSpace, upperOctet, lowerOctet}
 use Rattle.octets.specs.declared.names.Class.{Class}
-use Rattle.octets.specs.declared.names.Class.the-variants.{Digit, Name, LowerName, Plain, Text, Space, Unescaped, AsIs}
+use Rattle.octets.specs.declared.names.Class.the-variants.{Digit, Name, LowerName, Plain, Text, Space, Unescaped, AsIs, TextAsIs, Safe, CaretFree, ParamAsIs}
 use Rattle.octets.specs.declared.names.Case.{Case}
 use Rattle.octets.specs.declared.names.Case.the-variants.{Upper, Lower, Exact}
 
@@ -18,6 +18,22 @@ jsonUnescaped c = leb 32 c and not (eqb c (code "\"")) and not (eqb c (code "\\"
 unfoldable pub asIsOctet : ℕ → Bool
 asIsOctet c = not (eqb c (code "\"") or eqb c (code "\\") or eqb c (code "\n") or eqb c (code "\t"))
 
+-- 01, Values: an octet that text and JSON string have alike, as it is
+unfoldable pub textAsIs : ℕ → Bool
+textAsIs c = leb 32 c and not (eqb c (code "\"")) and not (eqb c (code ",")) and not (eqb c (code ";")) and not (eqb c (code "\\")) and not (eqb c 127)
+
+-- RFC 5545 3.1, SAFE-CHAR, where no control character stands: an octet of a parameter value without quotes
+unfoldable pub safeOctet : ℕ → Bool
+safeOctet c = not (eqb c (code ",")) and not (eqb c (code ";")) and not (eqb c (code ":")) and not (eqb c (code "\""))
+
+-- RFC 6868 3.1: an octet that no caret encodes
+unfoldable pub caretFree : ℕ → Bool
+caretFree c = not (eqb c (code "^")) and not (eqb c (code "\"")) and not (eqb c (code "\n"))
+
+-- an octet that parameter value and JSON string have alike, as it is
+unfoldable pub paramAsIs : ℕ → Bool
+paramAsIs c = not (eqb c (code "^")) and asIsOctet c
+
 abbrev pub belongs : Class → ℕ → Bool
 belongs Digit c = isDigit c
 belongs Name c = nameOctet c
@@ -27,6 +43,10 @@ belongs Text c = textOctet c
 belongs Space c = isSpace c
 belongs Unescaped c = jsonUnescaped c
 belongs AsIs c = asIsOctet c
+belongs TextAsIs c = textAsIs c
+belongs Safe c = safeOctet c
+belongs CaretFree c = caretFree c
+belongs ParamAsIs c = paramAsIs c
 
 abbrev pub cased : Case → ℕ → ℕ
 cased Upper c = upperOctet c

@@ -1,12 +1,16 @@
--- A table that finds names again: each slot holds the place of a name, or 0. A name is looked for from its slot on, up to the first slot that is free.
--- `name` says which name stands at a place.
-use Prim.Native.Nat.{ℕ, suc, _+_, _*_, _%_, _≤_}
+-- A table that finds names again: each slot holds both ends of a name, or 0. A name is looked for from its slot on, up to the first slot that is free.
+-- `name` says which name a slot holds.
+use Prim.Native.Nat.{ℕ, suc, _+_, _-_, _*_, _/_, _%_, _<_}
 use mathlib.Core.Path.{_≡_}
 use mathlib.Core.Bool.{Bool, false}
-use mathlib.Core.List.{List, [], _∷_}
-use lib.Dec.{eqb}
-use lib.ListN.{drop, getD}
-use Rattle.octets.specs.Basics.{pick, _or_, same}
+use mathlib.Core.List.{List, [], _∷_, map}
+use lib.Dec.{eqb, ltb, leb}
+use lib.ListN.{length, take, drop, getD, set}
+use Rattle.octets.specs.Basics.{pick, _and_, _or_, same}
+use Rattle.octets.specs.Groups.{cased}
+use Rattle.octets.specs.declared.names.Case.{Case}
+use Rattle.octets.specs.declared.tables.Entry.{Entry}
+use Rattle.octets.specs.declared.tables.Entry.the-variants.{Seen, Placed, Full}
 
 unfoldable pub slotFrom : ℕ → List ℕ → ℕ
 slotFrom h [] = h
@@ -36,6 +40,18 @@ inTable name n table = stands name n (drop (slotOf n) table)
 abbrev pub Blank : List ℕ → Type 0
 Blank table = (q : ℕ) → getD table q 0 ≡ 0
 
--- every place in the table is one of m
-abbrev pub Within : ℕ → List ℕ → Type 0
-Within m table = (q : ℕ) → getD table q 0 ≤ m
+-- what a slot holds for a name with these ends; 0 where they do not fit
+unfoldable pub slotFor : ℕ → ℕ → ℕ
+slotFor from end = pick (leb from end and ltb end 4294967296) (from * 4294967296 + end) 0
+
+-- the name in s that a slot holds, in the case that names compare in
+unfoldable pub nameIn : Case → List ℕ → ℕ → List ℕ
+nameIn case s p = map (cased case) (take (p % 4294967296 - p / 4294967296) (drop (p / 4294967296) s))
+
+-- n is entered into a table: the slot at which its search ends holds it, and nothing changes; or that slot was free and holds it now; or it is free
+-- or there is none, and nothing changes
+abbrev pub Enters : (ℕ → List ℕ) → List ℕ → List ℕ → List ℕ → Entry → Type 0
+Enters name n old new Seen = (new ≡ old) × ((getD old (slotIn name n old) 0 ≡ 0) → ⊥)
+Enters name n old new Placed =
+    (p : ℕ) × ((p ≡ 0) → ⊥) × (name p ≡ n) × (slotIn name n old < length old) × (getD old (slotIn name n old) 0 ≡ 0) × (new ≡ set old (slotIn name n old) p)
+Enters name n old new Full = (new ≡ old) × (getD old (slotIn name n old) 0 ≡ 0)

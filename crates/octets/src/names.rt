@@ -6,7 +6,7 @@ ghost use lib.ListN.{length, take, drop, getD};
 ghost use Rattle.octets.specs.Basics.{_and_, all, same};
 ghost use Rattle.octets.specs.Classes.{between, isDigit, isUpper, isLower, nameOctet, isName, lowerNameOctet, isLowerName, plainOctet, textOctet, isSpace, upperOctet, lowerOctet, upper, lower, sameName, hexDigit};
 ghost use Rattle.octets.specs.Decimal.{digits};
-ghost use Rattle.octets.specs.Groups.{belongs, cased, jsonUnescaped, asIsOctet};
+ghost use Rattle.octets.specs.Groups.{belongs, cased, jsonUnescaped, asIsOctet, textAsIs, safeOctet, caretFree, paramAsIs};
 ghost use Rattle.octets.specs.Pen.{pen, Wrote};
 use crate::writing::put;
 
@@ -20,6 +20,10 @@ pub enum Class {
     Space,
     Unescaped,
     AsIs,
+    TextAsIs,
+    Safe,
+    CaretFree,
+    ParamAsIs,
 }
 
 pub(crate) fn within(lo: u8, hi: u8, c: u8) -> bool
@@ -122,6 +126,40 @@ fn is_as_is(c: u8) -> bool
     }
 }
 
+// Is the same in a text and in a JSON string; with no branch.
+fn is_text_as_is(c: u8) -> bool
+    ensures { λ r. ⌜ r ≡ textAsIs c ⌝ }
+{
+    both(
+        32 <= c,
+        both(
+            c != b'"',
+            both(c != b',', both(c != b';', both(c != b'\\', c != 127))),
+        ),
+    )
+}
+
+// May stand in a parameter value without quotes.
+fn is_safe(c: u8) -> bool
+    ensures { λ r. ⌜ r ≡ safeOctet c ⌝ }
+{
+    both(c != b',', both(c != b';', both(c != b':', c != b'"')))
+}
+
+// Is encoded by no caret.
+fn is_caret_free(c: u8) -> bool
+    ensures { λ r. ⌜ r ≡ caretFree c ⌝ }
+{
+    both(c != b'^', both(c != b'"', c != b'\n'))
+}
+
+// Is the same in a parameter value and in a JSON string.
+fn is_param_as_is(c: u8) -> bool
+    ensures { λ r. ⌜ r ≡ paramAsIs c ⌝ }
+{
+    both(c != b'^', is_as_is(c))
+}
+
 pub fn upper_octet(c: u8) -> u8
     ensures { λ r. ⌜ r ≡ upperOctet c ⌝ }
 {
@@ -182,6 +220,10 @@ impl Class {
             Class::Space => is_space(c),
             Class::Unescaped => is_unescaped(c),
             Class::AsIs => is_as_is(c),
+            Class::TextAsIs => is_text_as_is(c),
+            Class::Safe => is_safe(c),
+            Class::CaretFree => is_caret_free(c),
+            Class::ParamAsIs => is_param_as_is(c),
         }
     }
 }
@@ -258,7 +300,7 @@ pub fn peek(s: &[u8], i: usize) -> u8
 }
 
 // The same octets in one case.
-fn same_in(a: &[u8], b: &[u8], case: Case) -> bool
+pub(crate) fn same_in(a: &[u8], b: &[u8], case: Case) -> bool
     ensures { λ r. ⌜ r ≡ same (map (cased case) (now (a .entry))) (map (cased case) (now (b .entry))) ⌝ }
 {
     if a.len() != b.len() {

@@ -1,6 +1,6 @@
 -- `json::numbers::past_digits` meets its contract.
 use borrow.Author.Needs.{needs}
-use Rattle.json.proofs.Runs.{run-found}
+use Rattle.octets.proofs.Runs.{run-found}
 use Rattle.json.proofs.numbers.past_digits.Statement.{statement}
 use Rattle.json.proofs.numbers.past_digits.Tie as tie
 

@@ -4,7 +4,7 @@ use native.Mathlib.Omega.{arith}
 use denote.Ref.{now}
 use Rattle.json.specs.Numbers.{isExponent}
 use Rattle.json.specs.Promise.{found}
-use Rattle.json.proofs.Runs.{inside-is}
+use Rattle.octets.proofs.Runs.{inside-is}
 use Rattle.json.proofs.NumberLaws.{exponent-is, exponent-none, found-by}
 use borrow.Author.Needs.{needs}
 use Rattle.json.proofs.numbers.past_exponent.Statement.{statement}

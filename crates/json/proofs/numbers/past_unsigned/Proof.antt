@@ -3,7 +3,7 @@ use mathlib.Core.Path.{sym, _∙_}
 use native.Mathlib.Omega.{arith}
 use denote.Ref.{now}
 use Rattle.json.specs.Promise.{missing}
-use Rattle.json.proofs.Runs.{inside-is}
+use Rattle.octets.proofs.Runs.{inside-is}
 use Rattle.json.proofs.NumberLaws.{unsigned-zero, unsigned-none, unsigned-some, found-by}
 use borrow.Author.Needs.{needs}
 use Rattle.json.proofs.numbers.past_unsigned.Statement.{statement}

@@ -1,6 +1,6 @@
 -- `json::quoting::past_bare` meets its contract.
 use borrow.Author.Needs.{needs}
-use Rattle.json.proofs.Runs.{run-found}
+use Rattle.octets.proofs.Runs.{run-found}
 use Rattle.json.proofs.quoting.past_bare.Statement.{statement}
 use Rattle.json.proofs.quoting.past_bare.Tie as tie
 

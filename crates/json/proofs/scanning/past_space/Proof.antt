@@ -1,6 +1,6 @@
 -- `json::scanning::past_space` meets its contract.
 use borrow.Author.Needs.{needs}
-use Rattle.json.proofs.Runs.{run-found}
+use Rattle.octets.proofs.Runs.{run-found}
 use Rattle.json.proofs.scanning.past_space.Statement.{statement}
 use Rattle.json.proofs.scanning.past_space.Tie as tie
 

@@ -6,7 +6,7 @@ use lib.ListN.{length, getD}
 use denote.Ref.{now}
 use Rattle.json.specs.Strings.{escapeOf}
 use Rattle.json.specs.Promise.{read, not-json}
-use Rattle.json.proofs.Runs.{inside-is}
+use Rattle.octets.proofs.Runs.{inside-is}
 use Rattle.json.proofs.Agreements.{agrees-by}
 use Rattle.json.proofs.StringLaws.{escape-unicode, escape-none, escape-inside, escape-one}
 use borrow.Author.Needs.{needs}

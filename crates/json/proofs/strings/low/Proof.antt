@@ -4,7 +4,7 @@ use native.Mathlib.Omega.{arith}
 use borrow.Author.Tests.{ne-eqb, eq-eqb}
 use denote.Ref.{now}
 use Rattle.octets.proofs.Classes.{within-between, below-between, above-between}
-use Rattle.json.proofs.Runs.{inside-is}
+use Rattle.octets.proofs.Runs.{inside-is}
 use Rattle.json.proofs.StringLaws.{low-at, low-of}
 use borrow.Author.Needs.{needs}
 use Rattle.json.proofs.strings.low.Statement.{statement}

@@ -1,6 +1,6 @@
 -- `json::strings::past_unescaped` meets its contract.
 use borrow.Author.Needs.{needs}
-use Rattle.json.proofs.Runs.{run-found}
+use Rattle.octets.proofs.Runs.{run-found}
 use Rattle.json.proofs.strings.past_unescaped.Statement.{statement}
 use Rattle.json.proofs.strings.past_unescaped.Tie as tie
 

@@ -8,7 +8,7 @@ use Rattle.octets.specs.Pen.{pen}
 use Rattle.octets.specs.Groups.{jsonUnescaped}
 use Rattle.json.specs.Strings.{escape as escapeText, string as stringOf}
 use Rattle.json.specs.Tape.{serText}
-use Rattle.json.proofs.Runs.{run-next, inside-is}
+use Rattle.octets.proofs.Runs.{run-next, inside-is}
 use Rattle.json.proofs.Agreements.{HasRead, was-read, agrees-behind, Going, going-start}
 use Rattle.json.proofs.Texts.{text-run, text-close, text-none, text-fails, text-escape}
 use borrow.Author.Needs.{needs}

@@ -13,7 +13,7 @@ use Rattle.json.specs.Reader.{openingOf, memberKey, pair, valueWithin}
 use Rattle.json.specs.Tape.{serString, ser}
 use Rattle.json.specs.Promise.{Agrees, too-deep}
 use Rattle.json.specs.declared.Step.{Step}
-use Rattle.json.proofs.Runs.{inside-is}
+use Rattle.octets.proofs.Runs.{inside-is}
 use Rattle.json.proofs.Agreements.{HasRead, was-read, agrees-by, Going, going-start}
 use Rattle.json.proofs.Tapes.{serList, serPair}
 use Rattle.json.proofs.Elements.{several, group-none, group-some, element-fails, element-more, element-close, pair-agrees, pair-fails}

@@ -9,7 +9,7 @@ use Rattle.octets.specs.Pen.{pen}
 use Rattle.json.specs.Strings.{string as stringOf}
 use Rattle.json.specs.Tape.{serString}
 use Rattle.json.specs.Promise.{read, not-json}
-use Rattle.json.proofs.Runs.{inside-is}
+use Rattle.octets.proofs.Runs.{inside-is}
 use Rattle.json.proofs.Agreements.{HasRead, was-read, agrees-by, agrees-fails}
 use Rattle.json.proofs.ValueLaws.{key-none, key-quote, key-bare, key-read}
 use borrow.Author.Needs.{needs}

@@ -1,42 +1,20 @@
--- Runs of octets of a class: what a loop that looks for a run's end keeps, and what a run tells.
+-- Runs of octets of a class: what the search for a run's end tells of it, and a reading over it.
 use Prim.Native.Nat.{ℕ, suc, _+_, _-_, _≤_, _<_}
 use mathlib.Core.Path.{_≡_, refl, ap, _∙_}
 use mathlib.Core.Bool.{Bool, true, false, not}
 use mathlib.Core.List.{List, [], _∷_, _++_}
 use native.Mathlib.Omega.{arith}
 use lib.ListN.{length, take, drop, getD}
 use Rattle.octets.specs.Basics.{all}
-use Rattle.octets.specs.Search.{until}
+use Rattle.octets.specs.Search.{until, ClassRun}
 use lib.Dec.{eqb, ltb}
 use borrow.Author.Tests.{ltb-true, ltb-false, eq-eqb, ne-eqb, not-true, not-false}
 use Rattle.octets.proofs.Cases.{cases, never, both, and-true, all-append, All-weaker, All-all}
 use Rattle.octets.proofs.Positions.{here, ended, part-rest, part-more, past-end}
 use Rattle.octets.proofs.Search.{until-free, scan-low, scan-high, scan-is, scan-stop}
-use Rattle.json.specs.Promise.{Passed, Run}
-
-module _ {class : ℕ → Bool} {text : List ℕ} {at : ℕ} where
-  pub passed-none : at ≤ length text → Passed class text at at
-  unfolding all
-  passed-none h =
-      let e : at - at ≡ 0 = omega arith in
-      record { above = omega arith; below = h; inside = rw e }
-
-  pub passed-more : {i : ℕ} → Passed class text at i → i < length text → class (getD text i 0) ≡ true → Passed class text at (i + 1)
-  unfolding all
-  passed-more {i} p h e = record {
-    above = omega arith;
-    below = omega arith;
-    inside = ap (all class) (part-more text at i (p .above) h) ∙ all-append class (take (i - at) (drop at text)) (getD text i 0 ∷ []) ∙ and-true (p .inside) (rw e);
-  }
-
-  pub run-over : {i : ℕ} → Passed class text at i → class (getD text i 0) ≡ false → Run class text at i
-  run-over p e = record { above = p .above; below = p .below; inside = p .inside; over = λ h. e }
-
-  pub run-end : {i : ℕ} → Passed class text at i → length text ≤ i → Run class text at i
-  run-end p h = record { above = p .above; below = p .below; inside = p .inside; over = λ l. absurd (omega arith) }
 
 -- what the search for a run's end answers
-pub run-found : {class : ℕ → Bool} (text : List ℕ) (at r : ℕ) → at ≤ length text → r ≡ at + length (until (λ c. not (class c)) (drop at text)) → Run class text at r
+pub run-found : {class : ℕ → Bool} (text : List ℕ) (at r : ℕ) → at ≤ length text → r ≡ at + length (until (λ c. not (class c)) (drop at text)) → ClassRun class text at r
 run-found {class} text at r h q =
     let off : ℕ → Bool = λ c. not (class c) in
     record {
@@ -56,15 +34,15 @@ unfolding all
 through R f [] ys h = refl
 through {class = class} R f (x ∷ xs) ys h = let b = both (class x) (all class xs) h in f x (xs ++ ys) (b .0) ∙ through R f xs ys (b .1)
 
-pub run-passes : {X : Type 0} {class : ℕ → Bool} {text : List ℕ} {at r : ℕ} (R : List ℕ → X) → ((b : ℕ) (s : List ℕ) → class b ≡ true → R (b ∷ s) ≡ R s) → Run class text at r → R (drop at text) ≡ R (drop r text)
+pub run-passes : {X : Type 0} {class : ℕ → Bool} {text : List ℕ} {at r : ℕ} (R : List ℕ → X) → ((b : ℕ) (s : List ℕ) → class b ≡ true → R (b ∷ s) ≡ R s) → ClassRun class text at r → R (drop at text) ≡ R (drop r text)
 run-passes {text = text} {at} {r} R f w = ap R (part-rest text at r (w .above)) ∙ through R f (take (r - at) (drop at text)) (drop r text) (w .inside)
 
 module _ {class : ℕ → Bool} {text : List ℕ} {at r : ℕ} where
   -- behind the end stands 0
-  pub run-next : class 0 ≡ false → Run class text at r → class (getD text r 0) ≡ false
+  pub run-next : class 0 ≡ false → ClassRun class text at r → class (getD text r 0) ≡ false
   run-next z w = cases (ltb r (length text)) (λ e. w .over (ltb-true r (length text) e)) (λ e. ap class (past-end text r (ltb-false r (length text) e)) ∙ z)
 
-  run-split : Run class text at r → at < r → (class (getD text at 0) ≡ true) × (all class (take (r - (at + 1)) (drop (at + 1) text)) ≡ true)
+  run-split : ClassRun class text at r → at < r → (class (getD text at 0) ≡ true) × (all class (take (r - (at + 1)) (drop (at + 1) text)) ≡ true)
   unfolding all
   run-split w h =
       let e : r - at ≡ suc (r - (at + 1)) = omega arith in
@@ -72,10 +50,10 @@ module _ {class : ℕ → Bool} {text : List ℕ} {at r : ℕ} where
       let s : take (r - at) (drop at text) ≡ getD text at 0 ∷ take (r - (at + 1)) (drop (at + 1) text) = rw (e, here text at l) in
       both (class (getD text at 0)) (all class (take (r - (at + 1)) (drop (at + 1) text))) (rw s at (w .inside))
 
-  pub run-first : Run class text at r → at < r → class (getD text at 0) ≡ true
+  pub run-first : ClassRun class text at r → at < r → class (getD text at 0) ≡ true
   run-first w h = run-split w h .0
 
-  pub run-rest : Run class text at r → at < r → Run class text (at + 1) r
+  pub run-rest : ClassRun class text at r → at < r → ClassRun class text (at + 1) r
   run-rest w h = record { above = omega arith; below = w .below; inside = run-split w h .1; over = w .over }
 
 -- an octet that the end is not taken for stands inside the text
