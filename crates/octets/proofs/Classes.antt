@@ -5,14 +5,14 @@ use mathlib.Core.Path.{_≡_, refl, sym, ap, _∙_}
 use mathlib.Core.Bool.{Bool, true, false}
 use mathlib.Core.List.{List, [], _∷_, map, map-id}
 use native.Mathlib.Omega.{arith}
-use borrow.Author.Tests.{le-leb, lt-leb, leb-true, eq-eqb, ne-eqb, eqb-true}
+use borrow.Author.Tests.{le-leb, lt-leb, leb-true, eq-eqb, ne-eqb, eqb-true, eqb-false}
 use lib.Dec.{eqb, leb}
 use lib.ListN.{length, getD, drop}
 use Rattle.octets.specs.Basics.{_and_, _or_, all, filled, same}
 use Rattle.octets.specs.Classes.{between, isDigit, isUpper, isLower, isLetter, nameOctet, isName, lowerNameOctet, isLowerName, plainOctet, textOctet, upperOctet, lowerOctet, upper, lower, sameName}
 use Rattle.octets.specs.Groups.{cased}
 use Rattle.octets.specs.declared.names.Case.the-variants.{Exact}
-use Rattle.octets.proofs.Cases.{cases, same?, never, both, either, or-first, and-true, and-assoc, and-true-right, all-weaker}
+use Rattle.octets.proofs.Cases.{cases, same?, never, both, either, or-first, and-true, and-assoc, and-true-right, and-false-right, all-weaker}
 use Rattle.octets.proofs.Positions.{here, ended}
 
 -- lo ≤ c ≤ hi, told by the test
@@ -53,6 +53,18 @@ module _ (p : ℕ → Bool) (s : List ℕ) (i : ℕ) where
 
   pub all-done : (so-far : Bool) → length s ≤ i → (so-far and all p (drop i s)) ≡ so-far
   all-done so-far h = rw (all-end h) (and-true-right so-far)
+
+  -- n elements of those before i passed the test
+  count-next : (n : ℕ) → eqb (n + 1) (i + 1) ≡ eqb n i
+  count-next n = same? n i (λ e. rw e (eq-eqb (i + 1) (i + 1) refl ∙ sym (eq-eqb i i refl))) (λ e. ne-eqb (n + 1) (i + 1) (λ z. eqb-false n i e (omega arith)) ∙ sym e)
+
+  pub count-in : (n : ℕ) → i < length s → p (getD s i 0) ≡ true → (eqb (n + 1) (i + 1) and all p (drop (i + 1) s)) ≡ (eqb n i and all p (drop i s))
+  unfolding all
+  count-in n h e = rw (here s i h, e, count-next n)
+
+  pub count-out : (n : ℕ) → n ≤ i → i < length s → p (getD s i 0) ≡ false → (eqb n (i + 1) and all p (drop (i + 1) s)) ≡ (eqb n i and all p (drop i s))
+  unfolding all
+  count-out n l h e = rw (here s i h, e, ne-eqb n (i + 1) (λ z. omega arith)) (sym (and-false-right (eqb n i)))
 
 -- a slice of length 0 and any other
 pub filled-none : (s : List ℕ) → length s ≡ 0 → filled s ≡ false

@@ -236,7 +236,7 @@ pub fn both(a: bool, b: bool) -> bool
 }
 
 // Each octet is of the class. The loop has no way out on the way, so that many octets are tested at once.
-pub(crate) fn all_in(s: &[u8], class: Class) -> bool
+fn all_in(s: &[u8], class: Class) -> bool
     ensures { λ r. ⌜ r ≡ all (belongs class) (now (s .entry)) ⌝ }
 {
     let mut so_far = true;

@@ -8,7 +8,6 @@ ghost use Rattle.octets.specs.Basics.{all};
 ghost use Rattle.octets.specs.Groups.{belongs};
 ghost use Rattle.octets.specs.Search.{until, Sought};
 use crate::names::Class;
-use crate::names::all_in;
 use crate::names::both;
 
 // Octets that are looked at together.
@@ -154,7 +153,22 @@ pub fn run_end(s: &[u8], at: usize, class: Class) -> usize
     i
 }
 
-// The same, for runs that are long: whole blocks first.
+// Each octet of a block is of the class. They are counted, since a compiler then looks at all of them together, however many tests the class has.
+fn is_block_of(s: &[u8], class: Class) -> bool
+    ensures { λ r. ⌜ r ≡ all (belongs class) (now (s .entry)) ⌝ }
+{
+    let mut n: usize = 0;
+    let mut i = 0;
+    while i < s.len() {
+        if class.has(s[i]) {
+            n += 1;
+        }
+        i += 1;
+    }
+    n == s.len()
+}
+
+// The end of the octets of the class from `at` on, for runs that are long: whole blocks first.
 pub fn long_run_end(s: &[u8], at: usize, class: Class) -> usize
     ensures { λ r. ⌜ r ≡ at + length (until (λ c. not (belongs class c)) (drop at (now (s .entry)))) ⌝ }
 {
@@ -164,7 +178,7 @@ pub fn long_run_end(s: &[u8], at: usize, class: Class) -> usize
         if n - i < BLOCK {
             return run_end(&*s, i, class);
         }
-        if !all_in(&s[i..i + BLOCK], class) {
+        if !is_block_of(&s[i..i + BLOCK], class) {
             return run_end(&*s, i, class);
         }
         i += BLOCK;

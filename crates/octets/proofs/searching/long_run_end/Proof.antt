@@ -26,7 +26,7 @@ returns-2 c = c .run-end2 .ensures ∙ c .before .before .before .before .before
 
 loop-again : tie.Need-loop-again Inv-loop μ-loop
 loop-again c =
-    run-past (belongs (c .before .before .before .before .before .before .before .args .class)) (c .before .before .before .before .before .before .before .args .s .now) (c .before .before .before .before .before .loop .i) _ (omega arith) (omega arith) (sym (c .before .all-in .ensures) ∙ not-false _ (c .if2 .left))
+    run-past (belongs (c .before .before .before .before .before .before .before .args .class)) (c .before .before .before .before .before .before .before .args .s .now) (c .before .before .before .before .before .loop .i) _ (omega arith) (omega arith) (sym (c .before .is-block-of .ensures) ∙ not-false _ (c .if2 .left))
     ∙ c .before .before .before .before .before .loop .inv
 
 returns-3 : tie.Need-returns-3 Inv-loop μ-loop
