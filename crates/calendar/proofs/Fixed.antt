@@ -20,20 +20,20 @@ use Rattle.calendar.specs.Texts.{formOf, formIs, formText, octetsIn, tex
 pub use Rattle.calendar.specs.Texts.{formFor}
 use Rattle.calendar.specs.declared.texts.Form.{Form}
 use Rattle.calendar.specs.declared.texts.Form.the-variants.{Date, Time, DateTime, Offset}
-use Rattle.calendar.specs.declared.texts.Text.{Text}
+use Rattle.calendar.specs.declared.texts.ShortText.{ShortText}
 use Rattle.calendar.proofs.Extended.{width, read-by-length, fits-by-length, basic-front}
 use Rattle.calendar.proofs.Slots.{whole-text}
 
 -- what a text of some length says
-pub says-none : (t : Text) → t .len ≡ 0 → textSaid t ≡ none
+pub says-none : (t : ShortText) → t .len ≡ 0 → textSaid t ≡ none
 unfolding textSaid
 says-none t e = rw (eq-eqb (t .len) 0 e)
 
-pub says-some : (t : Text) → (t .len ≡ 0 → ⊥) → textSaid t ≡ some (octetsIn t)
+pub says-some : (t : ShortText) → (t .len ≡ 0 → ⊥) → textSaid t ≡ some (octetsIn t)
 unfolding textSaid
 says-some t n = rw (ne-eqb (t .len) 0 n)
 
-pub says-any : (t : Text) → isSome (textSaid t) ≡ not (eqb (t .len) 0)
+pub says-any : (t : ShortText) → isSome (textSaid t) ≡ not (eqb (t .len) 0)
 unfolding textSaid isSome
 says-any t = at (eqb (t .len) 0)
   where
@@ -126,15 +126,15 @@ unfolding shape
 shape-places whole f s b e = places-form f b ∙ sym (ap (λ n. formFor f (leb (longFrom whole f) n)) (upper-length s) ∙ ap (formFor f) e)
 
 -- what a text says that was read by its places, and what one carries that was written by them
-pub read-by : (whole b : Bool) (f : Form) (s : List ℕ) → leb (longFrom whole f) (length s) ≡ b → {g : Form} → g ≡ f → {t : Text}
+pub read-by : (whole b : Bool) (f : Form) (s : List ℕ) → leb (longFrom whole f) (length s) ≡ b → {g : Form} → g ≡ f → {t : ShortText}
     → Says t (extended (slots whole (places f b)) (upper s)) → Says t (shaped whole g (upper s))
 read-by whole b f s e i r = rw i (record { text = r .text ∙ reads-shape whole f (places f b) (upper s) (shape-places whole f s b e); room = r .room })
 
-pub written-by : (f : Form) (s : List ℕ) {g : Form} → g ≡ f → {t : Text} → Carries t (basic (slots false (places f true)) (upper s)) → Carries t (formText g (upper s))
+pub written-by : (f : Form) (s : List ℕ) {g : Form} → g ≡ f → {t : ShortText} → Carries t (basic (slots false (places f true)) (upper s)) → Carries t (formText g (upper s))
 written-by f s i r = rw i (record { octets = r .octets ∙ ap (λ g. basic g (upper s)) (places-form f true) ∙ sym (form-text f (upper s)); room = r .room })
 
 -- a text that is read passes the test of its numbers, or there is none; a text that fails it is taken back
-pub passes : (whole : Bool) (f : Form) (s : List ℕ) (t : Text) → Says t (shaped whole f s) → ((t .len ≡ 0 → ⊥) → numbersIn f (octetsIn t) ≡ true) → Says t (readForm whole f s)
+pub passes : (whole : Bool) (f : Form) (s : List ℕ) (t : ShortText) → Says t (shaped whole f s) → ((t .len ≡ 0 → ⊥) → numbersIn f (octetsIn t) ≡ true) → Says t (readForm whole f s)
 unfolding readForm guard when
 passes whole f s t r p = record { text = go (eqb (t .len) 0) refl; room = r .room }
   where
@@ -147,7 +147,7 @@ passes whole f s t r p = record { text = go (eqb (t .len) 0) refl; room = r .roo
         let h = says-some t n in
         h ∙ sym (ap (guard (numbersIn f)) (sym (r .text) ∙ h) ∙ rw (p n))
 
-pub fails : (whole : Bool) (f : Form) (s o : List ℕ) (t : Text) → Says t (shaped whole f s) → numbersIn f (octetsIn t) ≡ false
+pub fails : (whole : Bool) (f : Form) (s o : List ℕ) (t : ShortText) → Says t (shaped whole f s) → numbersIn f (octetsIn t) ≡ false
     → Says (record { octets = o; len = 0 }) (readForm whole f s)
 unfolding readForm guard when
 fails whole f s o t r p = record { text = says-none _ refl ∙ sym (go (eqb (t .len) 0) refl); room = omega arith }

@@ -29,7 +29,7 @@ use Rattle.calendar.specs.declared.rules.Frequency.the-variants.{Yearly}
 use Rattle.calendar.specs.declared.rules.Weekday.the-variants.{Monday}
 use Rattle.calendar.specs.declared.rules.End.{End}
 use Rattle.calendar.specs.declared.rules.End.the-variants.{Count, Until, Open}
-use Rattle.calendar.specs.declared.rules.Head.{Head}
+use Rattle.calendar.specs.declared.rules.RuleHead.{RuleHead}
 use Rattle.octets.proofs.Optional.{when-is, guard-is}
 use Rattle.calendar.proofs.Options.{map-is, or-none}
 use Rattle.calendar.proofs.Words.{same-turned}
@@ -279,7 +279,7 @@ module _ (ps : List Part) (p : Part) (i : ℕ) (v : List ℕ) (h : i < 14) (name
   head-step clash = rw (frequency-step, interval-step, end-step clash, wkst-step)
 
 -- The parts that were read of `all`, what is left of it, which keys there were, and what they say.
-pub record Gathered (all left : Option (List Part)) (seen : List Bool) (head : Head) : Type 0 where
+pub record Gathered (all left : Option (List Part)) (seen : List Bool) (head : RuleHead) : Type 0 where
   pub parts : List Part
   pub whole : all ≡ map? (λ qs. parts ++ qs) left
   pub once : twice (names parts) ≡ false
@@ -302,7 +302,7 @@ gathered-none all = record {
     by (some qs) = unfold map? in refl
 
 -- what a key's place tells of the parts so far
-module _ {all left : Option (List Part)} {seen : List Bool} {head : Head} (g : Gathered all left seen head) where
+module _ {all left : Option (List Part)} {seen : List Bool} {head : RuleHead} (g : Gathered all left seen head) where
   marked : (i : ℕ) → i < 14 → getD seen i false ≡ among (nameAt i) (names (g .parts))
   marked i h = rw (g .marks) (present-at (g .parts) i h)
 
@@ -324,7 +324,7 @@ alone-by false false true b e f g h = h refl
 alone-by false false false b e f g h = refl
 
 -- a part more, with the key at i
-module _ {all : Option (List Part)} {seen : List Bool} {head : Head} (left : Option (List Part)) (p : Part) (i : ℕ) (v : List ℕ) (h : i < 14)
+module _ {all : Option (List Part)} {seen : List Bool} {head : RuleHead} (left : Option (List Part)) (p : Part) (i : ℕ) (v : List ℕ) (h : i < 14)
     (g : Gathered all (both? _∷_ (some p) left) seen head) (read : keyedPart (upper v) (keyAt i) ≡ some p) (free : barred seen i ≡ false) where
   named : p .name ≡ nameAt i
   unfolding keyedPart
@@ -361,11 +361,11 @@ module _ {all : Option (List Part)} {seen : List Bool} {head : Head} (left : Opt
     once = ap twice (names-one (g .parts) p) ∙ twice-more (names (g .parts)) (p .name) ∙ or-false (g .once) (ap (λ (n : List ℕ). among n (names (g .parts))) named ∙ unseen);
     alone = alone-still;
     marks = ap (λ (l : List Bool). set l i true) (g .marks) ∙ sym (present-more (g .parts) p i h named);
-    says = ap (λ (x : Head). withPart x i v) (g .says) ∙ sym (head-step (g .parts) p i v h named unseen read no-count);
+    says = ap (λ (x : RuleHead). withPart x i v) (g .says) ∙ sym (head-step (g .parts) p i v h named unseen read no-count);
   }
 
 -- nothing can be read behind the parts so far
-pub gathered-lost : {all : Option (List Part)} {seen : List Bool} {head : Head} → Gathered all none seen head → guard isRule all ≡ none
+pub gathered-lost : {all : Option (List Part)} {seen : List Bool} {head : RuleHead} → Gathered all none seen head → guard isRule all ≡ none
 unfolding map? guard
 gathered-lost g = rw (g .whole)
 
@@ -387,7 +387,7 @@ seen-before n ps p qs e = ap (among n) (names-more ps p qs) ∙ among-append n (
 seen-now : (n : List ℕ) (ps : List Part) (p : Part) (qs : List Part) → p .name ≡ n → among n (names (ps ++ p ∷ qs)) ≡ true
 seen-now n ps p qs e = ap (among n) (names-more ps p qs) ∙ among-there n (names ps) (p .name) (names qs) (sym e)
 
-module _ {all : Option (List Part)} {seen : List Bool} {head : Head} (o : Option Part) (left : Option (List Part)) (i : ℕ) (h : i < 14)
+module _ {all : Option (List Part)} {seen : List Bool} {head : RuleHead} (o : Option Part) (left : Option (List Part)) (i : ℕ) (h : i < 14)
     (g : Gathered all (both? _∷_ o left) seen head) (named : (p : Part) → o ≡ some p → p .name ≡ nameAt i) (stop : barred seen i ≡ true) where
   no-rule : (p : Part) (qs : List Part) → p .name ≡ nameAt i → isRule (g .parts ++ p ∷ qs) ≡ false
   unfolding barred keyAt keys
@@ -408,7 +408,7 @@ module _ {all : Option (List Part)} {seen : List Bool} {head : Head} (o : Option
       by (some p) (some qs) n = unfold both? map? guard when in (rw (no-rule p qs (n p refl)))
 
 -- all parts are read
-module _ {all : Option (List Part)} {seen : List Bool} {head : Head} (g : Gathered all (some []) seen head) where
+module _ {all : Option (List Part)} {seen : List Bool} {head : RuleHead} (g : Gathered all (some []) seen head) where
   every : all ≡ some (g .parts)
   unfolding map?
   every = g .whole ∙ ap some (append-nil (g .parts))

@@ -19,7 +19,7 @@ use Rattle.calendar.specs.Walk.{keyAt, firstPart}
 use Rattle.calendar.specs.Rules.{ruleFrom, readRule}
 use Rattle.calendar.specs.Reading.{valuesStand, withPart, barred, mayFollow, ruleRead}
 use Rattle.calendar.specs.declared.parts.PartAt.{PartAt}
-use Rattle.calendar.specs.declared.rules.Head.{Head}
+use Rattle.calendar.specs.declared.rules.RuleHead.{RuleHead}
 use Rattle.calendar.proofs.Options.{map-is, some-map}
 use Rattle.calendar.proofs.Keys.{key-count}
 use Rattle.calendar.proofs.RuleParts.{readParts, partFound, first-more, first-last, first-from, first-to}
@@ -97,7 +97,7 @@ module _ (s : List ℕ) (at : ℕ) (q : PartAt) (is : q ≡ firstPart (take (len
   abbrev value : List ℕ
   value = take (q .to - q .from) (drop (q .from) (take (length s - at) (drop at s)))
 
-  module _ (seen : List Bool) (head : Head) (g : Gathered (readParts (upper s)) (readParts (upper (drop at s))) seen head) where
+  module _ (seen : List Bool) (head : RuleHead) (g : Gathered (readParts (upper s)) (readParts (upper (drop at s))) seen head) where
     lost : partFound (drop at s) q ≡ none → none ≡ readRule s
     unfolding both?
     lost e = no-rule s (cases (ltb (q .to) (length (take (length s - at) (drop at s))))

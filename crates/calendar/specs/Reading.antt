@@ -20,7 +20,7 @@ use Rattle.calendar.specs.declared.rules.Weekday.the-variants.{Monday}
 use Rattle.calendar.specs.declared.rules.End.{End}
 use Rattle.calendar.specs.declared.rules.End.the-variants.{Count, Until, Open}
 use Rattle.calendar.specs.declared.rules.ByParts.{ByParts}
-use Rattle.calendar.specs.declared.rules.Head.{Head}
+use Rattle.calendar.specs.declared.rules.RuleHead.{RuleHead}
 use Rattle.calendar.specs.declared.rules.Rule.{Rule}
 
 -- the values of a part stand, and there is one only where there may not be several
@@ -28,7 +28,7 @@ unfoldable pub valuesStand : PartSort → List ℕ → Bool
 valuesStand sort v = isSome (guard (λ vs. several sort or single vs) (each (itemOf sort) (split (code ",") (upper v))))
 
 -- what parts say, but for the BY parts
-unfoldable pub headFrom : List Part → Head
+unfoldable pub headFrom : List Part → RuleHead
 headFrom ps = record {
   frequency = frequencyOf (given [] (λ v. v) (valueNamed (octets "FREQ") ps));
   interval = given 1 valueOf (valueNamed (octets "INTERVAL") ps);
@@ -45,7 +45,7 @@ unfoldable pub lastOf : List ℕ → End
 lastOf v = given Open Until (readMoment v)
 
 -- one part more, with the key at a place and the value v, letters in either case
-unfoldable pub withPart : Head → ℕ → List ℕ → Head
+unfoldable pub withPart : RuleHead → ℕ → List ℕ → RuleHead
 withPart h k v = record {
   frequency = pick (eqb k 0) (frequencyOf (upper v)) (h .frequency);
   interval = pick (eqb k 3) (counted v) (h .interval);
@@ -75,7 +75,7 @@ bySeen seen = record {
 }
 
 -- all parts are read: FREQ was there
-unfoldable pub ruleRead : Head → List Bool → Option Rule
+unfoldable pub ruleRead : RuleHead → List Bool → Option Rule
 ruleRead h seen = when (getD seen 0 false) (record {
   frequency = h .frequency;
   interval = h .interval;

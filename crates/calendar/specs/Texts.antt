@@ -15,7 +15,7 @@ use Rattle.calendar.specs.declared.moments.Kind.{Kind}
 use Rattle.calendar.specs.declared.moments.Kind.the-variants.{Day, Local, Utc}
 use Rattle.calendar.specs.declared.texts.Form.{Form}
 use Rattle.calendar.specs.declared.texts.Form.the-variants.{Date, Time, DateTime, Offset}
-use Rattle.calendar.specs.declared.texts.Text.{Text}
+use Rattle.calendar.specs.declared.texts.ShortText.{ShortText}
 
 -- what is read, tested and written, by the form
 abbrev pub formOf : Form → List ℕ → Option (List ℕ)
@@ -37,18 +37,18 @@ formText DateTime t = dateTimeText t
 formText Offset t = offsetText t
 
 -- the octets of a text, and the text if there is one
-abbrev pub octetsIn : Text → List ℕ
+abbrev pub octetsIn : ShortText → List ℕ
 octetsIn t = take (t .len) (t .octets)
 
-unfoldable pub textSaid : Text → Option (List ℕ)
+unfoldable pub textSaid : ShortText → Option (List ℕ)
 textSaid t = pick (eqb (t .len) 0) none (some (octetsIn t))
 
 -- t says the text r, or that there is none; t carries the octets xs
-pub record Says (t : Text) (r : Option (List ℕ)) : Type 0 where
+pub record Says (t : ShortText) (r : Option (List ℕ)) : Type 0 where
   pub text : textSaid t ≡ r
   pub room : t .len ≤ length (t .octets)
 
-pub record Carries (t : Text) (xs : List ℕ) : Type 0 where
+pub record Carries (t : ShortText) (xs : List ℕ) : Type 0 where
   pub octets : octetsIn t ≡ xs
   pub room : t .len ≤ length (t .octets)
 

@@ -75,7 +75,7 @@ pub enum RuleRead {
 }
 
 // A rule while its parts are read, but for the BY parts.
-struct Head {
+struct RuleHead {
     frequency: Frequency,
     interval: u32,
     end: End,
@@ -161,32 +161,32 @@ fn end_with(end: End, key: usize, v: &[u8]) -> End
 }
 
 // One part more, with the key at a place and its value.
-fn with_value(head: Head, key: usize, v: &[u8]) -> Head
+fn with_value(head: RuleHead, key: usize, v: &[u8]) -> RuleHead
     ensures { λ r. ⌜ r ≡ withPart head key (now (v .entry)) ⌝ }
 {
     let frequency = head.frequency;
     let end = head.end;
     let wkst = head.wkst;
     match key {
-        0 => Head {
+        0 => RuleHead {
             frequency: frequency_of(v),
             interval: head.interval,
             end: end,
             wkst: wkst,
         },
-        3 => Head {
+        3 => RuleHead {
             frequency: frequency,
             interval: count_of(v),
             end: end,
             wkst: wkst,
         },
-        13 => Head {
+        13 => RuleHead {
             frequency: frequency,
             interval: head.interval,
             end: end,
             wkst: weekday_of(v),
         },
-        _ => Head {
+        _ => RuleHead {
             frequency: frequency,
             interval: head.interval,
             end: end_with(end, key, v),
@@ -240,7 +240,7 @@ fn by_seen(seen: [bool; 14]) -> ByParts
 }
 
 // The rule of parts that are all read.
-fn rule_of(head: Head, seen: [bool; 14]) -> RuleRead
+fn rule_of(head: RuleHead, seen: [bool; 14]) -> RuleRead
     ensures { λ r. ⌜ ruleSaid r ≡ ruleRead head seen ⌝ }
 {
     if !seen[0] {
@@ -263,7 +263,7 @@ fn rule_of(head: Head, seen: [bool; 14]) -> RuleRead
 pub fn read_rule(s: &[u8]) -> RuleRead
     ensures { λ r. ⌜ ruleSaid r ≡ readRule (now (s .entry)) ⌝ }
 {
-    let mut head = Head {
+    let mut head = RuleHead {
         frequency: Frequency::Yearly,
         interval: 1,
         end: End::Open,

@@ -25,7 +25,7 @@ pub enum Form {
 }
 
 // A short text; length 0 where there is none.
-pub struct Text {
+pub struct ShortText {
     pub octets: [u8; 20],
     pub len: usize,
 }
@@ -60,7 +60,7 @@ fn takes(c: u8, x: u8) -> bool
 }
 
 // The extended text of a text that has the form.
-fn read(form: &[u8], whole: bool, s: &[u8]) -> Text
+fn read(form: &[u8], whole: bool, s: &[u8]) -> ShortText
     requires { ⌜ (1 ≤ length (now form)) × (length (now form) ≤ 20) ⌝ }
     ensures { λ r. ⌜ Says r (extended (slots whole (now (form .entry))) (upper (now (s .entry)))) ⌝ }
 {
@@ -74,11 +74,11 @@ fn read(form: &[u8], whole: bool, s: &[u8]) -> Text
             k += 1;
         } else {
             if s.len() <= i {
-                return Text { octets: o, len: 0 };
+                return ShortText { octets: o, len: 0 };
             }
             let x = upper_octet(s[i]);
             if !takes(f, x) {
-                return Text { octets: o, len: 0 };
+                return ShortText { octets: o, len: 0 };
             }
             o[k] = x;
             i += 1;
@@ -86,13 +86,13 @@ fn read(form: &[u8], whole: bool, s: &[u8]) -> Text
         }
     }
     if i < s.len() {
-        return Text { octets: o, len: 0 };
+        return ShortText { octets: o, len: 0 };
     }
-    Text { octets: o, len: k }
+    ShortText { octets: o, len: k }
 }
 
 // The basic text of a text in the extended form.
-fn strip(form: &[u8], t: &[u8]) -> Text
+fn strip(form: &[u8], t: &[u8]) -> ShortText
     requires { ⌜ length (now form) ≤ 20 ⌝ }
     ensures { λ r. ⌜ Carries r (basic (slots false (now (form .entry))) (upper (now (t .entry)))) ⌝ }
 {
@@ -101,7 +101,7 @@ fn strip(form: &[u8], t: &[u8]) -> Text
     let mut k = 0;
     while k < form.len() {
         if t.len() <= k {
-            return Text { octets: o, len: n };
+            return ShortText { octets: o, len: n };
         }
         if is_added(false, form[k]) {
             k += 1;
@@ -111,7 +111,7 @@ fn strip(form: &[u8], t: &[u8]) -> Text
             k += 1;
         }
     }
-    Text { octets: o, len: n }
+    ShortText { octets: o, len: n }
 }
 
 // A number with the digit at a place behind it, if the text has one there.
@@ -218,7 +218,7 @@ fn least(whole: bool, extended: usize, basic: usize) -> usize
 }
 
 // The extended text of one that has the form.
-fn shape(form: Form, whole: bool, s: &[u8]) -> Text
+fn shape(form: Form, whole: bool, s: &[u8]) -> ShortText
     ensures { λ r. ⌜ Says r (shaped whole form (upper (now (s .entry)))) ⌝ }
 {
     match form {
@@ -245,7 +245,7 @@ fn shape(form: Form, whole: bool, s: &[u8]) -> Text
 }
 
 // The extended text of one that has the form, and whose numbers are real.
-fn take(form: Form, whole: bool, s: &[u8]) -> Text
+fn take(form: Form, whole: bool, s: &[u8]) -> ShortText
     ensures { λ r. ⌜ Says r (readForm whole form (upper (now (s .entry)))) ⌝ }
 {
     let t = shape(form, whole, &*s);
@@ -257,11 +257,11 @@ fn take(form: Form, whole: bool, s: &[u8]) -> Text
     if numbers_in(form, &o[0..n]) {
         return t;
     }
-    Text { octets: o, len: 0 }
+    ShortText { octets: o, len: 0 }
 }
 
 // The extended text of a text in the basic form.
-pub fn extended(form: Form, s: &[u8]) -> Text
+pub fn extended(form: Form, s: &[u8]) -> ShortText
     ensures { λ r. ⌜ Says r (formOf form (upper (now (s .entry)))) ⌝ }
 {
     take(form, false, s)
@@ -284,7 +284,7 @@ pub fn is_extended(form: Form, t: &[u8]) -> bool
 }
 
 // The basic text of one in the extended form, which may end before the form does.
-pub fn basic(form: Form, t: &[u8]) -> Text
+pub fn basic(form: Form, t: &[u8]) -> ShortText
     ensures { λ r. ⌜ Carries r (formText form (upper (now (t .entry)))) ⌝ }
 {
     match form {
@@ -296,7 +296,7 @@ pub fn basic(form: Form, t: &[u8]) -> Text
 }
 
 // The extended text of a date or a date-time.
-pub fn extended_moment(s: &[u8]) -> Text
+pub fn extended_moment(s: &[u8]) -> ShortText
     ensures { λ r. ⌜ Says r (momentOf (upper (now (s .entry)))) ⌝ }
 {
     let d = extended(Form::Date, s);
@@ -317,7 +317,7 @@ pub fn is_extended_moment(t: &[u8]) -> bool
 }
 
 // Writes a text.
-pub fn put_text(out: &mut [u8], at: usize, t: Text) -> usize
+pub fn put_text(out: &mut [u8], at: usize, t: ShortText) -> usize
     ensures { λ r. ⌜ Wrote (pen (now (out .entry)) at) (octetsIn t) (pen (now (out .exit)) r) ⌝ }
 {
     let o = t.octets;

@@ -38,7 +38,7 @@ use Rattle.ical_recur.specs.Room.{hasRoom}
 use Rattle.ical_recur.proofs.Room.{room}
 use Rattle.ical_values.specs.Valued.{ValuedAs}
 use Rattle.ical_values.specs.declared.Valued.{Valued}
-use Rattle.ical_values.specs.declared.Valued.the-variants.{Wrote, Invalid}
+use Rattle.ical_values.specs.declared.Valued.the-variants.{Written, Invalid}
 use Rattle.conversion_theory.specs.Tree.{Property}
 use Rattle.conversion_theory.specs.Property.{codeOf, manyOf, encodingFits, readAs}
 use Rattle.conversion_theory.specs.Skeleton.{areParameters, isPropertyName, isProperty, paramsFrom, propertyFrom}
@@ -110,12 +110,12 @@ module _ (k : Ruling) (n : List ℕ) where
 
   pub stood : (t s : List ℕ) (i : ℕ) (f : FoldPen) (out : List ℕ) {b : Bool} (r : Valued) → b ≡ (not (k .taken) or isSome (valuesOf n (k .code) (k .many) (firstOctets (listAt t i)))) → b ≡ true
       → length t ≤ length s → ValuedAs (hasRoom t s) (k .many) (sortSaid (k .sort)) t i f out r → ValuesWritten k n t i f out r
-  stood t s i f out (Wrote e q) g h l v = (is-standing (listAt t i) g h (rw (room t s l) at (v .0)), v .1, v .2)
+  stood t s i f out (Written e q) g h l v = (is-standing (listAt t i) g h (rw (room t s l) at (v .0)), v .1, v .2)
   stood t s i f out Invalid g h l v = (is-standing (listAt t i) g h (rw (room t s l) at (v .0)), v .1)
 
   -- by the answer
   module _ (t : List ℕ) (i : ℕ) (f : FoldPen) (out : List ℕ) (r : Valued) (v : ValuesWritten k n t i f out r) where
-    pub stands-told : {e : ℕ} {q : Folder} → r ≡ Wrote e q → ValuesWritten k n t i f out (Wrote e q)
+    pub stands-told : {e : ℕ} {q : Folder} → r ≡ Written e q → ValuesWritten k n t i f out (Written e q)
     stands-told z = rw z at v
 
     pub invalid-told : r ≡ Invalid → ValuesWritten k n t i f out Invalid

@@ -17,7 +17,7 @@ use Rattle.values.specs.Coded.{sortSaid}
 use Rattle.values.specs.Read.{valuesOf}
 use Rattle.values.specs.Write.{valuesAre, valuesText}
 use Rattle.ical_values.specs.declared.Valued.{Valued}
-use Rattle.ical_values.specs.declared.Valued.the-variants.{Wrote, Invalid}
+use Rattle.ical_values.specs.declared.Valued.the-variants.{Written, Invalid}
 use Rattle.conversion_theory.specs.Return.{firstOctets}
 use Rattle.ical_properties.specs.declared.Ruling.{Ruling}
 
@@ -37,5 +37,5 @@ standing k n vs = valuesAre (k .many) (sortSaid (k .sort)) vs and (not (k .taken
 -- the values of the group at i stand, are written behind f and end before e; or they do not stand, and the buffer is as long and as before in front of
 -- the pen, and the code's choice behind
 abbrev pub ValuesWritten : Ruling → List ℕ → List ℕ → ℕ → FoldPen → List ℕ → Valued → Type 0
-ValuesWritten k n t i f out (Wrote e q) = (standing k n (listAt t i) ≡ true) × Folded f (valuesText (sortSaid (k .sort)) (listAt t i)) (folding out q) × Left t i e
+ValuesWritten k n t i f out (Written e q) = (standing k n (listAt t i) ≡ true) × Folded f (valuesText (sortSaid (k .sort)) (listAt t i)) (folding out q) × Left t i e
 ValuesWritten k n t i f out Invalid = (standing k n (listAt t i) ≡ false) × FrontKept (f .pen) out

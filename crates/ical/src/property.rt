@@ -104,7 +104,7 @@ fn convert_property(
     let w = write_stood(out, h, t, &t[a..b], p.values, k, rule);
     match w {
         Valued::Invalid => Conversion::Refused(Refusal::BadValue),
-        Valued::Wrote(e, q) => {
+        Valued::Written(e, q) => {
             let end = end_line(out, q);
             Conversion::Passed(e, end)
         }

@@ -11,8 +11,8 @@ use Rattle.octets.specs.Optional.{isSome}
 use Rattle.types.specs.Codes.{unprocessed, binary, typeName, codeNamed}
 use Rattle.types.specs.Table.{Row}
 use Rattle.types.specs.Laid.{rowFound}
-use Rattle.types.specs.declared.Found.{Found}
-use Rattle.types.specs.declared.Found.the-variants.{Listed, Unlisted}
+use Rattle.types.specs.declared.Lookup.{Lookup}
+use Rattle.types.specs.declared.Lookup.the-variants.{Listed, Unlisted}
 use Rattle.values.specs.Sorts.{sortOf}
 use Rattle.values.specs.Coded.{sortSaid}
 use Rattle.values.specs.declared.sorts.Sort.{Sort}
@@ -27,11 +27,11 @@ abbrev row : ℕ → Bool → Row
 row c m = record { code = c; many = m }
 
 -- what was found
-pub listed : {f : Found} {c : ℕ} {m : Bool} {r : Option Row} → f ≡ Listed c m → rowFound f ≡ r → some (row c m) ≡ r
+pub listed : {f : Lookup} {c : ℕ} {m : Bool} {r : Option Row} → f ≡ Listed c m → rowFound f ≡ r → some (row c m) ≡ r
 unfolding rowFound
 listed e q = rw e at q
 
-pub unlisted : {f : Found} {r : Option Row} → f ≡ Unlisted → rowFound f ≡ r → none ≡ r
+pub unlisted : {f : Lookup} {r : Option Row} → f ≡ Unlisted → rowFound f ≡ r → none ≡ r
 unfolding rowFound
 unlisted e q = rw e at q
 

@@ -1,6 +1,6 @@
 // What a property's row and type say.
 use super::Ruling;
-use types::Found;
+use types::Lookup;
 use types::code_named;
 use types::find;
 use types::is_unknown;
@@ -34,14 +34,14 @@ fn unknown_ruling(rows: &[u8], name: &[u8]) -> Ruling
 {
     let f = find(rows, name);
     match f {
-        Found::Listed(c, m) => Ruling {
+        Lookup::Listed(c, m) => Ruling {
             code: known_code(c),
             many: m,
             sort: Sort::Plain,
             shown: false,
             taken: true,
         },
-        Found::Unlisted => Ruling {
+        Lookup::Unlisted => Ruling {
             code: 0,
             many: true,
             sort: Sort::Plain,
@@ -60,14 +60,14 @@ fn stated_ruling(rows: &[u8], name: &[u8], kind: &[u8]) -> Ruling
     let c = code_named(kind);
     let s = sort_of(name, c);
     match f {
-        Found::Listed(d, m) => Ruling {
+        Lookup::Listed(d, m) => Ruling {
             code: c,
             many: m,
             sort: s,
             shown: d != c,
             taken: false,
         },
-        Found::Unlisted => Ruling {
+        Lookup::Unlisted => Ruling {
             code: c,
             many: true,
             sort: s,

@@ -11,9 +11,9 @@ use Rattle.tape.specs.Decode.{valueAt}
 use Rattle.values.specs.Sorts.{recur}
 use Rattle.values.specs.Write.{valueIs, valueText}
 use Rattle.ical_recur.specs.declared.Ruled.{Ruled}
-use Rattle.ical_recur.specs.declared.Ruled.the-variants.{Wrote, NoRule}
+use Rattle.ical_recur.specs.declared.Ruled.the-variants.{Written, NoRule}
 
 -- the rule at i is written behind f; without room for it there is none
 abbrev pub RuledAs : Bool → List ℕ → ℕ → FoldPen → List ℕ → Ruled → Type 0
-RuledAs room t i f out (Wrote q) = ((room and valueIs recur (valueAt t i)) ≡ true) × Folded f (valueText recur (valueAt t i)) (folding out q)
+RuledAs room t i f out (Written q) = ((room and valueIs recur (valueAt t i)) ≡ true) × Folded f (valueText recur (valueAt t i)) (folding out q)
 RuledAs room t i f out NoRule = ((room and valueIs recur (valueAt t i)) ≡ false) × FrontKept (f .pen) out

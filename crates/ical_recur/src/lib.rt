@@ -10,6 +10,6 @@ pub use writing::fold_integer;
 
 // A rule written, and where the pen stands; or the value is none.
 pub enum Ruled {
-    Wrote(Folder),
+    Written(Folder),
     NoRule,
 }

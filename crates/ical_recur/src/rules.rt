@@ -3,7 +3,7 @@ ghost use Rattle.content.specs.Folding.{folding};
 ghost use Rattle.ical_recur.specs.Room.{hasRoom};
 ghost use Rattle.ical_recur.specs.Ruled.{RuledAs};
 use crate::Ruled;
-use crate::wording::Laid;
+use crate::wording::RuleLaid;
 use crate::wording::lay_members;
 use crate::writing::fold_rule;
 use calendar::rules::is_rule;
@@ -25,12 +25,12 @@ pub fn write_rule(out: &mut [u8], p: Folder, t: &[u8], at: usize, rule: &mut [u8
     }
     let i = after(t, at);
     match lay_members(rule, 0, &*t, i) {
-        Laid::Invalid => Ruled::NoRule,
-        Laid::To(n, _) => {
+        RuleLaid::Invalid => Ruled::NoRule,
+        RuleLaid::To(n, _) => {
             if !is_rule(&rule[0..n]) {
                 return Ruled::NoRule;
             }
-            Ruled::Wrote(fold_rule(out, p, &rule[0..n]))
+            Ruled::Written(fold_rule(out, p, &rule[0..n]))
         }
     }
 }

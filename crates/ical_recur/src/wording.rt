@@ -35,7 +35,7 @@ use tape::text_at;
 const KEYS: usize = 14;
 
 // Where the next octet goes, and the place on the tape that was reached; or it is none of a rule.
-pub enum Laid {
+pub enum RuleLaid {
     To(usize, usize),
     Invalid,
 }
@@ -55,7 +55,7 @@ fn put_string(out: &mut [u8], at: usize, sort: PartSort, s: &[u8]) -> usize
 }
 
 // Tests and writes the value at i.
-fn lay_item(out: &mut [u8], at: usize, t: &[u8], i: usize, sort: PartSort) -> Laid
+fn lay_item(out: &mut [u8], at: usize, t: &[u8], i: usize, sort: PartSort) -> RuleLaid
     ensures { λ r. ⌜ LaidAs (itemIs (partSortSaid sort) (valueAt (now (t .entry)) i)) (itemText (partSortSaid sort) (valueAt (now (t .entry)) i))
         (pen (now (out .entry)) at) (now (out .exit)) (Next (now (t .entry)) i) r ⌝ }
 {
@@ -67,38 +67,38 @@ fn lay_item(out: &mut [u8], at: usize, t: &[u8], i: usize, sort: PartSort) -> La
     match b {
         STRING => {
             if !string_is(sort, &t[from..to]) {
-                return Laid::Invalid;
+                return RuleLaid::Invalid;
             }
-            Laid::To(put_string(out, at, sort, &t[from..to]), next)
+            RuleLaid::To(put_string(out, at, sort, &t[from..to]), next)
         }
         NUMBER => {
             if !number_is(sort, &t[from..to]) {
-                return Laid::Invalid;
+                return RuleLaid::Invalid;
             }
-            Laid::To(put_integer_text(out, at, &t[from..to]), next)
+            RuleLaid::To(put_integer_text(out, at, &t[from..to]), next)
         }
-        _ => Laid::Invalid,
+        _ => RuleLaid::Invalid,
     }
 }
 
 // Tests and writes one or more values from i to the end of their array, with commas between them.
-fn lay_items(out: &mut [u8], at: usize, t: &[u8], i: usize, sort: PartSort) -> Laid
+fn lay_items(out: &mut [u8], at: usize, t: &[u8], i: usize, sort: PartSort) -> RuleLaid
     ensures { λ r. ⌜ LaidAs (someItems (itemIs (partSortSaid sort)) (itemsAt (now (t .entry)) i)) (itemsText (partSortSaid sort) (itemsAt (now (t .entry)) i))
         (pen (now (out .entry)) at) (now (out .exit)) (Left (now (t .entry)) i) r ⌝ }
 {
     if tag(&*t, i) == END {
-        return Laid::Invalid;
+        return RuleLaid::Invalid;
     }
     let mut to = at;
     let mut from = i;
     loop {
         match lay_item(out, to, &*t, from, sort) {
-            Laid::Invalid => {
-                return Laid::Invalid;
+            RuleLaid::Invalid => {
+                return RuleLaid::Invalid;
             }
-            Laid::To(q, e) => {
+            RuleLaid::To(q, e) => {
                 if tag(&*t, e) == END {
-                    return Laid::To(q, after(&*t, e));
+                    return RuleLaid::To(q, after(&*t, e));
                 }
                 to = put(out, q, b',');
                 from = e;
@@ -108,7 +108,7 @@ fn lay_items(out: &mut [u8], at: usize, t: &[u8], i: usize, sort: PartSort) -> L
 }
 
 // Tests and writes what a part has at i: a plain value, or an array of one or more where it may have several.
-fn lay_values(out: &mut [u8], at: usize, t: &[u8], i: usize, sort: PartSort) -> Laid
+fn lay_values(out: &mut [u8], at: usize, t: &[u8], i: usize, sort: PartSort) -> RuleLaid
     ensures { λ r. ⌜ LaidAs (kindIs (partSortSaid sort) (valueAt (now (t .entry)) i)) (partValuesText (partSortSaid sort) (valueAt (now (t .entry)) i))
         (pen (now (out .entry)) at) (now (out .exit)) (Next (now (t .entry)) i) r ⌝ }
 {
@@ -116,23 +116,23 @@ fn lay_values(out: &mut [u8], at: usize, t: &[u8], i: usize, sort: PartSort) -> 
         return lay_item(out, at, &*t, i, sort);
     }
     if !has_several(sort) {
-        return Laid::Invalid;
+        return RuleLaid::Invalid;
     }
     let from = after(&*t, i);
     lay_items(out, at, &*t, from, sort)
 }
 
 // Tests and writes a member: a lowercase name of a part, and what the part has at i.
-fn lay_member(out: &mut [u8], at: usize, name: &[u8], t: &[u8], i: usize) -> Laid
+fn lay_member(out: &mut [u8], at: usize, name: &[u8], t: &[u8], i: usize) -> RuleLaid
     ensures { λ r. ⌜ LaidAs (memberIs (now (name .entry)) (valueAt (now (t .entry)) i)) (memberText (now (name .entry)) (valueAt (now (t .entry)) i))
         (pen (now (out .entry)) at) (now (out .exit)) (Next (now (t .entry)) i) r ⌝ }
 {
     if !is_lower_name(&*name) {
-        return Laid::Invalid;
+        return RuleLaid::Invalid;
     }
     let key = key_place(&*name);
     if KEYS <= key {
-        return Laid::Invalid;
+        return RuleLaid::Invalid;
     }
     let named = put_upper(out, at, &*name);
     let from = put(out, named, b'=');
@@ -140,12 +140,12 @@ fn lay_member(out: &mut [u8], at: usize, name: &[u8], t: &[u8], i: usize) -> Lai
 }
 
 // Tests and writes the members from i to the end of the object, which is the place that is reached.
-pub fn lay_members(out: &mut [u8], at: usize, t: &[u8], i: usize) -> Laid
+pub fn lay_members(out: &mut [u8], at: usize, t: &[u8], i: usize) -> RuleLaid
     ensures { λ r. ⌜ LaidAs (kindsAre (membersAt (now (t .entry)) i)) (objectText (membersAt (now (t .entry)) i))
         (pen (now (out .entry)) at) (now (out .exit)) (λ e. tagAt (now (t .entry)) e ≡ tagEnd) r ⌝ }
 {
     if tag(&*t, i) == END {
-        return Laid::To(at, i);
+        return RuleLaid::To(at, i);
     }
     let mut to = at;
     let mut from = i;
@@ -155,12 +155,12 @@ pub fn lay_members(out: &mut [u8], at: usize, t: &[u8], i: usize) -> Laid
         let start = k.from;
         let end = k.to;
         match lay_member(out, to, &t[start..end], &*t, v) {
-            Laid::Invalid => {
-                return Laid::Invalid;
+            RuleLaid::Invalid => {
+                return RuleLaid::Invalid;
             }
-            Laid::To(q, e) => {
+            RuleLaid::To(q, e) => {
                 if tag(&*t, e) == END {
-                    return Laid::To(q, e);
+                    return RuleLaid::To(q, e);
                 }
                 to = put(out, q, b';');
                 from = e;

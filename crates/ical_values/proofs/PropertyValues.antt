@@ -17,7 +17,7 @@ use Rattle.tape.specs.Promise.{After, Next, Left}
 use Rattle.values.specs.Sorts.{Sort, float, geo, recur, text, status, sortSplits}
 use Rattle.values.specs.Write.{valueIs, valueText, valuesAre, valuesText}
 use Rattle.ical_values.specs.declared.Valued.{Valued}
-use Rattle.ical_values.specs.declared.Valued.the-variants.{Wrote, Invalid}
+use Rattle.ical_values.specs.declared.Valued.the-variants.{Written, Invalid}
 use Rattle.ical_values.specs.Parts.{partsAre, fieldsText}
 use Rattle.ical_values.specs.Valued.{allTaken, ListedAs, ValuedAs}
 use Rattle.ical_values.proofs.ValueGroups.{alone-stop, alone-more, alone}
@@ -26,7 +26,7 @@ use Rattle.ical_values.proofs.Arrays.{geo-is, geo-text, status-is, stat
 module _ (many : Bool) (s : Sort) (t : List ℕ) (i : ℕ) (f : FoldPen) (out : List ℕ) where
   pub as-valued : (several : Bool) (r : Valued) → several ≡ (many and sortSplits s) → ListedAs (code ",") several (valueIs s) (valueText s) t i f out r → ValuedAs true many s t i f out r
   unfolding valuesAre valuesText allTaken
-  as-valued several (Wrote k q) e v = rw (← e) v
+  as-valued several (Written k q) e v = rw (← e) v
   as-valued several Invalid e v = rw (← e) v
 
 -- GEO and REQUEST-STATUS

@@ -16,7 +16,7 @@ use Rattle.values.specs.Write.{valueIs, valueText, valuesAre, valuesText}
 use Rattle.ical_values.specs.declared.Folds.{Folds}
 use Rattle.ical_values.specs.declared.Folds.the-variants.{To, Refused}
 use Rattle.ical_values.specs.declared.Valued.{Valued}
-use Rattle.ical_values.specs.declared.Valued.the-variants.{Wrote, Invalid}
+use Rattle.ical_values.specs.declared.Valued.the-variants.{Written, Invalid}
 
 -- xs is written behind f, if `stands`
 abbrev pub FoldedIf : Bool → List ℕ → FoldPen → List ℕ → Folds → Type 0
@@ -25,7 +25,7 @@ FoldedIf stands xs f out Refused = (stands ≡ false) × FrontKept (f .pen) out
 
 -- the value at i, and e is behind it
 abbrev pub ValueAs : Sort → List ℕ → ℕ → FoldPen → List ℕ → Valued → Type 0
-ValueAs sort t i f out (Wrote e q) = (valueIs sort (valueAt t i) ≡ true) × Folded f (valueText sort (valueAt t i)) (folding out q) × Next t i e
+ValueAs sort t i f out (Written e q) = (valueIs sort (valueAt t i) ≡ true) × Folded f (valueText sort (valueAt t i)) (folding out q) × Next t i e
 ValueAs sort t i f out Invalid = (valueIs sort (valueAt t i) ≡ false) × FrontKept (f .pen) out
 
 -- values that all pass the test p; exactly one, but for `several`
@@ -34,10 +34,10 @@ allTaken several p vs = (several or single vs) and all p vs
 
 -- the values of the group at i as w writes them, with `sep` between them, and e is behind its end
 abbrev pub ListedAs : ℕ → Bool → (Json → Bool) → (Json → List ℕ) → List ℕ → ℕ → FoldPen → List ℕ → Valued → Type 0
-ListedAs sep several p w t i f out (Wrote e q) = (allTaken several p (listAt t i) ≡ true) × Folded f (joined sep (map w (listAt t i))) (folding out q) × Left t i e
+ListedAs sep several p w t i f out (Written e q) = (allTaken several p (listAt t i) ≡ true) × Folded f (joined sep (map w (listAt t i))) (folding out q) × Left t i e
 ListedAs sep several p w t i f out Invalid = (allTaken several p (listAt t i) ≡ false) × FrontKept (f .pen) out
 
 -- the values of the group at i, and e is behind its end; without room for a recurrence rule none are taken
 abbrev pub ValuedAs : Bool → Bool → Sort → List ℕ → ℕ → FoldPen → List ℕ → Valued → Type 0
-ValuedAs room many sort t i f out (Wrote e q) = ((room and valuesAre many sort (listAt t i)) ≡ true) × Folded f (valuesText sort (listAt t i)) (folding out q) × Left t i e
+ValuedAs room many sort t i f out (Written e q) = ((room and valuesAre many sort (listAt t i)) ≡ true) × Folded f (valuesText sort (listAt t i)) (folding out q) × Left t i e
 ValuedAs room many sort t i f out Invalid = ((room and valuesAre many sort (listAt t i)) ≡ false) × FrontKept (f .pen) out

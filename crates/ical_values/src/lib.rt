@@ -10,7 +10,7 @@ pub use tested::write_tested;
 
 // Values written: the place behind the end of their group and where the pen stands; or they are not what the sort takes.
 pub enum Valued {
-    Wrote(usize, Folder),
+    Written(usize, Folder),
     Invalid,
 }
 

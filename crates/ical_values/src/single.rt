@@ -37,7 +37,7 @@ fn string_at(out: &mut [u8], p: Folder, t: &[u8], at: usize, sort: Sort) -> Valu
     let to = s.to;
     let f = write_string(out, p, sort, &t[from..to]);
     match f {
-        Folds::To(q) => Valued::Wrote(s.next, q),
+        Folds::To(q) => Valued::Written(s.next, q),
         Folds::Refused => Valued::Invalid,
     }
 }
@@ -52,7 +52,7 @@ fn number_at(out: &mut [u8], p: Folder, t: &[u8], at: usize, sort: Sort) -> Valu
     let to = s.to;
     let f = write_number(out, p, sort, &t[from..to]);
     match f {
-        Folds::To(q) => Valued::Wrote(s.next, q),
+        Folds::To(q) => Valued::Written(s.next, q),
         Folds::Refused => Valued::Invalid,
     }
 }
@@ -63,8 +63,8 @@ fn boolean_at(out: &mut [u8], p: Folder, t: &[u8], at: usize) -> Valued
 {
     let e = behind(t, at);
     match tag(t, at) {
-        FALSE => Valued::Wrote(e, fold_all(out, p, b"FALSE")),
-        TRUE => Valued::Wrote(e, fold_all(out, p, b"TRUE")),
+        FALSE => Valued::Written(e, fold_all(out, p, b"FALSE")),
+        TRUE => Valued::Written(e, fold_all(out, p, b"TRUE")),
         _ => Valued::Invalid,
     }
 }
@@ -81,7 +81,7 @@ fn period_at(out: &mut [u8], p: Folder, t: &[u8], at: usize) -> Valued
         return Valued::Invalid;
     }
     let v = string_at(out, p, t, a, Sort::DateTime);
-    let Valued::Wrote(b, q) = v else {
+    let Valued::Written(b, q) = v else {
         return Valued::Invalid;
     };
     if tag(t, b) != STRING {
@@ -96,7 +96,7 @@ fn period_at(out: &mut [u8], p: Folder, t: &[u8], at: usize) -> Valued
     let to = s.to;
     let f = write_end(out, q, &t[from..to]);
     match f {
-        Folds::To(r) => Valued::Wrote(e, r),
+        Folds::To(r) => Valued::Written(e, r),
         Folds::Refused => Valued::Invalid,
     }
 }

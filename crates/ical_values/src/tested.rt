@@ -42,12 +42,12 @@ fn write_some(
     let mut i = at;
     loop {
         let v = write_one(out, q, t, i, sort);
-        let Valued::Wrote(e, f) = v else {
+        let Valued::Written(e, f) = v else {
             return Valued::Invalid;
         };
         if tag(t, e) == END {
             let n = after(t, e);
-            return Valued::Wrote(n, f);
+            return Valued::Written(n, f);
         }
         if !several {
             return Valued::Invalid;
@@ -74,13 +74,13 @@ fn write_parts(out: &mut [u8], p: Folder, t: &[u8], at: usize, sort: Sort, limit
         return Valued::Invalid;
     }
     let v = write_some(out, p, t, a, sort, b';', true);
-    let Valued::Wrote(e, q) = v else {
+    let Valued::Written(e, q) = v else {
         return Valued::Invalid;
     };
     if tag(t, e) != END {
         return Valued::Invalid;
     }
-    Valued::Wrote(after(t, e), q)
+    Valued::Written(after(t, e), q)
 }
 
 // There may be several values, or none.
@@ -104,7 +104,7 @@ fn write_values(out: &mut [u8], p: Folder, t: &[u8], at: usize, sort: Sort, many
                 return write_some(out, p, t, at, sort, b',', several);
             }
             if several {
-                return Valued::Wrote(after(t, at), p);
+                return Valued::Written(after(t, at), p);
             }
             Valued::Invalid
         }
@@ -138,7 +138,7 @@ pub fn write_tested(
     let n = after(t, e);
     let w = write_rule(out, p, t, at, rule);
     match w {
-        Ruled::Wrote(q) => Valued::Wrote(n, q),
+        Ruled::Written(q) => Valued::Written(n, q),
         Ruled::NoRule => Valued::Invalid,
     }
 }

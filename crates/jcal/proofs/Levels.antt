@@ -16,7 +16,7 @@ use Rattle.conversion_theory.specs.Tree.{Property, leaf, grow, levels, levelsIn
 use Rattle.conversion_theory.specs.Structure.{Event, begins, ends, carries, stray}
 use Rattle.conversion_theory.specs.Growth.{behindEvent, eachProperty, Level, level, innermost, around, withProperty, withComponent, levelsFrom, outermost, treeOf}
 use Rattle.conversion_theory.specs.Jcal.{propertyJson, jcalOf, jcalsOf}
-use Rattle.jcal.specs.Components.{propertyOr, isAccepted, readEvent, reads, behindEnd, outward, levelAt, componentAt, comma, itemsRest, propertiesText, subsText, nameText}
+use Rattle.jcal.specs.Components.{propertyOr, isAccepted, readEvent, reads, behindEnd, outward, levelAt, componentAt, leadingComma, itemsRest, propertiesText, subsText, nameText}
 
 outward-none : (k : ℕ) → outward k [] ≡ []
 unfolding outward around
@@ -102,8 +102,8 @@ unfolding itemsRest firstItem moreItems
 listed-none true = refl
 listed-none false = refl
 
-listed-item : (first : Bool) (j : Json) (js : Items) → itemsRest first (item j js) ≡ comma first ++ (print j ++ itemsRest false js)
-unfolding itemsRest comma firstItem moreItems
+listed-item : (first : Bool) (j : Json) (js : Items) → itemsRest first (item j js) ≡ leadingComma first ++ (print j ++ itemsRest false js)
+unfolding itemsRest leadingComma firstItem moreItems
 listed-item true j js = refl
 listed-item false j js = refl
 
@@ -126,7 +126,7 @@ module _ (f : Line → Answer Property) (first : Bool) where
   properties-begins n es = rw (level-begins f n es, level-behind f 0 es)
 
   pub properties-holds : (l : Line) (es : List (Event Line))
-      → propertiesText f first (carries l ∷ es) ≡ comma first ++ (print (propertyJson (propertyOr (f l))) ++ propertiesText f false es)
+      → propertiesText f first (carries l ∷ es) ≡ leadingComma first ++ (print (propertyJson (propertyOr (f l))) ++ propertiesText f false es)
   unfolding propertiesText itemsOf
   properties-holds l es = rw (level-holds f l es) (listed-item first _ _)
 
@@ -136,7 +136,7 @@ module _ (f : Line → Answer Property) (first : Bool) where
   subs-ends n es = rw (level-ends f n es) (listed-none first)
 
   pub subs-begins : (n : List ℕ) (es : List (Event Line))
-      → subsText f first (begins n ∷ es) ≡ comma first ++ (print (jcalOf (componentAt f n es)) ++ subsText f false (behindEnd 0 es))
+      → subsText f first (begins n ∷ es) ≡ leadingComma first ++ (print (jcalOf (componentAt f n es)) ++ subsText f false (behindEnd 0 es))
   unfolding subsText jcalsOf
   subs-begins n es = rw (level-begins f n es, level-behind f 0 es) (listed-item first _ _)
 

@@ -20,10 +20,10 @@ use Rattle.jcal_properties.specs.declared.Placed.{Placed}
 use Rattle.jcal_properties.specs.declared.Placed.the-variants.{At, Failed}
 use Rattle.jcal.specs.Events.{eventsIn, lineFrom, LineAt, nameFrom, lineTold, TellsLine}
 use Rattle.jcal.specs.Order.{mayStand, endsHere, orderedFrom}
-use Rattle.jcal.specs.Components.{propertyOr, isAccepted, reads, eventTested, eachTested, nextOf, comma, propertiesText}
+use Rattle.jcal.specs.Components.{propertyOr, isAccepted, reads, eventTested, eachTested, nextOf, leadingComma, propertiesText}
 use Rattle.jcal.specs.Placing.{ready, ItemStands, PlacesItem, Behind, EndNext, Finds, placeOf, PartPlaced}
-use Rattle.jcal.specs.declared.components.Next.{Next}
-use Rattle.jcal.specs.declared.components.Next.the-variants.{Sub, End, Refused}
+use Rattle.jcal.specs.declared.components.NextItem.{NextItem}
+use Rattle.jcal.specs.declared.components.NextItem.the-variants.{Sub, End, Refused}
 use Rattle.jcal.specs.declared.events.LineKind.{LineKind}
 use Rattle.jcal.specs.declared.events.LineKind.the-variants.{Opens, Closes, Plain, Broken}
 use Rattle.jcal.proofs.OpenComponents.{events-none, events-told}
@@ -33,19 +33,19 @@ use Rattle.jcal.proofs.PropertyTests.{turn-passed, turn-failed}
 use Rattle.jcal.proofs.NextLines.{accepts-tested, next-tested}
 
 -- a comma and a property are an item
-pub item-placed : (t : Table) (l : Line) (first : Bool) (out : List ℕ) (r : Placed) {p m : Pen} → Wrote p (comma first) m → PlacesProperty t l m out r → PlacesItem (readProperty t l) first p out r
+pub item-placed : (t : Table) (l : Line) (first : Bool) (out : List ℕ) (r : Placed) {p m : Pen} → Wrote p (leadingComma first) m → PlacesProperty t l m out r → PlacesItem (readProperty t l) first p out r
 unfolding isAccepted propertyOr
 item-placed t l first out (At q) w z = record { accepts = rw (z .read); wrote = rw (z .read) (behind-it w (z .wrote)) }
 item-placed t l first out (Failed why) w z = z .0
 
 -- what stands next is found from an earlier line on
-pub finds-from : (s : List ℕ) (i j : ℕ) (es fs : List (Event Line)) (r : Next) → i ≤ j → es ≡ fs → Finds s j es r → Finds s i fs r
+pub finds-from : (s : List ℕ) (i j : ℕ) (es fs : List (Event Line)) (r : NextItem) → i ≤ j → es ≡ fs → Finds s j es r → Finds s i fs r
 finds-from s i j es fs (Sub n e at) l v z = record { is = rw v at (z .is); named = z .named; further = omega (arith, z .further) }
 finds-from s i j es fs (End k at) l v z = record { is = rw v at (z .is); further = omega (arith, z .further) }
 finds-from s i j es fs (Refused why) l v z = z
 
 -- a part of a component is written, and what stands next is found
-pub places-found : (f : Line → Answer Property) (s : List ℕ) (i : ℕ) (es fs : List (Event Line)) (p : Pen) (text out : List ℕ) (r : Next)
+pub places-found : (f : Line → Answer Property) (s : List ℕ) (i : ℕ) (es fs : List (Event Line)) (p : Pen) (text out : List ℕ) (r : NextItem)
     → Finds s i fs r → Wrote p text (pen out (placeOf r)) → eachTested f es ≡ eachTested f (nextOf fs) → PartPlaced f s i es fs p text out r
 places-found f s i es fs p text out (Sub n e at) z w t = record { finds = z; wrote = w; tested = t }
 places-found f s i es fs p text out (End k at) z w t = record { finds = z; wrote = w; tested = t }
@@ -155,7 +155,7 @@ module _ (f : Line → Answer Property) (s : List ℕ) (from : ℕ) (b : Bool) (
       unfolding nextOf
       ends-next o l = record { is = ends-here .passed o .0; further = omega (arith, h .ends) }
 
-      pub held-ends : (out : List ℕ) (r : Next) → Finds s from es r → Wrote q (octets "],[") (pen out (placeOf r)) → PartPlaced f s from es es p (propertiesText f true es ++ octets ",[") out r
+      pub held-ends : (out : List ℕ) (r : NextItem) → Finds s from es r → Wrote q (octets "],[") (pen out (placeOf r)) → PartPlaced f s from es es p (propertiesText f true es ++ octets ",[") out r
       unfolding ready orderedFrom mayStand endsHere
       held-ends out r z w =
           places-found f s from es es p _ out r z (leads-last (ends-here .leads) w (and-more (properties-ends f first (nameFrom s n) next)))
@@ -185,7 +185,7 @@ module _ (f : Line → Answer Property) (s : List ℕ) (from : ℕ) (b : Bool) (
     unfolding nextOf
     none-next o k = record { is = rw (events-none s i l) (none-here .passed o .0); further = k }
 
-    pub held-none : (out : List ℕ) (r : Next) → Finds s from es r → Wrote q (octets "],[") (pen out (placeOf r)) → PartPlaced f s from es es p (propertiesText f true es ++ octets ",[") out r
+    pub held-none : (out : List ℕ) (r : NextItem) → Finds s from es r → Wrote q (octets "],[") (pen out (placeOf r)) → PartPlaced f s from es es p (propertiesText f true es ++ octets ",[") out r
     held-none out r z w =
         places-found f s from es es p _ out r z (leads-last (none-here .leads) w (and-more (properties-none f first)))
         (up-to b [] none-here (ready-none f b))

@@ -40,7 +40,7 @@ use Rattle.conversion_theory.specs.ToJcal.{readLinesBy, readLines, reading, toJ
 use Rattle.jcal.specs.Events.{eventsIn, LineAt, nameFrom, lineTold, TellsLine}
 use Rattle.jcal.specs.Components.{isAccepted, reads, eventTested, eachTested, behindEnd, nextOf, componentAt}
 use Rattle.jcal.specs.Placing.{ready, placeOf, PartWritten}
-use Rattle.jcal.specs.declared.components.Next.{Next}
+use Rattle.jcal.specs.declared.components.NextItem.{NextItem}
 use Rattle.jcal.specs.Order.{mayStand, endsHere, orderedFrom, ordered}
 use Rattle.jcal.specs.Stages.{propertiesJcal, eventsJcal, linesJcal}
 use Rattle.jcal.specs.Nesting.{pairing}
@@ -240,6 +240,6 @@ module _ (f : Line → Answer Property) (s : List ℕ) (e : ℕ) (h : LineAt s 0
         let a : eachTested f (nextOf (behindEnd 0 next)) ≡ accepted tt = ap (λ (es : List (Event Line)). eachTested f (nextOf es)) calendar-alone ∙ (unfold nextOf eachProperty behindEvent then in refl) in
         calendar-grows (properties-passed f (eventsIn s) (sym (calendar-tested ∙ r ∙ a)))
 
-    pub calendar-placed : (o out : List ℕ) (r : Next) → PartWritten f s (e + 1) next (behindEnd 0 next) (pen o 0) (print (jcalOf (componentAt f (nameFrom s n) next))) out r
+    pub calendar-placed : (o out : List ℕ) (r : NextItem) → PartWritten f s (e + 1) next (behindEnd 0 next) (pen o 0) (print (jcalOf (componentAt f (nameFrom s n) next))) out r
         → finished (placeOf r) out ≡ answer (propertiesJcal f (eventsIn s)) o
     calendar-placed o out r z = finished-answer o (print (jcalOf (componentAt f (nameFrom s n) next))) out (placeOf r) (z .wrote) ∙ ap (λ (a : Answer (List ℕ)). answer a o) (calendar-text (z .tested))

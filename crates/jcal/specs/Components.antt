@@ -76,8 +76,8 @@ unfoldable pub componentAt : (Line → Answer Property) → List ℕ → List (E
 componentAt f n es = component n ((levelAt f 0 es) .properties) ((levelAt f 0 es) .subs)
 
 -- a comma, but before the first item
-unfoldable pub comma : Bool → List ℕ
-comma first = pick first [] (octets ",")
+unfoldable pub leadingComma : Bool → List ℕ
+leadingComma first = pick first [] (octets ",")
 
 -- items and what closes them, where the first is due or some stand already
 unfoldable pub itemsRest : Bool → Items → List ℕ

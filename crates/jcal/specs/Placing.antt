@@ -16,9 +16,9 @@ use Rattle.jcal_properties.specs.declared.Placed.{Placed}
 use Rattle.jcal_properties.specs.declared.Placed.the-variants.{At, Failed}
 use Rattle.jcal.specs.Events.{eventsIn, nameFrom, Named}
 use Rattle.jcal.specs.Order.{orderedFrom}
-use Rattle.jcal.specs.Components.{propertyOr, isAccepted, reads, eachTested, behindEnd, nextOf, comma}
-use Rattle.jcal.specs.declared.components.Next.{Next}
-use Rattle.jcal.specs.declared.components.Next.the-variants.{Sub, End, Refused}
+use Rattle.jcal.specs.Components.{propertyOr, isAccepted, reads, eachTested, behindEnd, nextOf, leadingComma}
+use Rattle.jcal.specs.declared.components.NextItem.{NextItem}
+use Rattle.jcal.specs.declared.components.NextItem.the-variants.{Sub, End, Refused}
 
 -- lines that can be written: in order, directly behind an END line or not; or not in order, with no property in fault
 unfoldable pub ready : (Line → Answer Property) → Bool → Bool → List (Event Line) → Bool
@@ -27,7 +27,7 @@ ready f in-order behind es = pick in-order (orderedFrom behind es) (all (reads f
 -- by what is answered of a property as an item: it is read and written, or refused
 pub record ItemStands (a : Answer Property) (first : Bool) (p q : Pen) : Type 0 where
   pub accepts : isAccepted a ≡ true
-  pub wrote : Wrote p (comma first ++ print (propertyJson (propertyOr a))) q
+  pub wrote : Wrote p (leadingComma first ++ print (propertyJson (propertyOr a))) q
 
 abbrev pub PlacesItem : Answer Property → Bool → Pen → List ℕ → Placed → Type 0
 PlacesItem a first p out (At q) = ItemStands a first p (pen out q)
@@ -49,35 +49,35 @@ pub record EndNext (s : List ℕ) (i : ℕ) (es : List (Event Line)) (j : ℕ) :
   pub further : i ≤ j
 
 -- by what is answered of what stands next in es; it is no refusal
-abbrev pub Finds : List ℕ → ℕ → List (Event Line) → Next → Type 0
+abbrev pub Finds : List ℕ → ℕ → List (Event Line) → NextItem → Type 0
 Finds s i es (Sub n e at) = SubNext s i es n e
 Finds s i es (End j at) = EndNext s i es j
 Finds s i es (Refused why) = ⊥
 
 -- the place of the next octet to write
-abbrev pub placeOf : Next → ℕ
+abbrev pub placeOf : NextItem → ℕ
 placeOf (Sub n e at) = at
 placeOf (End j at) = at
 placeOf (Refused why) = 0
 
 -- what stands next from the line at i on, and the place handed on
-pub record Found (s : List ℕ) (i at : ℕ) (r : Next) : Type 0 where
+pub record NextFound (s : List ℕ) (i at : ℕ) (r : NextItem) : Type 0 where
   pub finds : Finds s i (eventsIn (drop i s)) r
   pub place : placeOf r ≡ at
 
 -- what ends the properties of a component is written, and what stands next in it is found
-pub record Ended (s : List ℕ) (i : ℕ) (p : Pen) (out : List ℕ) (r : Next) : Type 0 where
+pub record Ended (s : List ℕ) (i : ℕ) (p : Pen) (out : List ℕ) (r : NextItem) : Type 0 where
   pub finds : Finds s i (eventsIn (drop i s)) r
   pub wrote : Wrote p (octets "],[") (pen out (placeOf r))
 
 -- a text is written, what stands next in fs is found, and no property of es before it is in fault
-pub record PartWritten (f : Line → Answer Property) (s : List ℕ) (i : ℕ) (es fs : List (Event Line)) (p : Pen) (text out : List ℕ) (r : Next) : Type 0 where
+pub record PartWritten (f : Line → Answer Property) (s : List ℕ) (i : ℕ) (es fs : List (Event Line)) (p : Pen) (text out : List ℕ) (r : NextItem) : Type 0 where
   pub finds : Finds s i fs r
   pub wrote : Wrote p text (pen out (placeOf r))
   pub tested : eachTested f es ≡ eachTested f (nextOf fs)
 
 -- by what is answered of a part of a component: it is written, or the first property in fault
-abbrev pub PartPlaced : (Line → Answer Property) → List ℕ → ℕ → List (Event Line) → List (Event Line) → Pen → List ℕ → List ℕ → Next → Type 0
+abbrev pub PartPlaced : (Line → Answer Property) → List ℕ → ℕ → List (Event Line) → List (Event Line) → Pen → List ℕ → List ℕ → NextItem → Type 0
 PartPlaced f s i es fs p text out (Sub n e at) = PartWritten f s i es fs p text out (Sub n e at)
 PartPlaced f s i es fs p text out (End j at) = PartWritten f s i es fs p text out (End j at)
 PartPlaced f s i es fs p text out (Refused why) = eachTested f es ≡ refused (number why)

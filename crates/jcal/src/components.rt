@@ -15,8 +15,8 @@ ghost use Rattle.conversion_theory.specs.Structure.{fresh, closed, nestAfter};
 ghost use Rattle.conversion_theory.specs.Property.{readProperty};
 ghost use Rattle.conversion_theory.specs.Jcal.{jcalOf};
 ghost use Rattle.jcal.specs.Events.{eventsIn, LineAt, nameFrom, Named, Outermost};
-ghost use Rattle.jcal.specs.Components.{behindEnd, componentAt, comma, propertiesText, nameText};
-ghost use Rattle.jcal.specs.Placing.{ready, PlacesItem, Behind, EndNext, Found, Ended, PartPlaced};
+ghost use Rattle.jcal.specs.Components.{behindEnd, componentAt, leadingComma, propertiesText, nameText};
+ghost use Rattle.jcal.specs.Placing.{ready, PlacesItem, Behind, EndNext, NextFound, Ended, PartPlaced};
 ghost use Rattle.jcal.specs.Stages.{propertiesJcal};
 use crate::events::LineKind;
 use crate::events::end_at;
@@ -34,7 +34,7 @@ use octets::refuse;
 
 // What stands next in a component, with the place of the next octet to write: a sub-component, by the place of its name and the end of that line,
 // or the END of the component, by the line behind it. Or why a property is refused.
-pub(crate) enum Next {
+pub(crate) enum NextItem {
     Sub(usize, usize, usize),
     End(usize, usize),
     Refused(Refusal),
@@ -42,7 +42,7 @@ pub(crate) enum Next {
 
 // Writes a comma, but before the first item.
 fn put_comma(out: &mut [u8], at: usize, first: bool) -> usize
-    ensures { λ r. ⌜ Wrote (pen (now (out .entry)) at) (comma first) (pen (now (out .exit)) r) ⌝ }
+    ensures { λ r. ⌜ Wrote (pen (now (out .entry)) at) (leadingComma first) (pen (now (out .exit)) r) ⌝ }
 {
     if first {
         return at;
@@ -85,19 +85,19 @@ fn behind_end(buf: &[u8], from: usize) -> usize
 }
 
 // What stands next from the line at `from` on, whatever properties come first.
-fn next_at(buf: &[u8], from: usize, at: usize) -> Next
-    ensures { λ r. ⌜ Found (now (buf .entry)) from at r ⌝ }
+fn next_at(buf: &[u8], from: usize, at: usize) -> NextItem
+    ensures { λ r. ⌜ NextFound (now (buf .entry)) from at r ⌝ }
 {
     let mut i = from;
     while i < buf.len() {
         let e = end_at(buf, i);
         match kind_at(buf, i, e) {
-            LineKind::Opens(name) => return Next::Sub(name, e, at),
-            LineKind::Closes(_) => return Next::End(e + 1, at),
+            LineKind::Opens(name) => return NextItem::Sub(name, e, at),
+            LineKind::Closes(_) => return NextItem::End(e + 1, at),
             LineKind::Plain | LineKind::Broken => i = e + 1,
         }
     }
-    Next::End(i, at)
+    NextItem::End(i, at)
 }
 
 // Writes a component up to its properties.
@@ -119,13 +119,13 @@ fn end_properties(
     end: usize,
     out: &mut [u8],
     at: usize,
-) -> Next
+) -> NextItem
     requires { ⌜ (in_order ≡ true → EndNext (now buf) from (eventsIn (drop from (now buf))) end) ⌝ }
     ensures { λ r. ⌜ Ended (now (buf .entry)) from (pen (now (out .entry)) at) (now (out .exit)) r ⌝ }
 {
     let to = put_all(out, at, b"],[");
     if in_order {
-        return Next::End(end, to);
+        return NextItem::End(end, to);
     }
     next_at(buf, from, to)
 }
@@ -139,7 +139,7 @@ fn place_properties(
     in_order: bool,
     out: &mut [u8],
     at: usize,
-) -> Next
+) -> NextItem
     requires { ⌜ ready (readProperty (tableIn (now rows))) in_order false (eventsIn (drop from (now buf))) ≡ true ⌝ }
     ensures { λ r. ⌜ PartPlaced (readProperty (tableIn (now (rows .entry)))) (now (buf .entry)) from (eventsIn (drop from (now (buf .entry)))) (eventsIn (drop from (now (buf .entry)))) (pen (now (out .entry)) at) (propertiesText (readProperty (tableIn (now (rows .entry)))) true (eventsIn (drop from (now (buf .entry)))) ++ octets ",[") (now (out .exit)) r ⌝ }
 {
@@ -155,11 +155,11 @@ fn place_properties(
                     first = false;
                     i = e + 1;
                 }
-                Placed::Failed(why) => return Next::Refused(why),
+                Placed::Failed(why) => return NextItem::Refused(why),
             },
             LineKind::Opens(name) => {
                 if in_order {
-                    return Next::Sub(name, e, put_all(out, to, b"],["));
+                    return NextItem::Sub(name, e, put_all(out, to, b"],["));
                 }
                 i = behind_end(&*buf, e + 1);
             }
@@ -181,7 +181,7 @@ fn place_component(
     left: usize,
     out: &mut [u8],
     at: usize,
-) -> Next
+) -> NextItem
     requires { ⌜ Named (now buf) name e ⌝ }
     requires { ⌜ ready (readProperty (tableIn (now rows))) in_order false (eventsIn (drop (e + 1) (now buf))) ≡ true ⌝ }
     requires { ⌜ levels (componentAt (readProperty (tableIn (now rows))) (nameFrom (now buf) name) (eventsIn (drop (e + 1) (now buf)))) ≤ left ⌝ }
@@ -192,16 +192,16 @@ fn place_component(
     let mut first = true;
     loop {
         match next {
-            Next::Sub(inner, f, to) => {
+            NextItem::Sub(inner, f, to) => {
                 let item = put_comma(out, to, first);
                 next = place_component(&*buf, &*rows, inner, f, in_order, left - 1, out, item);
                 first = false;
             }
-            Next::End(i, to) => {
+            NextItem::End(i, to) => {
                 let end = put_all(out, to, b"]]");
                 return next_at(&*buf, i, end);
             }
-            Next::Refused(why) => return Next::Refused(why),
+            NextItem::Refused(why) => return NextItem::Refused(why),
         }
     }
 }
@@ -227,8 +227,8 @@ pub(crate) fn place_calendar(lines: &[u8], rows: &[u8], in_order: bool, out: &mu
     let e = end_at(lines, 0);
     let name = outermost_name(lines, e);
     match place_component(lines, rows, name, e, in_order, MOST_LEVELS, out, 0) {
-        Next::Sub(_, _, at) => finish(out, at),
-        Next::End(_, at) => finish(out, at),
-        Next::Refused(why) => refuse(out, why),
+        NextItem::Sub(_, _, at) => finish(out, at),
+        NextItem::End(_, at) => finish(out, at),
+        NextItem::Refused(why) => refuse(out, why),
     }
 }

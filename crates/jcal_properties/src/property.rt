@@ -32,7 +32,7 @@ use jcal_values::put_tested;
 use octets::Refusal;
 use octets::put;
 use octets::put_all;
-use types::Found;
+use types::Lookup;
 use types::code_named;
 use types::find;
 use types::known_code;
@@ -46,17 +46,17 @@ enum Fronted {
 }
 
 // The code of a name's default type.
-fn default_code(found: Found) -> u8
+fn default_code(found: Lookup) -> u8
     ensures { λ r. ⌜ r ≡ codeOf (rowFound found) none ⌝ }
 {
     match found {
-        Found::Listed(code, _) => known_code(code),
-        Found::Unlisted => 0,
+        Lookup::Listed(code, _) => known_code(code),
+        Lookup::Unlisted => 0,
     }
 }
 
 // The code of the type: VALUE's, else the name's default.
-fn code_of(found: Found, params: &[u8], kind: ValueType) -> u8
+fn code_of(found: Lookup, params: &[u8], kind: ValueType) -> u8
     requires { ⌜ Bounded (length (now params)) kind ⌝ }
     ensures { λ r. ⌜ r ≡ codeOf (rowFound found) (namedType (valueTypeSaid (now (params .entry)) kind)) ⌝ }
 {
@@ -68,12 +68,12 @@ fn code_of(found: Found, params: &[u8], kind: ValueType) -> u8
 }
 
 // One or many belongs to the name; an unlisted one may have many.
-fn is_many(found: Found) -> bool
+fn is_many(found: Lookup) -> bool
     ensures { λ r. ⌜ r ≡ manyOf (rowFound found) ⌝ }
 {
     match found {
-        Found::Listed(_, many) => many,
-        Found::Unlisted => true,
+        Lookup::Listed(_, many) => many,
+        Lookup::Unlisted => true,
     }
 }
 
@@ -114,21 +114,21 @@ fn put_front(name: &[u8], params: &[u8], out: &mut [u8], at: usize) -> usize
 }
 
 // Writes the name of a default type.
-fn put_default(found: Found, out: &mut [u8], at: usize) -> usize
+fn put_default(found: Lookup, out: &mut [u8], at: usize) -> usize
     ensures { λ r. ⌜ Wrote (pen (now (out .entry)) at) (printString (typeOf (rowFound found) none)) (pen (now (out .exit)) r) ⌝ }
 {
     match found {
-        Found::Listed(code, _) => {
+        Lookup::Listed(code, _) => {
             let a = put(out, at, b'"');
             let b = put_type_name(out, a, code);
             put(out, b, b'"')
         }
-        Found::Unlisted => put_all(out, at, b"\"unknown\""),
+        Lookup::Unlisted => put_all(out, at, b"\"unknown\""),
     }
 }
 
 // Writes the name of the type.
-fn put_type(found: Found, params: &[u8], kind: ValueType, out: &mut [u8], at: usize) -> usize
+fn put_type(found: Lookup, params: &[u8], kind: ValueType, out: &mut [u8], at: usize) -> usize
     requires { ⌜ Bounded (length (now params)) kind ⌝ }
     ensures { λ r. ⌜ Wrote (pen (now (out .entry)) at) (printString (typeOf (rowFound found) (namedType (valueTypeSaid (now (params .entry)) kind)))) (pen (now (out .exit)) r) ⌝ }
 {
@@ -141,7 +141,7 @@ fn put_type(found: Found, params: &[u8], kind: ValueType, out: &mut [u8], at: us
 
 // Tests the values by 9, writes them, and closes the property.
 fn place_values(
-    found: Found,
+    found: Lookup,
     code: u8,
     name: &[u8],
     value: &[u8],
@@ -153,13 +153,13 @@ fn place_values(
     let sort = sort_of(name, code);
     let many = is_many(found);
     match put_tested(out, at, sort, many, value) {
-        Attempt::Wrote(q) => Placed::At(put(out, q, b']')),
+        Attempt::Written(q) => Placed::At(put(out, q, b']')),
         Attempt::Invalid => Placed::Failed(Refusal::BadValue),
     }
 }
 
 // Tests a property without parameters by 8, and writes it up to its values.
-fn front_plain(found: Found, name: &[u8], out: &mut [u8], at: usize) -> Fronted
+fn front_plain(found: Lookup, name: &[u8], out: &mut [u8], at: usize) -> Fronted
     ensures { λ r. ⌜ Fronts (rowFound found) (now (name .entry)) [] (pen (now (out .entry)) at) (now (out .exit)) r ⌝ }
 {
     let code = default_code(found);
@@ -173,7 +173,7 @@ fn front_plain(found: Found, name: &[u8], out: &mut [u8], at: usize) -> Fronted
 }
 
 // Tests a property with parameters by 7 and 8, and writes it up to its values.
-fn front_given(found: Found, name: &[u8], params: &[u8], out: &mut [u8], at: usize) -> Fronted
+fn front_given(found: Lookup, name: &[u8], params: &[u8], out: &mut [u8], at: usize) -> Fronted
     ensures { λ r. ⌜ Fronts (rowFound found) (now (name .entry)) (paramsIn (now (params .entry))) (pen (now (out .entry)) at) (now (out .exit)) r ⌝ }
 {
     let kind = value_type(&*params);
@@ -189,7 +189,7 @@ fn front_given(found: Found, name: &[u8], params: &[u8], out: &mut [u8], at: usi
 }
 
 // Tests a property by 7 and 8, and writes it up to its values.
-fn front(found: Found, name: &[u8], params: &[u8], out: &mut [u8], at: usize) -> Fronted
+fn front(found: Lookup, name: &[u8], params: &[u8], out: &mut [u8], at: usize) -> Fronted
     ensures { λ r. ⌜ Fronts (rowFound found) (now (name .entry)) (paramsIn (now (params .entry))) (pen (now (out .entry)) at) (now (out .exit)) r ⌝ }
 {
     if params.len() == 0 {

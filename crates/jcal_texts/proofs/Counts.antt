@@ -20,8 +20,8 @@ use Rattle.values.specs.Read.{twoOrThree, readStatus}
 use Rattle.values.proofs.Arrays.{items-json}
 use Rattle.values.proofs.TextWalk.{fields-walked}
 use Rattle.jcal_texts.specs.Trying.{Tried, WroteTexts}
-use Rattle.jcal_texts.specs.declared.Attempt.the-variants.{Wrote as Done, Invalid}
-use Rattle.jcal_texts.specs.declared.Texts.the-variants.{Wrote as Counted, Invalid as NoTexts}
+use Rattle.jcal_texts.specs.declared.Attempt.the-variants.{Written, Invalid}
+use Rattle.jcal_texts.specs.declared.Texts.the-variants.{Written as TextsWritten, Invalid as NoTexts}
 
 -- one, by the number
 one-text : (t : List ℕ) (ts : List (List ℕ)) → single (map str (t ∷ ts)) ≡ eqb (length ts + 1) 1
@@ -29,11 +29,11 @@ unfolding single filled
 one-text t [] = refl
 one-text t (u ∷ ts) = rw (ne-eqb (length (u ∷ ts) + 1) 1 (λ e. omega arith))
 
-module _ {p q : Pen} (many : Bool) (s out : List ℕ) (e n : ℕ) (w : WroteTexts (textsFrom (code ",") (code ";") false s) q out (Counted e n)) (u : Wrote p (octets ",\"") q) where
+module _ {p q : Pen} (many : Bool) (s out : List ℕ) (e n : ℕ) (w : WroteTexts (textsFrom (code ",") (code ";") false s) q out (TextsWritten e n)) (u : Wrote p (octets ",\"") q) where
   fits : (many or single (map str (w .0 ∷ w .1))) ≡ (many or eqb n 1)
   fits = rw (one-text (w .0) (w .1), w .3)
 
-  pub texts-stand : (many or eqb n 1) ≡ true → Tried (guard (λ vs. many or single vs) (map? (map str) (texts s))) valuesJson p out (Done e)
+  pub texts-stand : (many or eqb n 1) ≡ true → Tried (guard (λ vs. many or single vs) (map? (map str) (texts s))) valuesJson p out (Written e)
   unfolding texts map? guard when valuesJson print printString
   texts-stand h = (map str (w .0 ∷ w .1), rw (w .2, fits ∙ h), then u (w .4))
 
@@ -69,7 +69,7 @@ array : (t : List ℕ) (ts : List (List ℕ)) → octets "[\"" ++ (quoted t ++ v
 unfolding print printString firstItem itemsOf
 array t ts = rw (items-json (map str ts)) (ap (λ (l : List ℕ). octets "[\"" ++ l) (append-assoc (quoted t) (valuesJson (map str ts)) (octets "]")))
 
-module _ {p q : Pen} (s out : List ℕ) (e n : ℕ) (w : WroteTexts (textsFrom (code ";") (code ",") false s) q out (Counted e n)) (u : Wrote p (octets "[\"") q) where
+module _ {p q : Pen} (s out : List ℕ) (e n : ℕ) (w : WroteTexts (textsFrom (code ";") (code ",") false s) q out (TextsWritten e n)) (u : Wrote p (octets "[\"") q) where
   status-none : twoOrThree (w .0 ∷ w .1) ≡ false → Tried (readStatus s) print p out Invalid
   unfolding readStatus map? guard when
   status-none h = (rw (fields-walked s, w .2, h), front-wrote (then u (w .4)))

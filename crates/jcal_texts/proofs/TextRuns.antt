@@ -23,7 +23,7 @@ use Rattle.json.specs.Print.{escaped, quoted, printString, print, valuesJson}
 use Rattle.json.specs.Promise.{Run}
 use Rattle.values.specs.Shown.{runOctet}
 use Rattle.jcal_texts.specs.Trying.{WroteTexts, StandsFor, StepsAt}
-use Rattle.jcal_texts.specs.declared.Texts.the-variants.{Wrote as Counted, Invalid as NoTexts}
+use Rattle.jcal_texts.specs.declared.Texts.the-variants.{Written, Invalid as NoTexts}
 use Rattle.jcal_texts.specs.declared.Step.the-variants.{Octet, Separator, Invalid as Wrong}
 use Rattle.jcal_texts.proofs.Reading.{Going, going-start, going-on}
 
@@ -117,7 +117,7 @@ module _ {p q r : Pen} {n : ℕ} {us : List (List ℕ)} where
   next-written [] f w t = absurd (f refl)
   next-written (x ∷ ts) f w t = record { leads = leads-on (t .leads) w refl; count = omega arith }
 
-last-written : {p q : Pen} {out : List ℕ} {e n : ℕ} {o : Option (List (List ℕ))} (us : List (List ℕ)) → (us ≡ [] → ⊥) → o ≡ some us → Wrote q (code "\"" ∷ []) (pen out e) → Through p q n us ([] ∷ []) → WroteTexts o p out (Counted e n)
+last-written : {p q : Pen} {out : List ℕ} {e n : ℕ} {o : Option (List (List ℕ))} (us : List (List ℕ)) → (us ≡ [] → ⊥) → o ≡ some us → Wrote q (code "\"" ∷ []) (pen out e) → Through p q n us ([] ∷ []) → WroteTexts o p out (Written e n)
 unfolding stringsBehind quoted valuesJson
 last-written [] f a w t = absurd (f refl)
 last-written (u ∷ us) f a w t = (u, us, a, omega (arith, t .count), leads-last (t .leads) w refl)
@@ -228,7 +228,7 @@ module _ (sep other : ℕ) (s : List ℕ) where
     pub walked-next : {r : Pen} → StepsAt sep other s i Separator → Wrote q (octets "\",\"") r → Walked p r (n + 1) (i + 1)
     walked-next v w = record { going = going-on (λ ts. [] ∷ ts) _ (g .going) v (λ ts us f t. next-written ts (left (i + 1) ts f) w t); written = (_, then (g .written .1) w) }
 
-    pub walked-end : (out : List ℕ) (e : ℕ) → length s ≤ i → Wrote q (code "\"" ∷ []) (pen out e) → WroteTexts (textsFrom sep other false s) p out (Counted e n)
+    pub walked-end : (out : List ℕ) (e : ℕ) → length s ≤ i → Wrote q (code "\"" ∷ []) (pen out e) → WroteTexts (textsFrom sep other false s) p out (Written e n)
     unfolding textsFrom
     walked-end out e h w =
         let b = g .going .stands ([] ∷ []) (ap (textsFrom sep other false) (ended s i h)) in

@@ -14,20 +14,20 @@ use Rattle.values.specs.TextWalk.{add, stop, act, textsFrom}
 use Rattle.json.specs.Tree.{str}
 use Rattle.json.specs.Print.{quoted, valuesJson}
 use Rattle.jcal_texts.specs.declared.Attempt.{Attempt}
-use Rattle.jcal_texts.specs.declared.Attempt.the-variants.{Wrote as Done, Invalid}
+use Rattle.jcal_texts.specs.declared.Attempt.the-variants.{Written, Invalid}
 use Rattle.jcal_texts.specs.declared.Texts.{Texts}
-use Rattle.jcal_texts.specs.declared.Texts.the-variants.{Wrote as Counted, Invalid as NoTexts}
+use Rattle.jcal_texts.specs.declared.Texts.the-variants.{Written as TextsWritten, Invalid as NoTexts}
 use Rattle.jcal_texts.specs.declared.Step.{Step}
 use Rattle.jcal_texts.specs.declared.Step.the-variants.{Octet, Separator, Invalid as Wrong}
 
 -- what is read is written; or nothing is read, what stands in front of the pen is as it was, and the rest of the buffer is the code's choice
 abbrev pub Tried : {A : Type 0} → Option A → (A → List ℕ) → Pen → List ℕ → Attempt → Type 0
-Tried {A} read text p out (Done q) = (a : A) × (read ≡ some a) × Wrote p (text a) (pen out q)
+Tried {A} read text p out (Written q) = (a : A) × (read ≡ some a) × Wrote p (text a) (pen out q)
 Tried read text p out Invalid = (read ≡ none) × FrontKept p out
 
 -- the texts that are read, one at least, are written behind their first quote, as strings with a comma between them, and counted; or one is no text
 abbrev pub WroteTexts : Option (List (List ℕ)) → Pen → List ℕ → Texts → Type 0
-WroteTexts read p out (Counted q n) =
+WroteTexts read p out (TextsWritten q n) =
     (t : List ℕ) × (ts : List (List ℕ)) × (read ≡ some (t ∷ ts)) × (length ts + 1 ≡ n) × Wrote p (quoted t ++ valuesJson (map str ts)) (pen out q)
 WroteTexts read p out NoTexts = (read ≡ none) × FrontKept p out
 

@@ -24,13 +24,13 @@ use octets::upper_octet;
 
 // What a writer that tests answers: where the next octet goes, or that the value does not stand.
 pub enum Attempt {
-    Wrote(usize),
+    Written(usize),
     Invalid,
 }
 
 // What the writer of texts answers: where the next octet goes and how many texts there are, or that one is no text.
 enum Texts {
-    Wrote(usize, usize),
+    Written(usize, usize),
     Invalid,
 }
 
@@ -160,7 +160,7 @@ fn put_between(out: &mut [u8], at: usize, s: &[u8], sep: u8, other: u8) -> Texts
         let e = past_run(&*s, i);
         let q = put_all(out, p, &s[i..e]);
         if e == s.len() {
-            return Texts::Wrote(put(out, q, b'"'), n);
+            return Texts::Written(put(out, q, b'"'), n);
         }
         match step_at(&*s, e, sep, other) {
             Step::Octet(c, j) => {
@@ -185,12 +185,12 @@ pub fn put_tested_texts(out: &mut [u8], at: usize, s: &[u8], many: bool) -> Atte
 {
     let first = put_all(out, at, b",\"");
     match put_between(out, first, &*s, b',', b';') {
-        Texts::Wrote(q, n) => {
+        Texts::Written(q, n) => {
             if many {
-                return Attempt::Wrote(q);
+                return Attempt::Written(q);
             }
             if n == 1 {
-                return Attempt::Wrote(q);
+                return Attempt::Written(q);
             }
             Attempt::Invalid
         }
@@ -204,14 +204,14 @@ pub fn put_tested_status(out: &mut [u8], at: usize, s: &[u8]) -> Attempt
 {
     let first = put_all(out, at, b"[\"");
     match put_between(out, first, &*s, b';', b',') {
-        Texts::Wrote(q, n) => {
+        Texts::Written(q, n) => {
             if n < 2 {
                 return Attempt::Invalid;
             }
             if n > 3 {
                 return Attempt::Invalid;
             }
-            Attempt::Wrote(put(out, q, b']'))
+            Attempt::Written(put(out, q, b']'))
         }
         Texts::Invalid => Attempt::Invalid,
     }
@@ -227,7 +227,7 @@ pub fn put_tested_plain(out: &mut [u8], at: usize, s: &[u8]) -> Attempt
         let e = past_run(&*s, i);
         let q = put_all(out, p, &s[i..e]);
         if e == s.len() {
-            return Attempt::Wrote(put(out, q, b'"'));
+            return Attempt::Written(put(out, q, b'"'));
         }
         let c = s[e];
         if !is_plain_octet(c) {

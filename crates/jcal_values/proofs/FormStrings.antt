@@ -18,7 +18,7 @@ use Rattle.calendar.specs.Forms.{Slot, digit, sign, letter, added, takes, fits,
 use Rattle.calendar.specs.Texts.{formOf, octetsIn, Says}
 use Rattle.calendar.specs.declared.texts.Form.the-variants.{Date, Time, DateTime, Offset}
 use Rattle.calendar.specs.declared.texts.Form.{Form}
-use Rattle.calendar.specs.declared.texts.Text.{Text}
+use Rattle.calendar.specs.declared.texts.ShortText.{ShortText}
 use Rattle.calendar.proofs.Fixed.{says-none, says-some, formFor}
 use Rattle.calendar.proofs.Readback.{form-fitted}
 use Rattle.json.specs.Tree.{Json, str}
@@ -60,7 +60,7 @@ form-bare Offset true = refl
 form-bare Offset false = refl
 
 -- what a text of a form says is written, or it says nothing
-module _ (f : Form) (s : List ℕ) (t : Text) (w : Says t (formOf f s)) where
+module _ (f : Form) (s : List ℕ) (t : ShortText) (w : Says t (formOf f s)) where
   pub form-none : t .len ≡ 0 → map? str (formOf f s) ≡ none
   unfolding map?
   form-none e = ap (map? str) (sym (w .text) ∙ says-none t e)

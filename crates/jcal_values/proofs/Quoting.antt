@@ -11,7 +11,7 @@ use Rattle.octets.specs.Basics.{_or_, all}
 use Rattle.octets.specs.Optional.{isSome, given}
 use Rattle.octets.proofs.Cases.{cases, never, both, apart}
 use Rattle.calendar.specs.Texts.{octetsIn, textSaid, Says}
-use Rattle.calendar.specs.declared.texts.Text.{Text}
+use Rattle.calendar.specs.declared.texts.ShortText.{ShortText}
 use Rattle.json.specs.Print.{quoted, printString}
 use Rattle.json.proofs.Quotes.{escaped-bare}
 use Rattle.octets.specs.Groups.{asIsOctet}
@@ -30,7 +30,7 @@ unfolding asIsOctet
 bare-class p a b d e c h = rw (apart p c 34 h a, apart p c 92 h b, apart p c 10 h d, apart p c 9 h e)
 
 -- a short text that says what was read
-pub short-shown : (t : Text) (o : Option (List ℕ)) → Says t o → printString (octetsIn t) ≡ stringShown o
+pub short-shown : (t : ShortText) (o : Option (List ℕ)) → Says t o → printString (octetsIn t) ≡ stringShown o
 unfolding stringShown
 short-shown t o w = cases (eqb (t .len) 0)
     (λ e. let n = eqb-true (t .len) 0 e in

@@ -10,11 +10,11 @@ use Rattle.values.specs.Sorts.{Sort}
 use Rattle.values.specs.Read.{readValues}
 use Rattle.jcal_texts.specs.Trying.{Tried}
 use Rattle.jcal_texts.specs.declared.Attempt.{Attempt}
-use Rattle.jcal_texts.specs.declared.Attempt.the-variants.{Wrote as Done, Invalid}
+use Rattle.jcal_texts.specs.declared.Attempt.the-variants.{Written, Invalid}
 
 -- the answer by a test, behind what is written up to q
 abbrev pub answered : Bool → ℕ → Attempt
-answered true q = Done q
+answered true q = Written q
 answered false q = Invalid
 
 -- the values of a raw value that stands are written, each with a comma before it; or it does not stand, what stands in front of the pen is as it was, and the rest of the buffer is the code's choice

@@ -11,7 +11,7 @@ ghost use Rattle.values.specs.Shown.{stringShown, endShown, periodShown};
 ghost use Rattle.jcal_texts.specs.Trying.{Tried};
 use calendar::parts::find;
 use calendar::texts::Form;
-use calendar::texts::Text;
+use calendar::texts::ShortText;
 use calendar::texts::extended;
 use calendar::texts::is_basic;
 use jcal_texts::Attempt;
@@ -22,7 +22,7 @@ use octets::put_all;
 use values::simple::past;
 
 // Writes a short text as a string.
-pub(crate) fn put_short(out: &mut [u8], at: usize, t: Text) -> usize
+pub(crate) fn put_short(out: &mut [u8], at: usize, t: ShortText) -> usize
     requires { ⌜ t .len ≤ length (t .octets) ⌝ }
     ensures { λ r. ⌜ Wrote (pen (now (out .entry)) at) (printString (octetsIn t)) (pen (now (out .exit)) r) ⌝ }
 {
@@ -50,7 +50,7 @@ pub(crate) fn put_tested_form(out: &mut [u8], at: usize, form: Form, s: &[u8]) -
     }
     let first = put(out, at, b'"');
     let close = put_all(out, first, &o[0..n]);
-    Attempt::Wrote(put(out, close, b'"'))
+    Attempt::Written(put(out, close, b'"'))
 }
 
 // Writes the end of a period.

@@ -41,9 +41,9 @@ fn put_tested_list(out: &mut [u8], at: usize, sort: Sort, many: bool, raw: &[u8]
             Attempt::Invalid => {
                 return Attempt::Invalid;
             }
-            Attempt::Wrote(q) => {
+            Attempt::Written(q) => {
                 if e >= rest.len() {
-                    return Attempt::Wrote(q);
+                    return Attempt::Written(q);
                 }
                 if !many {
                     return Attempt::Invalid;
@@ -71,7 +71,7 @@ pub fn holds_values(sort: Sort, many: bool, raw: &[u8]) -> bool
 {
     let mut none = [0u8; 1];
     match put_tested(&mut none, 0, sort, many, raw) {
-        Attempt::Wrote(_) => true,
+        Attempt::Written(_) => true,
         Attempt::Invalid => false,
     }
 }

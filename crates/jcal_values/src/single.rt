@@ -34,7 +34,7 @@ fn attempt(stands: bool, q: usize) -> Attempt
     ensures { λ r. ⌜ r ≡ answered stands q ⌝ }
 {
     if stands {
-        return Attempt::Wrote(q);
+        return Attempt::Written(q);
     }
     Attempt::Invalid
 }

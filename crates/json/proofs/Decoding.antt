@@ -18,7 +18,7 @@ use Rattle.octets.proofs.Utf8.{ascii, ascii-low, ascii-high, broken-stays, star
 use Rattle.json.specs.Tree.{Json, null, falsity, truth, num, str, arr, obj, Items, noItems, item, Members, noMembers, member, itemsOf}
 use Rattle.json.specs.Reads.{Out, ok, deep, fmap, andThen, skipSpace, literal}
 use Rattle.json.specs.Numbers.{NumberPlace, start as startPlace, isExponent, advance, isBeyond, numberEnds, scan, numberRead}
-use Rattle.json.specs.Strings.{escapeOf, digit, hex4, lowOf, lowSurrogate, partner, unit, unicode, escape, piece, stringPieces, string}
+use Rattle.json.specs.Strings.{escapeOf, hex1, hex4, lowOf, lowSurrogate, partner, unit, unicode, escape, piece, stringPieces, string}
 use Rattle.json.specs.Reader.{Opening, bracket, brace, quote, numeral, nullWord, falseWord, trueWord, other, openingOf, Separator, comma, close, odd, separatorOf, colon, memberKey, Pair, pair, membersFrom, afterElement, onMark, elementsUpTo, elementsFrom, bracketed, valueBy, valueWith, valueWithin, nothingBehind, parseText}
 use Rattle.json.proofs.Outs.{Gives, gives-then, gives-map, gives-weaker, given, by}
 use Rattle.json.proofs.StringLaws.{Hex, hex-is, hex-not, hex4-view, paired}
@@ -129,15 +129,15 @@ digit-ascii b h = cases (leb b 127) (λ e. e)
     high : 127 < b → hexDigit b ≡ 16
     high l = rw (above-between 48 57 b (omega arith), above-between 65 70 b (omega arith), above-between 97 102 b (omega arith))
 
-digit-left : Takes (λ d. d < 16) digit
-unfolding digit
+digit-left : Takes (λ d. d < 16) hex1
+unfolding hex1
 digit-left [] h = tt
 digit-left (b ∷ s) h = by (Left (λ d. d < 16)) (ltb (hexDigit b) 16) (λ e. let l = ltb-true (hexDigit b) 16 e in (l, passed b s (digit-ascii b l) h)) (λ e. tt)
 
 hex4-left : Takes (λ n. n < 65536) hex4
 unfolding hex4
-hex4-left s h = gives-then _ _ (digit s) _ (digit-left s h) (λ a t ha. gives-then _ _ (digit t) _ (digit-left t (ha .1)) (λ b u hb. gives-then _ _ (digit u) _ (digit-left u (hb .1))
-    (λ c v hc. gives-then _ _ (digit v) _ (digit-left v (hc .1)) (λ d w hd. (omega arith, hd .1)))))
+hex4-left s h = gives-then _ _ (hex1 s) _ (digit-left s h) (λ a t ha. gives-then _ _ (hex1 t) _ (digit-left t (ha .1)) (λ b u hb. gives-then _ _ (hex1 u) _ (digit-left u (hb .1))
+    (λ c v hc. gives-then _ _ (hex1 v) _ (digit-left v (hc .1)) (λ d w hd. (omega arith, hd .1)))))
 
 -- behind a low surrogate that was found
 low-left : (s : List ℕ) → utf8 s ≡ true → ((lowSurrogate s ≡ 0) → ⊥) → utf8 (drop 6 s) ≡ true

@@ -20,8 +20,8 @@ use Rattle.json.specs.Reader.{Separator, comma, close, odd, separatorOf,
 use Rattle.json.specs.Tape.{tagEnd, serString, ser}
 use Rattle.octets.specs.Search.{ClassRun}
 use Rattle.json.specs.Promise.{Agrees}
-use Rattle.json.specs.declared.Step.{Step}
-use Rattle.json.proofs.Step.{the-type}
+use Rattle.json.specs.declared.JsonRead.{JsonRead}
+use Rattle.json.proofs.JsonRead.{the-type}
 use Rattle.json.proofs.Outs.{Gives, gives-weaker, then-alike}
 use Rattle.json.proofs.Tapes.{serList, serPair}
 use Rattle.json.proofs.Sizes.{skip-less}
@@ -72,7 +72,7 @@ module _ {A : Type 0} (f : A → List ℕ) (end : ℕ) (P : List ℕ → Out A) 
   unfolding bracketed elementsFrom literal
   group-ends e z = rw (← (skip-run text blank), here text i (inside-is text i end e z), eq-eqb _ end e)
 
-  pub group-none : {low : ℕ} {p : Pen} {t : List ℕ} {r : Step} → getD text i 0 ≡ end → 0 < end → Agrees (λ _. tagEnd ∷ []) text low p t (literal (end ∷ []) (drop i text)) r → Agrees (serList f) text low p t (bracketed end P (drop at text)) r
+  pub group-none : {low : ℕ} {p : Pen} {t : List ℕ} {r : JsonRead} → getD text i 0 ≡ end → 0 < end → Agrees (λ _. tagEnd ∷ []) text low p t (literal (end ∷ []) (drop i text)) r → Agrees (serList f) text low p t (bracketed end P (drop at text)) r
   unfolding serList
   group-none {low} e z x = agrees-by (group-ends e z) (le-refl low) (agrees-map (serList f) (λ _. []) (λ _. refl) x)
 
@@ -85,7 +85,7 @@ module _ {A : Type 0} (f : A → List ℕ) (end : ℕ) (P : List ℕ → Out A) 
 -- one turn of the loop over the elements
 module _ {A : Type 0} (f : A → List ℕ) (end : ℕ) (P : List ℕ → Out A) (h : Shortens P) {text : List ℕ} {low : ℕ} {p q : Pen} {i₀ i : ℕ} (g : Going (serList f) (several end P) text low p i₀ q i) where
   -- an element that is not read ends the reading
-  pub element-fails : {t : List ℕ} {l : ℕ} {v : Step} → OneOf (1 ∷ 2 ∷ []) (tagOf the-type v) → Agrees f text l q t (P (drop i text)) v → Agrees (serList f) text low p t (several end P (drop i₀ text)) v
+  pub element-fails : {t : List ℕ} {l : ℕ} {v : JsonRead} → OneOf (1 ∷ 2 ∷ []) (tagOf the-type v) → Agrees f text l q t (P (drop i text)) v → Agrees (serList f) text low p t (several end P (drop i₀ text)) v
   element-fails {t} {l} {v} not x = g .goes t v (agrees-by (several-step end P h (drop i text)) (le-refl low) (agrees-fails _ not x))
 
   -- an element was read up to e, and n is behind white space
@@ -108,17 +108,17 @@ module _ {A : Type 0} (f : A → List ℕ) (end : ℕ) (P : List ℕ → Out A) 
         (λ k. rw (here text n (ltb-true n (length text) k), ne-eqb _ 44 c) (cases (eqb (getD text n 0) end) (λ y. rw y) (λ y. rw y)))
         (λ k. rw (ended text n (ltb-false n (length text) k)))
 
-    pub element-close : {t₁ : List ℕ} {r : Step} → ((getD text n 0 ≡ 44) → ⊥) → low ≤ n + 1 → Agrees (λ _. tagEnd ∷ []) text (n + 1) (pen t to) t₁ (literal (end ∷ []) (drop n text)) r → Agrees (serList f) text low p t₁ (several end P (drop i₀ text)) r
+    pub element-close : {t₁ : List ℕ} {r : JsonRead} → ((getD text n 0 ≡ 44) → ⊥) → low ≤ n + 1 → Agrees (λ _. tagEnd ∷ []) text (n + 1) (pen t to) t₁ (literal (end ∷ []) (drop n text)) r → Agrees (serList f) text low p t₁ (several end P (drop i₀ text)) r
     unfolding serList
     element-close {t₁} {r} c k y = g .goes t₁ r (agrees-by (element-then ∙ element-last c) k (agrees-after (serList f) (λ _. x .it ∷ []) (x .wrote) (λ _. refl) y))
 
 -- a key and its value
 module _ (P : List ℕ → Out Json) {text : List ℕ} {p : Pen} {t : List ℕ} (i : ℕ) where
-  pub pair-agrees : {t₁ : List ℕ} {a to : ℕ} {v : Step} → HasRead serString text (i + 1) p t (memberKey (drop i text)) a to → Agrees ser text (a + 1) (pen t to) t₁ (P (drop a text)) v → Agrees serPair text (i + 1) p t₁ (pair P (drop i text)) v
+  pub pair-agrees : {t₁ : List ℕ} {a to : ℕ} {v : JsonRead} → HasRead serString text (i + 1) p t (memberKey (drop i text)) a to → Agrees ser text (a + 1) (pen t to) t₁ (P (drop a text)) v → Agrees serPair text (i + 1) p t₁ (pair P (drop i text)) v
   unfolding pair
   pair-agrees {a = a} x y = agrees-by {low = a + 1} (ap (λ (o : Out (List ℕ)). andThen o (λ k s. fmap (λ j. record { key = k; it = j }) (P s))) (x .is)) (omega (arith, x .above))
       (agrees-after serPair (λ j. record { key = x .it; it = j }) (x .wrote) (λ j. refl) y)
 
-  pub pair-fails : {l l′ : ℕ} {v : Step} → OneOf (1 ∷ 2 ∷ []) (tagOf the-type v) → Agrees serString text l p t (memberKey (drop i text)) v → Agrees serPair text l′ p t (pair P (drop i text)) v
+  pub pair-fails : {l l′ : ℕ} {v : JsonRead} → OneOf (1 ∷ 2 ∷ []) (tagOf the-type v) → Agrees serString text l p t (memberKey (drop i text)) v → Agrees serPair text l′ p t (pair P (drop i text)) v
   unfolding pair
   pair-fails not x = agrees-fails _ not x

@@ -16,7 +16,7 @@ use Rattle.json.specs.Reads.{Out, ok, bad}
 use Rattle.json.specs.Numbers.{NumberPlace, start, minus, zero, int, point, frac, e, sign, exp, beyond, isExponent, isPlusMinus, behindInt, firstDigit, advance, isBeyond, numberEnds, scan}
 use Rattle.octets.specs.Search.{ClassRun}
 use Rattle.json.specs.Promise.{FoundAt, found, missing}
-use Rattle.json.specs.declared.Found.{Found}
+use Rattle.json.specs.declared.PlaceFound.{PlaceFound}
 use Rattle.octets.proofs.Runs.{run-passes, run-next, run-first, run-rest, inside, inside-is}
 
 module _ (text : List ℕ) (i : ℕ) (q : NumberPlace) where
@@ -144,6 +144,6 @@ module _ (text : List ℕ) (at : ℕ) where
   number-bare h = scan-alike text at start minus (rw (ne-eqb _ 45 h)) refl
 
 -- the same place by another reading
-pub found-by : {text : List ℕ} {low low′ : ℕ} {o o′ : Out (Unit {0})} {r : Found} → o′ ≡ o → low′ ≤ low → FoundAt text low o r → FoundAt text low′ o′ r
+pub found-by : {text : List ℕ} {low low′ : ℕ} {o o′ : Out (Unit {0})} {r : PlaceFound} → o′ ≡ o → low′ ≤ low → FoundAt text low o r → FoundAt text low′ o′ r
 found-by q h (found w l b) = found (q ∙ w) (le-trans h l) b
 found-by q h (missing w) = missing (q ∙ w)

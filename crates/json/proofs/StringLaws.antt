@@ -16,7 +16,7 @@ use Rattle.octets.proofs.Cases.{cases, both, and-true-right, pick-same}
 use Rattle.octets.proofs.Classes.{between-true}
 use Rattle.octets.proofs.Positions.{here, ended, past-end, part-rest}
 use Rattle.json.specs.Reads.{Out, ok, deep, bad, fmap, andThen}
-use Rattle.json.specs.Strings.{escapeOf, digit, hex4, utf8Of, lowOf, lowSurrogate, partner, unit, unicode, escape, piece, stringPieces, string}
+use Rattle.json.specs.Strings.{escapeOf, hex1, hex4, utf8Of, lowOf, lowSurrogate, partner, unit, unicode, escape, piece, stringPieces, string}
 use Rattle.octets.specs.Search.{ClassRun}
 use Rattle.json.specs.Promise.{hexCode}
 use Rattle.json.proofs.Outs.{Gives, gives-weaker, by, then-alike, map-map, map-same}
@@ -31,8 +31,8 @@ pub data Hex (s : List ℕ) : Out ℕ → Type 0 where
   hex-is : {n : ℕ} → n < 65536 → 4 ≤ length s → Hex s (ok n (drop 4 s))
   hex-not : Hex s bad
 
-digit-view : (s : List ℕ) → Digit s (digit s)
-unfolding digit
+digit-view : (s : List ℕ) → Digit s (hex1 s)
+unfolding hex1
 digit-view [] = digit-not
 digit-view (b ∷ s) = by (Digit (b ∷ s)) (ltb (hexDigit b) 16) (λ e. digit-is (ltb-true (hexDigit b) 16 e) (omega arith)) (λ e. digit-not)
 
@@ -76,8 +76,8 @@ digit-zero : hexDigit 0 ≡ 16
 unfolding hexDigit isDigit between
 digit-zero = refl
 
-code-step : (text : List ℕ) (i j : ℕ) (k : ℕ → List ℕ → Out ℕ) → i + 1 ≡ j → hexCode (andThen (digit (drop i text)) k) ≡ pick (ltb (D text i) 16) (hexCode (k (D text i) (drop j text))) 65536
-unfolding digit hexCode
+code-step : (text : List ℕ) (i j : ℕ) (k : ℕ → List ℕ → Out ℕ) → i + 1 ≡ j → hexCode (andThen (hex1 (drop i text)) k) ≡ pick (ltb (D text i) 16) (hexCode (k (D text i) (drop j text))) 65536
+unfolding hex1 hexCode
 code-step text i j k e = cases (ltb i (length text))
     (λ h. rw (here text i (ltb-true i (length text) h), e) (by (λ o. hexCode (andThen o k) ≡ pick (ltb (D text i) 16) (hexCode (k (D text i) (drop j text))) 65536) (ltb (D text i) 16) (λ x. rw x) (λ x. rw x)))
     (λ h. rw (ended text i (ltb-false i (length text) h), past-end text i (ltb-false i (length text) h), digit-zero))

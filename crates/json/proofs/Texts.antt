@@ -15,9 +15,9 @@ use Rattle.json.specs.Strings.{escape, string}
 use Rattle.json.specs.Tape.{tagEnd, serText}
 use Rattle.octets.specs.Search.{ClassRun}
 use Rattle.json.specs.Promise.{Agrees, read, not-json}
-use Rattle.json.specs.declared.Step.{Step}
-use Rattle.json.specs.declared.Step.the-variants.{Read, NotJson}
-use Rattle.json.proofs.Step.{the-type}
+use Rattle.json.specs.declared.JsonRead.{JsonRead}
+use Rattle.json.specs.declared.JsonRead.the-variants.{Read, NotJson}
+use Rattle.json.proofs.JsonRead.{the-type}
 use Rattle.octets.proofs.Runs.{inside-is}
 use Rattle.json.proofs.StringLaws.{string-run, string-quote, string-escape, string-none}
 use Rattle.json.proofs.Agreements.{HasRead, Going, going-on, agrees-by, agrees-fails}
@@ -33,7 +33,7 @@ module _ {text : List ℕ} {low : ℕ} {p q : Pen} {i₀ i : ℕ} (g : Going ser
   text-none {t} h a b = g .goes t NotJson (not-json (string-none text i h a b))
 
   module _ (h : getD text i 0 ≡ 92) {l : ℕ} {t : List ℕ} where
-    pub text-fails : {v : Step} → OneOf (1 ∷ 2 ∷ []) (tagOf the-type v) → Agrees (λ xs. xs) text l q t (escape (drop (i + 1) text)) v → Agrees serText text low p t (string (drop i₀ text)) v
+    pub text-fails : {v : JsonRead} → OneOf (1 ∷ 2 ∷ []) (tagOf the-type v) → Agrees (λ xs. xs) text l q t (escape (drop (i + 1) text)) v → Agrees serText text low p t (string (drop i₀ text)) v
     text-fails {v} n x = g .goes t v (agrees-by (string-escape text i h) (le-refl low) (agrees-fails _ n x))
 
     pub text-escape : {e to : ℕ} → HasRead (λ xs. xs) text l q t (escape (drop (i + 1) text)) e to → Going serText string text low p i₀ (pen t to) e

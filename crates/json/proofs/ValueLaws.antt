@@ -25,8 +25,8 @@ use Rattle.json.specs.Reader.{Opening, bracket, brace, quote, numeral, n
 use Rattle.json.specs.Tape.{tagNull, tagFalse, tagTrue, tagNumber, tagArray, tagObject, serText, serString, ser}
 use Rattle.octets.specs.Search.{ClassRun}
 use Rattle.json.specs.Promise.{Agrees}
-use Rattle.json.specs.declared.Step.{Step}
-use Rattle.json.proofs.Step.{the-type}
+use Rattle.json.specs.declared.JsonRead.{JsonRead}
+use Rattle.json.proofs.JsonRead.{the-type}
 use Rattle.octets.proofs.Runs.{inside, inside-is}
 use Rattle.json.proofs.Words.{skip-run}
 use Rattle.json.proofs.NumberLaws.{scan-over}
@@ -121,7 +121,7 @@ module _ (text : List ℕ) (i d : ℕ) (e : openingOf (getD text i 0) ≡ bracke
   unfolding levels
   array-deep z = array-is ∙ rw z
 
-  pub array-agrees : ((d ≡ 0) → ⊥) → {low : ℕ} {p q : Pen} {t : List ℕ} {r : Step} → Wrote p (tagArray ∷ []) q → Agrees (serList ser) text low q t (bracketed 93 (valueWithin (d - 1)) (drop (i + 1) text)) r → Agrees ser text low p t (valueWithin d (drop i text)) r
+  pub array-agrees : ((d ≡ 0) → ⊥) → {low : ℕ} {p q : Pen} {t : List ℕ} {r : JsonRead} → Wrote p (tagArray ∷ []) q → Agrees (serList ser) text low q t (bracketed 93 (valueWithin (d - 1)) (drop (i + 1) text)) r → Agrees ser text low p t (valueWithin d (drop i text)) r
   array-agrees n {low} w x = agrees-by (array-is ∙ ap (fmap (λ l. arr (itemsOf l))) (levels-left 93 (λ p. p) d (drop (i + 1) text) n)) (le-refl low) (agrees-after ser (λ l. arr (itemsOf l)) w array-tape x)
 
 module _ (text : List ℕ) (i d : ℕ) (e : openingOf (getD text i 0) ≡ brace) where
@@ -133,7 +133,7 @@ module _ (text : List ℕ) (i d : ℕ) (e : openingOf (getD text i 0) ≡ brace)
   unfolding levels
   object-deep z = object-is ∙ rw z
 
-  pub object-agrees : ((d ≡ 0) → ⊥) → {low : ℕ} {p q : Pen} {t : List ℕ} {r : Step} → Wrote p (tagObject ∷ []) q → Agrees (serList serPair) text low q t (bracketed 125 (pair (valueWithin (d - 1))) (drop (i + 1) text)) r → Agrees ser text low p t (valueWithin d (drop i text)) r
+  pub object-agrees : ((d ≡ 0) → ⊥) → {low : ℕ} {p q : Pen} {t : List ℕ} {r : JsonRead} → Wrote p (tagObject ∷ []) q → Agrees (serList serPair) text low q t (bracketed 125 (pair (valueWithin (d - 1))) (drop (i + 1) text)) r → Agrees ser text low p t (valueWithin d (drop i text)) r
   object-agrees n {low} w x = agrees-by (object-is ∙ ap (fmap (λ l. obj (membersFrom l))) (levels-left 125 pair d (drop (i + 1) text) n)) (le-refl low) (agrees-after ser (λ l. obj (membersFrom l)) w object-tape x)
 
 -- what their elements are read by
@@ -153,7 +153,7 @@ unfolding pair memberKey
 pair-nil d = refl
 
 -- the other kinds, by the octet at i
-module _ (text : List ℕ) (i d : ℕ) {p : Pen} {t : List ℕ} {r : Step} where
+module _ (text : List ℕ) (i d : ℕ) {p : Pen} {t : List ℕ} {r : JsonRead} where
   pub string-agrees : getD text i 0 ≡ 34 → Agrees serString text (i + 1) p t (string (drop (i + 1) text)) r → Agrees ser text (i + 1) p t (valueWithin d (drop i text)) r
   unfolding valueBy openingOf ser
   string-agrees e x = agrees-by (value-kind text i d quote (rw e)) (le-refl _) (agrees-map ser str (λ _. refl) x)
@@ -194,7 +194,7 @@ module _ (text : List ℕ) (i d : ℕ) (a : (getD text i 0 ≡ 91) → ⊥) (o :
       zero-not : (eqb 0 45 or isDigit 0) ≡ false
       zero-not = unfold isDigit between in refl
 
-  pub number-agrees : {p : Pen} {u : List ℕ} {r : Step} → Agrees (λ w. tagNumber ∷ serText w) text (i + 1) p u (numberRead (drop i text)) r → Agrees ser text (i + 1) p u (valueWithin d (drop i text)) r
+  pub number-agrees : {p : Pen} {u : List ℕ} {r : JsonRead} → Agrees (λ w. tagNumber ∷ serText w) text (i + 1) p u (numberRead (drop i text)) r → Agrees ser text (i + 1) p u (valueWithin d (drop i text)) r
   unfolding ser
   number-agrees x = agrees-by number-is (le-refl _) (agrees-map ser num (λ _. refl) x)
 
@@ -204,7 +204,7 @@ module _ (text : List ℕ) {i : ℕ} (blank : ClassRun isSpace text 0 i) where
   unfolding parseText
   text-at = rw (skip-run text blank)
 
-  pub text-fails : {low low′ : ℕ} {p : Pen} {t : List ℕ} {v : Step} → OneOf (1 ∷ 2 ∷ []) (tagOf the-type v) → Agrees ser text low p t (valueWithin mostOpen (drop i text)) v → Agrees ser text low′ p t (parseText text) v
+  pub text-fails : {low low′ : ℕ} {p : Pen} {t : List ℕ} {v : JsonRead} → OneOf (1 ∷ 2 ∷ []) (tagOf the-type v) → Agrees ser text low p t (valueWithin mostOpen (drop i text)) v → Agrees ser text low′ p t (parseText text) v
   text-fails {low} {low′} n x = agrees-by text-at (le-refl low′) (agrees-fails _ n x)
 
   module _ {low e n to : ℕ} {p : Pen} {t : List ℕ} (x : HasRead ser text low p t (valueWithin mostOpen (drop i text)) e to) (behind : ClassRun isSpace text e n) where

@@ -10,18 +10,18 @@ use Rattle.octets.specs.Basics.{pick, all}
 use Rattle.octets.specs.Pen.{Pen, pen, Wrote}
 use Rattle.json.specs.Reads.{Out, ok, deep, bad}
 use Rattle.json.specs.Print.{escaped}
-use Rattle.json.specs.declared.Step.{Step}
-use Rattle.json.specs.declared.Step.the-variants.{Read, TooDeep, NotJson}
-use Rattle.json.specs.declared.Found.{Found}
-use Rattle.json.specs.declared.Found.the-variants.{At, Nothing}
+use Rattle.json.specs.declared.JsonRead.{JsonRead}
+use Rattle.json.specs.declared.JsonRead.the-variants.{Read, TooDeep, NotJson}
+use Rattle.json.specs.declared.PlaceFound.{PlaceFound}
+use Rattle.json.specs.declared.PlaceFound.the-variants.{At, Nothing}
 
 -- the place of the answer, `low` at least, is where the reading o ends
-pub data FoundAt (text : List ℕ) (low : ℕ) (o : Out (Unit {0})) : Found → Type 0 where
+pub data FoundAt (text : List ℕ) (low : ℕ) (o : Out (Unit {0})) : PlaceFound → Type 0 where
   found : {e : ℕ} → o ≡ ok tt (drop e text) → low ≤ e → e ≤ length text → FoundAt text low o (At e)
   missing : o ≡ bad → FoundAt text low o Nothing
 
 -- the answer is the reading o: what it read has the tape f, which was written with the pen p; t is the buffer then
-pub data Agrees {A : Type 0} (f : A → List ℕ) (text : List ℕ) (low : ℕ) (p : Pen) (t : List ℕ) (o : Out A) : Step → Type 0 where
+pub data Agrees {A : Type 0} (f : A → List ℕ) (text : List ℕ) (low : ℕ) (p : Pen) (t : List ℕ) (o : Out A) : JsonRead → Type 0 where
   read : {e to : ℕ} (a : A) → o ≡ ok a (drop e text) → low ≤ e → e ≤ length text → Wrote p (f a) (pen t to) → Agrees f text low p t o (Read e to)
   too-deep : o ≡ deep → Agrees f text low p t o TooDeep
   not-json : o ≡ bad → Agrees f text low p t o NotJson

@@ -20,13 +20,13 @@ escapeOf b =
     (pick (eqb b (code "r")) (code "\r")
     (pick (eqb b (code "t")) (code "\t") 0)))))))
 
-unfoldable pub digit : List ℕ → Out ℕ
-digit [] = bad
-digit (b ∷ s) = pick (ltb (hexDigit b) 16) (ok (hexDigit b) s) bad
+unfoldable pub hex1 : List ℕ → Out ℕ
+hex1 [] = bad
+hex1 (b ∷ s) = pick (ltb (hexDigit b) 16) (ok (hexDigit b) s) bad
 
 -- 4HEXDIG
 unfoldable pub hex4 : List ℕ → Out ℕ
-hex4 s = andThen (digit s) (λ a t. andThen (digit t) (λ b u. andThen (digit u) (λ c v. andThen (digit v) (λ d w. ok (a * 4096 + b * 256 + c * 16 + d) w))))
+hex4 s = andThen (hex1 s) (λ a t. andThen (hex1 t) (λ b u. andThen (hex1 u) (λ c v. andThen (hex1 v) (λ d w. ok (a * 4096 + b * 256 + c * 16 + d) w))))
 
 -- RFC 3629 3. A lone surrogate gets the three octets that it would have; no UTF-8 text holds them, and they are 12 (01, Values)
 unfoldable pub utf8Of : ℕ → List ℕ

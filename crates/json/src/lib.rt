@@ -18,14 +18,14 @@ pub enum Parsed {
 }
 
 // What a reader answers: it read up to a place of the text and wrote up to a place of the tape; or why it did not.
-pub(crate) enum Step {
+pub(crate) enum JsonRead {
     Read(usize, usize),
     TooDeep,
     NotJson,
 }
 
 // A place that was looked for.
-pub(crate) enum Found {
+pub(crate) enum PlaceFound {
     At(usize),
     Nothing,
 }

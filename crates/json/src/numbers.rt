@@ -7,7 +7,7 @@ ghost use Rattle.json.specs.Reads.{ok};
 ghost use Rattle.json.specs.Numbers.{isExponent, scan, start, minus, zero, point, e as behindE, sign};
 ghost use Rattle.octets.specs.Search.{ClassRun};
 ghost use Rattle.json.specs.Promise.{FoundAt};
-use crate::Found;
+use crate::PlaceFound;
 
 fn past_digits(text: &[u8], at: usize) -> usize
     requires { ⌜ at ≤ length (now text) ⌝ }
@@ -17,19 +17,19 @@ fn past_digits(text: &[u8], at: usize) -> usize
 }
 
 // One digit or more, to the end of a number.
-fn past_last_digits(text: &[u8], at: usize) -> Found
+fn past_last_digits(text: &[u8], at: usize) -> PlaceFound
     requires { ⌜ at ≤ length (now text) ⌝ }
     ensures { λ r. ⌜ FoundAt (now (text .entry)) at (scan sign (drop at (now (text .entry)))) r ⌝ }
 {
     let i = past_digits(text, at);
     if i == at {
-        return Found::Nothing;
+        return PlaceFound::Nothing;
     }
-    Found::At(i)
+    PlaceFound::At(i)
 }
 
 // Behind e: a sign or none, and digits.
-fn past_power(text: &[u8], at: usize) -> Found
+fn past_power(text: &[u8], at: usize) -> PlaceFound
     requires { ⌜ at ≤ length (now text) ⌝ }
     ensures { λ r. ⌜ FoundAt (now (text .entry)) at (scan behindE (drop at (now (text .entry)))) r ⌝ }
 {
@@ -41,31 +41,31 @@ fn past_power(text: &[u8], at: usize) -> Found
 }
 
 // An exponent or none.
-fn past_exponent(text: &[u8], at: usize) -> Found
+fn past_exponent(text: &[u8], at: usize) -> PlaceFound
     requires { ⌜ at ≤ length (now text) ⌝ }
     ensures { λ r. ⌜ FoundAt (now (text .entry)) at (pick (isExponent (getD (now (text .entry)) at 0)) (scan behindE (drop (at + 1) (now (text .entry)))) (ok tt (drop at (now (text .entry))))) r ⌝ }
 {
     match octets::peek(&*text, at) {
         b'e' => past_power(&*text, at + 1),
         b'E' => past_power(&*text, at + 1),
-        _ => Found::At(at),
+        _ => PlaceFound::At(at),
     }
 }
 
 // Behind the point: digits, and an exponent or none.
-fn past_fraction(text: &[u8], at: usize) -> Found
+fn past_fraction(text: &[u8], at: usize) -> PlaceFound
     requires { ⌜ at ≤ length (now text) ⌝ }
     ensures { λ r. ⌜ FoundAt (now (text .entry)) at (scan point (drop at (now (text .entry)))) r ⌝ }
 {
     let i = past_digits(text, at);
     if i == at {
-        return Found::Nothing;
+        return PlaceFound::Nothing;
     }
     past_exponent(text, i)
 }
 
 // Behind the whole digits: a fraction or none, and an exponent or none.
-fn past_whole(text: &[u8], at: usize) -> Found
+fn past_whole(text: &[u8], at: usize) -> PlaceFound
     requires { ⌜ at ≤ length (now text) ⌝ }
     ensures { λ r. ⌜ FoundAt (now (text .entry)) at (scan zero (drop at (now (text .entry)))) r ⌝ }
 {
@@ -76,7 +76,7 @@ fn past_whole(text: &[u8], at: usize) -> Found
 }
 
 // A number behind its minus: a zero alone or digits, and what may follow.
-fn past_unsigned(text: &[u8], at: usize) -> Found
+fn past_unsigned(text: &[u8], at: usize) -> PlaceFound
     requires { ⌜ at ≤ length (now text) ⌝ }
     ensures { λ r. ⌜ FoundAt (now (text .entry)) (at + 1) (scan minus (drop at (now (text .entry)))) r ⌝ }
 {
@@ -85,12 +85,12 @@ fn past_unsigned(text: &[u8], at: usize) -> Found
     }
     let i = past_digits(text, at);
     if i == at {
-        return Found::Nothing;
+        return PlaceFound::Nothing;
     }
     past_whole(text, i)
 }
 
-pub(crate) fn past_number(text: &[u8], at: usize) -> Found
+pub(crate) fn past_number(text: &[u8], at: usize) -> PlaceFound
     requires { ⌜ at ≤ length (now text) ⌝ }
     ensures { λ r. ⌜ FoundAt (now (text .entry)) (at + 1) (scan start (drop at (now (text .entry)))) r ⌝ }
 {

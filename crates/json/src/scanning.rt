@@ -6,7 +6,7 @@ ghost use Rattle.octets.specs.Classes.{isSpace};
 ghost use Rattle.json.specs.Reads.{literal};
 ghost use Rattle.octets.specs.Search.{ClassRun};
 ghost use Rattle.json.specs.Promise.{FoundAt};
-use crate::Found;
+use crate::PlaceFound;
 use octets::Class;
 
 // The place behind the white space at `at`.
@@ -18,7 +18,7 @@ pub(crate) fn past_space(text: &[u8], at: usize) -> usize
 }
 
 // The place behind a literal name at `at`.
-pub(crate) fn past_word(text: &[u8], at: usize, word: &[u8]) -> Found
+pub(crate) fn past_word(text: &[u8], at: usize, word: &[u8]) -> PlaceFound
     requires { ⌜ at ≤ length (now text) ⌝ }
     ensures { λ r. ⌜ FoundAt (now (text .entry)) at (literal (now (word .entry)) (drop at (now (text .entry)))) r ⌝ }
 {
@@ -26,13 +26,13 @@ pub(crate) fn past_word(text: &[u8], at: usize, word: &[u8]) -> Found
     let mut k = 0;
     while k < word.len() {
         if text.len() <= i {
-            return Found::Nothing;
+            return PlaceFound::Nothing;
         }
         if text[i] != word[k] {
-            return Found::Nothing;
+            return PlaceFound::Nothing;
         }
         i += 1;
         k += 1;
     }
-    Found::At(i)
+    PlaceFound::At(i)
 }

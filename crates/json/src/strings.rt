@@ -11,8 +11,8 @@ ghost use Rattle.json.specs.Tape.{serString};
 ghost use Rattle.octets.specs.Search.{ClassRun};
 ghost use Rattle.json.specs.Promise.{Agrees, hexCode};
 use crate::END;
+use crate::JsonRead;
 use crate::STRING;
-use crate::Step;
 use octets::Class;
 
 // More than four hexadecimal digits can say.
@@ -118,19 +118,19 @@ fn put_char(out: &mut [u8], at: usize, n: usize) -> usize
 }
 
 // Reads what follows `\u`.
-fn unicode(text: &[u8], at: usize, tape: &mut [u8], to: usize) -> Step
+fn unicode(text: &[u8], at: usize, tape: &mut [u8], to: usize) -> JsonRead
     requires { ⌜ at ≤ length (now text) ⌝ }
     ensures { λ r. ⌜ Agrees (λ (xs : List ℕ). xs) (now (text .entry)) at (pen (now (tape .entry)) to) (now (tape .exit)) (unicodeOf (drop at (now (text .entry)))) r ⌝ }
 {
     let u = hex4(text, at);
     if u == NONE {
-        return Step::NotJson;
+        return JsonRead::NotJson;
     }
     let l = partner(text, at + 4, u);
     if l == 0 {
-        return Step::Read(at + 4, put_char(tape, to, u));
+        return JsonRead::Read(at + 4, put_char(tape, to, u));
     }
-    Step::Read(
+    JsonRead::Read(
         at + 10,
         put_char(tape, to, 65536 + (u - 0xD800) * 1024 + (l - 0xDC00)),
     )
@@ -154,7 +154,7 @@ fn escape_of(b: u8) -> u8
 }
 
 // Reads what follows a backslash.
-fn escape(text: &[u8], at: usize, tape: &mut [u8], to: usize) -> Step
+fn escape(text: &[u8], at: usize, tape: &mut [u8], to: usize) -> JsonRead
     requires { ⌜ at ≤ length (now text) ⌝ }
     ensures { λ r. ⌜ Agrees (λ (xs : List ℕ). xs) (now (text .entry)) at (pen (now (tape .entry)) to) (now (tape .exit)) (escapeText (drop at (now (text .entry)))) r ⌝ }
 {
@@ -164,9 +164,9 @@ fn escape(text: &[u8], at: usize, tape: &mut [u8], to: usize) -> Step
     }
     let x = escape_of(b);
     if x == 0 {
-        return Step::NotJson;
+        return JsonRead::NotJson;
     }
-    Step::Read(at + 1, octets::put(tape, to, x))
+    JsonRead::Read(at + 1, octets::put(tape, to, x))
 }
 
 // The place behind the octets at `at` that stand for themselves.
@@ -178,7 +178,7 @@ fn past_unescaped(text: &[u8], at: usize) -> usize
 }
 
 // Reads what follows an opening quote; octets that stand for themselves are copied run by run.
-pub(crate) fn string(text: &[u8], at: usize, tape: &mut [u8], to: usize) -> Step
+pub(crate) fn string(text: &[u8], at: usize, tape: &mut [u8], to: usize) -> JsonRead
     requires { ⌜ at ≤ length (now text) ⌝ }
     ensures { λ r. ⌜ Agrees serString (now (text .entry)) at (pen (now (tape .entry)) to) (now (tape .exit)) (stringOf (drop at (now (text .entry)))) r ⌝ }
 {
@@ -189,13 +189,13 @@ pub(crate) fn string(text: &[u8], at: usize, tape: &mut [u8], to: usize) -> Step
         let q = octets::put_all(tape, p, &text[i..e]);
         let b = octets::peek(&*text, e);
         if b == b'"' {
-            return Step::Read(e + 1, octets::put(tape, q, END));
+            return JsonRead::Read(e + 1, octets::put(tape, q, END));
         }
         if b != b'\\' {
-            return Step::NotJson;
+            return JsonRead::NotJson;
         }
         let v = escape(&*text, e + 1, tape, q);
-        let Step::Read(n, m) = v else {
+        let JsonRead::Read(n, m) = v else {
             return v;
         };
         i = n;

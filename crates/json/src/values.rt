@@ -13,12 +13,12 @@ ghost use Rattle.json.specs.Promise.{Agrees};
 use crate::ARRAY;
 use crate::END;
 use crate::FALSE;
-use crate::Found;
+use crate::JsonRead;
 use crate::NULL;
 use crate::NUMBER;
 use crate::OBJECT;
 use crate::Parsed;
-use crate::Step;
+use crate::PlaceFound;
 use crate::TRUE;
 use crate::numbers::past_number;
 use crate::scanning::past_space;
@@ -26,68 +26,68 @@ use crate::scanning::past_word;
 use crate::strings::string;
 
 // Reads a literal name, and writes the tag that stands for it.
-fn literal(text: &[u8], at: usize, word: &[u8], tape: &mut [u8], to: usize, tag: u8) -> Step
+fn literal(text: &[u8], at: usize, word: &[u8], tape: &mut [u8], to: usize, tag: u8) -> JsonRead
     requires { ⌜ at ≤ length (now text) ⌝ }
     ensures { λ r. ⌜ Agrees (λ (_ : Unit {0}). tag ∷ []) (now (text .entry)) at (pen (now (tape .entry)) to) (now (tape .exit)) (wordOf (now (word .entry)) (drop at (now (text .entry)))) r ⌝ }
 {
     let f = past_word(text, at, word);
     match f {
-        Found::At(e) => Step::Read(e, octets::put(tape, to, tag)),
-        Found::Nothing => Step::NotJson,
+        PlaceFound::At(e) => JsonRead::Read(e, octets::put(tape, to, tag)),
+        PlaceFound::Nothing => JsonRead::NotJson,
     }
 }
 
 // Reads a number, kept as its text.
-fn number(text: &[u8], at: usize, tape: &mut [u8], to: usize) -> Step
+fn number(text: &[u8], at: usize, tape: &mut [u8], to: usize) -> JsonRead
     requires { ⌜ at ≤ length (now text) ⌝ }
     ensures { λ r. ⌜ Agrees (λ (t : List ℕ). tagNumber ∷ serText t) (now (text .entry)) (at + 1) (pen (now (tape .entry)) to) (now (tape .exit)) (numberRead (drop at (now (text .entry)))) r ⌝ }
 {
     let f = past_number(text, at);
     match f {
-        Found::At(e) => {
+        PlaceFound::At(e) => {
             let p = octets::put(tape, to, NUMBER);
             let q = octets::put_all(tape, p, &text[at..e]);
-            Step::Read(e, octets::put(tape, q, END))
+            JsonRead::Read(e, octets::put(tape, q, END))
         }
-        Found::Nothing => Step::NotJson,
+        PlaceFound::Nothing => JsonRead::NotJson,
     }
 }
 
 // Reads a key, up to its value.
-fn key(text: &[u8], at: usize, tape: &mut [u8], to: usize) -> Step
+fn key(text: &[u8], at: usize, tape: &mut [u8], to: usize) -> JsonRead
     requires { ⌜ at ≤ length (now text) ⌝ }
     ensures { λ r. ⌜ Agrees serString (now (text .entry)) (at + 1) (pen (now (tape .entry)) to) (now (tape .exit)) (memberKey (drop at (now (text .entry)))) r ⌝ }
 {
     if octets::peek(text, at) != b'"' {
-        return Step::NotJson;
+        return JsonRead::NotJson;
     }
     let v = string(text, at + 1, tape, to);
-    let Step::Read(e, q) = v else {
+    let JsonRead::Read(e, q) = v else {
         return v;
     };
     let n = past_space(text, e);
     if octets::peek(text, n) != b':' {
-        return Step::NotJson;
+        return JsonRead::NotJson;
     }
-    Step::Read(past_space(text, n + 1), q)
+    JsonRead::Read(past_space(text, n + 1), q)
 }
 
 // Reads the octet that ends an array or an object.
-fn close(text: &[u8], at: usize, end: u8, tape: &mut [u8], to: usize) -> Step
+fn close(text: &[u8], at: usize, end: u8, tape: &mut [u8], to: usize) -> JsonRead
     requires { ⌜ at ≤ length (now text) ⌝ }
     ensures { λ r. ⌜ Agrees (λ (_ : Unit {0}). tagEnd ∷ []) (now (text .entry)) (at + 1) (pen (now (tape .entry)) to) (now (tape .exit)) (wordOf (end ∷ []) (drop at (now (text .entry)))) r ⌝ }
 {
     if text.len() <= at {
-        return Step::NotJson;
+        return JsonRead::NotJson;
     }
     if text[at] != end {
-        return Step::NotJson;
+        return JsonRead::NotJson;
     }
-    Step::Read(at + 1, octets::put(tape, to, END))
+    JsonRead::Read(at + 1, octets::put(tape, to, END))
 }
 
 // Reads a value in which at most `left` arrays and objects are open at once.
-fn value(text: &[u8], at: usize, left: usize, tape: &mut [u8], to: usize) -> Step
+fn value(text: &[u8], at: usize, left: usize, tape: &mut [u8], to: usize) -> JsonRead
     requires { ⌜ at ≤ length (now text) ⌝ }
     ensures { λ r. ⌜ Agrees ser (now (text .entry)) (at + 1) (pen (now (tape .entry)) to) (now (tape .exit)) (valueWithin left (drop at (now (text .entry)))) r ⌝ }
 {
@@ -103,7 +103,7 @@ fn value(text: &[u8], at: usize, left: usize, tape: &mut [u8], to: usize) -> Ste
 }
 
 // Reads a value: a string at once, and any other by `value`.
-fn element(text: &[u8], at: usize, left: usize, tape: &mut [u8], to: usize) -> Step
+fn element(text: &[u8], at: usize, left: usize, tape: &mut [u8], to: usize) -> JsonRead
     requires { ⌜ at ≤ length (now text) ⌝ }
     ensures { λ r. ⌜ Agrees ser (now (text .entry)) (at + 1) (pen (now (tape .entry)) to) (now (tape .exit)) (valueWithin left (drop at (now (text .entry)))) r ⌝ }
 {
@@ -114,12 +114,12 @@ fn element(text: &[u8], at: usize, left: usize, tape: &mut [u8], to: usize) -> S
 }
 
 // Reads a value whose first octet, at `at`, is `[`.
-fn array(text: &[u8], at: usize, left: usize, tape: &mut [u8], to: usize) -> Step
+fn array(text: &[u8], at: usize, left: usize, tape: &mut [u8], to: usize) -> JsonRead
     requires { ⌜ openingOf (getD (now text) at 0) ≡ bracket ⌝ }
     ensures { λ r. ⌜ Agrees ser (now (text .entry)) (at + 1) (pen (now (tape .entry)) to) (now (tape .exit)) (valueWithin left (drop at (now (text .entry)))) r ⌝ }
 {
     if left == 0 {
-        return Step::TooDeep;
+        return JsonRead::TooDeep;
     }
     let mut p = octets::put(tape, to, ARRAY);
     let mut i = past_space(text, at + 1);
@@ -128,7 +128,7 @@ fn array(text: &[u8], at: usize, left: usize, tape: &mut [u8], to: usize) -> Ste
     }
     loop {
         let v = element(text, i, left - 1, tape, p);
-        let Step::Read(e, q) = v else {
+        let JsonRead::Read(e, q) = v else {
             return v;
         };
         let n = past_space(text, e);
@@ -141,12 +141,12 @@ fn array(text: &[u8], at: usize, left: usize, tape: &mut [u8], to: usize) -> Ste
 }
 
 // Reads a value whose first octet, at `at`, is `{`.
-fn object(text: &[u8], at: usize, left: usize, tape: &mut [u8], to: usize) -> Step
+fn object(text: &[u8], at: usize, left: usize, tape: &mut [u8], to: usize) -> JsonRead
     requires { ⌜ openingOf (getD (now text) at 0) ≡ brace ⌝ }
     ensures { λ r. ⌜ Agrees ser (now (text .entry)) (at + 1) (pen (now (tape .entry)) to) (now (tape .exit)) (valueWithin left (drop at (now (text .entry)))) r ⌝ }
 {
     if left == 0 {
-        return Step::TooDeep;
+        return JsonRead::TooDeep;
     }
     let mut p = octets::put(tape, to, OBJECT);
     let mut i = past_space(text, at + 1);
@@ -155,11 +155,11 @@ fn object(text: &[u8], at: usize, left: usize, tape: &mut [u8], to: usize) -> St
     }
     loop {
         let k = key(text, i, tape, p);
-        let Step::Read(a, b) = k else {
+        let JsonRead::Read(a, b) = k else {
             return k;
         };
         let v = element(text, a, left - 1, tape, b);
-        let Step::Read(e, q) = v else {
+        let JsonRead::Read(e, q) = v else {
             return v;
         };
         let n = past_space(text, e);
@@ -172,19 +172,19 @@ fn object(text: &[u8], at: usize, left: usize, tape: &mut [u8], to: usize) -> St
 }
 
 // Reads a whole text, and writes from the tape's beginning on.
-fn whole(text: &[u8], tape: &mut [u8]) -> Step
+fn whole(text: &[u8], tape: &mut [u8]) -> JsonRead
     ensures { λ r. ⌜ Agrees ser (now (text .entry)) 0 (pen (now (tape .entry)) 0) (now (tape .exit)) (parseText (now (text .entry))) r ⌝ }
 {
     let i = past_space(text, 0);
     let v = value(text, i, octets::MOST_OPEN, tape, 0);
-    let Step::Read(e, n) = v else {
+    let JsonRead::Read(e, n) = v else {
         return v;
     };
     let f = past_space(text, e);
     if f < text.len() {
-        return Step::NotJson;
+        return JsonRead::NotJson;
     }
-    Step::Read(f, n)
+    JsonRead::Read(f, n)
 }
 
 // Reads a JSON text onto the tape; where there is none, or no room for it, the tape is zeroed.
@@ -193,18 +193,18 @@ pub fn parse(text: &[u8], tape: &mut [u8]) -> Parsed
 {
     let v = whole(text, tape);
     match v {
-        Step::Read(_, n) => {
+        JsonRead::Read(_, n) => {
             if n <= tape.len() {
                 return Parsed::Tape(n);
             }
             octets::zero(tape);
             Parsed::NoRoom
         }
-        Step::TooDeep => {
+        JsonRead::TooDeep => {
             octets::zero(tape);
             Parsed::TooDeep
         }
-        Step::NotJson => {
+        JsonRead::NotJson => {
             octets::zero(tape);
             Parsed::NotJson
         }

@@ -21,7 +21,7 @@ fn are_values(out: &[u8], end: usize, want: &[u8]) -> bool {
 fn gives(sort: Sort, many: bool, raw: &[u8], want: &[u8]) -> bool {
     let mut out = [0u8; 4096];
     match put_tested(&mut out, 0, sort, many, raw) {
-        Attempt::Wrote(end) => are_values(&out, end, want),
+        Attempt::Written(end) => are_values(&out, end, want),
         Attempt::Invalid => same(want, b"refused"),
     }
 }

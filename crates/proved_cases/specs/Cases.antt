@@ -17,14 +17,14 @@ jcal property = octets "[\"vcalendar\",[" ++ (property ++ octets "],[]]")
 
 -- What a case says: under these rows the line has this property in jCal, or is refused; the property has this line in iCalendar; a whole text
 -- and this jCal are written as each other; for this input `stops` prints this page.
-pub data Case : Type 0 where
-  becomes : List ℕ → List ℕ → List ℕ → Case
-  refuses : List ℕ → List ℕ → ℕ → Case
-  returns : List ℕ → List ℕ → List ℕ → Case
-  pairs : List ℕ → List ℕ → List ℕ → Case
-  prints : List ℕ → List ℕ → Case
+pub data ClosedCase : Type 0 where
+  becomes : List ℕ → List ℕ → List ℕ → ClosedCase
+  refuses : List ℕ → List ℕ → ℕ → ClosedCase
+  returns : List ℕ → List ℕ → List ℕ → ClosedCase
+  pairs : List ℕ → List ℕ → List ℕ → ClosedCase
+  prints : List ℕ → List ℕ → ClosedCase
 
-abbrev pub Holds : Case → Type 0
+abbrev pub Holds : ClosedCase → Type 0
 Holds (becomes rows line property) = toJcal rows (calendar line) ≡ accepted (jcal property)
 Holds (refuses rows line number) = toJcal rows (calendar line) ≡ refused number
 Holds (returns rows property line) = toIcal rows (jcal property) ≡ accepted (calendar line)
@@ -52,7 +52,7 @@ listedJcal = octets "[\"x-trough\",{},\"date-time\",\"2024-02-29T06:00:00Z\"]"
 abbrev pub stated : List ℕ
 stated = octets "X-TROUGH;VALUE=DATE-TIME:20240229T060000Z"
 
-abbrev pub cases : List Case
+abbrev pub cases : List ClosedCase
 cases =
     becomes noRows (octets "DTSTART;VALUE=DATE:20240229") (octets "[\"dtstart\",{},\"date\",\"2024-02-29\"]")
     ∷ becomes noRows (octets "DTSTART;VALUE=DATE:20000229") (octets "[\"dtstart\",{},\"date\",\"2000-02-29\"]")

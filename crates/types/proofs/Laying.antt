@@ -12,7 +12,7 @@ use Rattle.octets.proofs.Pen.{then}
 use Rattle.types.specs.Table.{Entry, Table, find}
 use Rattle.types.specs.Laid.{laidRow, tableIn}
 use Rattle.types.specs.Reading.{ifUnlisted, penBehind}
-use Rattle.types.specs.declared.rows.Laid.the-variants.{Upto, Malformed}
+use Rattle.types.specs.declared.rows.RowsLaid.the-variants.{Upto, Malformed}
 use Rattle.types.proofs.Frames.{Framed}
 
 module _ (t : Table) (g : Entry → Pen) (b : List ℕ) (o : Option Entry) where

@@ -1,5 +1,5 @@
 pub mod Names
-pub mod Lookup
+pub mod LookupLaws
 pub mod Laid
 pub mod Types
 pub mod Lines

@@ -20,7 +20,7 @@ use Rattle.types.specs.Table.{Entry, entry, Table, find, defaults}
 use Rattle.types.specs.Rows.{isRow, frameOf, entryOf, rowOf, rowsOf, mayJoin}
 use Rattle.types.specs.Laid.{laidRow, laid, tableIn, roomForRows}
 use Rattle.types.specs.Reading.{ifUnlisted, firstLine, penBehind}
-use Rattle.types.specs.declared.rows.Laid.the-variants.{Upto, Malformed}
+use Rattle.types.specs.declared.rows.RowsLaid.the-variants.{Upto, Malformed}
 use Rattle.types.proofs.Lines.{line-within}
 use Rattle.types.proofs.Frames.{row-told}
 use Rattle.types.proofs.Laid.{rows-again, laid-append}

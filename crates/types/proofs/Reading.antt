@@ -28,7 +28,7 @@ use Rattle.types.specs.Table.{Table, namesOf, defaults}
 use Rattle.types.specs.Rows.{rowOf, endedLines, rowsOf, mayJoin, tableOf}
 use Rattle.types.specs.Laid.{laidRow, laid, rowsIn, tableIn, laidOf, roomForRows}
 use Rattle.types.specs.Reading.{penBehind}
-use Rattle.types.specs.declared.rows.Laid.the-variants.{Upto, Malformed}
+use Rattle.types.specs.declared.rows.RowsLaid.the-variants.{Upto, Malformed}
 use Rattle.types.proofs.Laid.{rows-again}
 use Rattle.types.proofs.Progress.{row-size, map-none}
 

@@ -23,7 +23,7 @@ use Rattle.types.specs.Codes.{binary, utcOffset, typeSplits}
 use Rattle.types.specs.Table.{Row, Entry, entry, Table, namesOf, find, defaults}
 use Rattle.types.specs.Rows.{rowOctet, isRow, frameOf, entryOf, rowOf, endedLines, rowsOf, mayJoin, tableOf, Keeps}
 use Rattle.types.proofs.Frames.{Row-told, row-told, no-keyword, one-or-many}
-use Rattle.types.proofs.Lookup.{find-case}
+use Rattle.types.proofs.LookupLaws.{find-case}
 
 -- a row as a file may have it
 unfoldable pub right : Entry → Bool

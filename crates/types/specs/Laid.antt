@@ -10,8 +10,8 @@ use Rattle.octets.specs.Limits.{mostRows}
 use Rattle.octets.specs.Answers.{Answer, orElse}
 use Rattle.types.specs.Table.{Row, Entry, entry, Table, defaults}
 use Rattle.types.specs.Rows.{mostName, rowsOf, mayJoin}
-use Rattle.types.specs.declared.Found.{Found}
-use Rattle.types.specs.declared.Found.the-variants.{Listed, Unlisted}
+use Rattle.types.specs.declared.Lookup.{Lookup}
+use Rattle.types.specs.declared.Lookup.the-variants.{Listed, Unlisted}
 
 unfoldable pub laidRow : Entry → List ℕ
 laidRow e = length (e .name) ∷ e .row .code ∷ pick (e .row .many) 1 0 ∷ e .name
@@ -33,8 +33,8 @@ rowsIn s = rowsFrom 0 s
 unfoldable pub tableIn : List ℕ → Table
 tableIn s = defaults ++ rowsIn s
 
--- what a returned `Found` says
-unfoldable pub rowFound : Found → Option Row
+-- what a returned `Lookup` says
+unfoldable pub rowFound : Lookup → Option Row
 rowFound (Listed c m) = some (record { code = c; many = m })
 rowFound Unlisted = none
 

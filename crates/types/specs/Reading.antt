@@ -12,8 +12,8 @@ use Rattle.octets.specs.Classes.{upper}
 use Rattle.octets.specs.Pen.{Pen, pen}
 use Rattle.types.specs.Codes.{typeNames}
 use Rattle.types.specs.Table.{Entry, entry, Table, find}
-use Rattle.types.specs.declared.rows.Laid.{Laid}
-use Rattle.types.specs.declared.rows.Laid.the-variants.{Upto, Malformed}
+use Rattle.types.specs.declared.rows.RowsLaid.{RowsLaid}
+use Rattle.types.specs.declared.rows.RowsLaid.the-variants.{Upto, Malformed}
 
 -- the rows whose names begin with k
 abbrev pub keep : Bool → Entry → Table → Table
@@ -50,6 +50,6 @@ unfoldable pub ifUnlisted : Table → Option Entry → Option Entry
 ifUnlisted t r = guard (λ e. not (isSome (find t (e .name)))) r
 
 -- the pen behind what was laid out, with the buffer as it is then
-unfoldable pub penBehind : Laid → List ℕ → Option Pen
+unfoldable pub penBehind : RowsLaid → List ℕ → Option Pen
 penBehind (Upto n) b = some (pen b n)
 penBehind Malformed b = none

@@ -7,7 +7,7 @@ ghost use Rattle.types.specs.Codes.{codeNamed, typeName, typeSplits};
 ghost use Rattle.types.specs.Table.{find};
 ghost use Rattle.types.specs.Reading.{under, types};
 ghost use Rattle.types.specs.Laid.{rowFound};
-use crate::Found;
+use crate::Lookup;
 use crate::table::initial;
 use crate::table::is_named;
 use crate::table::named;
@@ -19,8 +19,8 @@ pub fn code_named(name: &[u8]) -> u8
     ensures { λ r. ⌜ r ≡ codeNamed (lower (now (name .entry))) ⌝ }
 {
     match find_type(&*name) {
-        Found::Listed(code, _) => code,
-        Found::Unlisted => 0,
+        Lookup::Listed(code, _) => code,
+        Lookup::Unlisted => 0,
     }
 }
 
@@ -32,7 +32,7 @@ pub fn known_code(code: u8) -> u8
 }
 
 // The fourteen types as rows.
-fn find_type(name: &[u8]) -> Found
+fn find_type(name: &[u8]) -> Lookup
     ensures { λ r. ⌜ rowFound r ≡ find types (now (name .entry)) ⌝ }
 {
     match initial(name) {
@@ -45,19 +45,19 @@ fn find_type(name: &[u8]) -> Found
         b'R' => named(name, b"RECUR", 10, false),
         b'T' => type_t(name),
         b'U' => type_u(name),
-        _ => Found::Unlisted,
+        _ => Lookup::Unlisted,
     }
 }
 
 // Those that share a first letter.
-fn type_b(name: &[u8]) -> Found
+fn type_b(name: &[u8]) -> Lookup
     ensures { λ r. ⌜ rowFound r ≡ find (under "B" types) (now (name .entry)) ⌝ }
 {
     let a = named(name, b"BINARY", 1, false);
     or_named(a, name, b"BOOLEAN", 2, false)
 }
 
-fn type_d(name: &[u8]) -> Found
+fn type_d(name: &[u8]) -> Lookup
     ensures { λ r. ⌜ rowFound r ≡ find (under "D" types) (now (name .entry)) ⌝ }
 {
     let a = named(name, b"DATE", 4, false);
@@ -65,14 +65,14 @@ fn type_d(name: &[u8]) -> Found
     or_named(b, name, b"DURATION", 6, false)
 }
 
-fn type_t(name: &[u8]) -> Found
+fn type_t(name: &[u8]) -> Lookup
     ensures { λ r. ⌜ rowFound r ≡ find (under "T" types) (now (name .entry)) ⌝ }
 {
     let a = named(name, b"TEXT", 11, false);
     or_named(a, name, b"TIME", 12, false)
 }
 
-fn type_u(name: &[u8]) -> Found
+fn type_u(name: &[u8]) -> Lookup
     ensures { λ r. ⌜ rowFound r ≡ find (under "U" types) (now (name .entry)) ⌝ }
 {
     let a = named(name, b"URI", 13, false);

@@ -21,7 +21,7 @@ const MOST_DIGITS: usize = 2 * MOST_FRAME;
 pub const ROOM_FOR_ROWS: usize = (1 + MOST_FRAME) * octets::MOST_ROWS;
 
 // What a table says of a name: the code of its type, and whether it may have many values.
-pub enum Found {
+pub enum Lookup {
     Listed(u8, bool),
     Unlisted,
 }

@@ -13,7 +13,7 @@ ghost use Rattle.types.specs.Table.{find};
 ghost use Rattle.types.specs.Rows.{rowOctet, entryOf, rowOf, rowsOf, mayJoin};
 ghost use Rattle.types.specs.Laid.{laidRow, laid, tableIn, laidOf, roomForRows};
 ghost use Rattle.types.specs.Reading.{firstLine, ifUnlisted, penBehind};
-use crate::Found;
+use crate::Lookup;
 use crate::MOST_DIGITS;
 use crate::MOST_FRAME;
 use crate::ROOM_FOR_ROWS;
@@ -32,7 +32,7 @@ use octets::refuse;
 use octets::same;
 
 // Where laying out rows came to.
-enum Laid {
+enum RowsLaid {
     Upto(usize),
     Malformed,
 }
@@ -45,8 +45,8 @@ pub fn read_rows(hex: &[u8], rows: &mut [u8]) -> Converted
         return read_apart(&*hex, rows);
     }
     match lay_rows(&*hex, rows) {
-        Laid::Upto(n) => Converted::Written(n),
-        Laid::Malformed => refuse(rows, Refusal::RowsMalformed),
+        RowsLaid::Upto(n) => Converted::Written(n),
+        RowsLaid::Malformed => refuse(rows, Refusal::RowsMalformed),
     }
 }
 
@@ -56,16 +56,16 @@ fn read_apart(hex: &[u8], rows: &mut [u8]) -> Converted
 {
     let mut room = [0u8; ROOM_FOR_ROWS];
     match lay_rows(&*hex, &mut room) {
-        Laid::Upto(n) => {
+        RowsLaid::Upto(n) => {
             let end = put_all(rows, 0, &room[0..n]);
             finish(rows, end)
         }
-        Laid::Malformed => refuse(rows, Refusal::RowsMalformed),
+        RowsLaid::Malformed => refuse(rows, Refusal::RowsMalformed),
     }
 }
 
 // Lays out the rows line by line.
-fn lay_rows(hex: &[u8], rows: &mut [u8]) -> Laid
+fn lay_rows(hex: &[u8], rows: &mut [u8]) -> RowsLaid
     requires { ⌜ roomForRows ≤ length (now rows) ⌝ }
     ensures { λ r. ⌜ penBehind r (now (rows .exit)) ≡ map? (λ es. wrote (pen (now (rows .entry)) 0) (laid es)) (guard mayJoin (rowsOf (now (hex .entry)))) ⌝ }
 {
@@ -75,19 +75,19 @@ fn lay_rows(hex: &[u8], rows: &mut [u8]) -> Laid
     while from < hex.len() {
         let end = line_end(hex, from);
         if end == hex.len() {
-            return Laid::Malformed;
+            return RowsLaid::Malformed;
         }
         if count == MOST_ROWS {
-            return Laid::Malformed;
+            return RowsLaid::Malformed;
         }
-        let Laid::Upto(next) = lay_line(&hex[from..end], rows, at) else {
-            return Laid::Malformed;
+        let RowsLaid::Upto(next) = lay_line(&hex[from..end], rows, at) else {
+            return RowsLaid::Malformed;
         };
         at = next;
         from = end + 1;
         count += 1;
     }
-    Laid::Upto(at)
+    RowsLaid::Upto(at)
 }
 
 // The place of the next line feed, or the end.
@@ -106,7 +106,7 @@ fn line_end(hex: &[u8], from: usize) -> usize
 }
 
 // Lays out the row of a line, where it is one and its name is not listed already.
-fn lay_line(line: &[u8], rows: &mut [u8], at: usize) -> Laid
+fn lay_line(line: &[u8], rows: &mut [u8], at: usize) -> RowsLaid
     requires { ⌜ at ≤ length (now rows) ⌝ }
     ensures { λ r. ⌜ penBehind r (now (rows .exit)) ≡ map? (λ e. wrote (pen (now (rows .entry)) at) (laidRow e)) (ifUnlisted (tableIn (take at (now (rows .entry)))) (rowOf (now (line .entry)))) ⌝ }
 {
@@ -116,26 +116,26 @@ fn lay_line(line: &[u8], rows: &mut [u8], at: usize) -> Laid
 }
 
 // Lays out the row of a frame, where it is one and its name is not listed already.
-fn lay_frame(frame: &[u8], rows: &mut [u8], at: usize) -> Laid
+fn lay_frame(frame: &[u8], rows: &mut [u8], at: usize) -> RowsLaid
     requires { ⌜ at ≤ length (now rows) ⌝ }
     ensures { λ r. ⌜ penBehind r (now (rows .exit)) ≡ map? (λ e. wrote (pen (now (rows .entry)) at) (laidRow e)) (ifUnlisted (tableIn (take at (now (rows .entry)))) (entryOf (now (frame .entry)))) ⌝ }
 {
     if !is_row(frame) {
-        return Laid::Malformed;
+        return RowsLaid::Malformed;
     }
     if is_listed(&rows[0..at], &frame[2..]) {
-        return Laid::Malformed;
+        return RowsLaid::Malformed;
     }
     let start = put(rows, at, (frame.len() - 2) as u8);
-    Laid::Upto(put_all(rows, start, frame))
+    RowsLaid::Upto(put_all(rows, start, frame))
 }
 
 fn is_listed(rows: &[u8], name: &[u8]) -> bool
     ensures { λ r. ⌜ r ≡ isSome (find (tableIn (now (rows .entry))) (now (name .entry))) ⌝ }
 {
     match find(rows, name) {
-        Found::Listed(_, _) => true,
-        Found::Unlisted => false,
+        Lookup::Listed(_, _) => true,
+        Lookup::Unlisted => false,
     }
 }
 

@@ -8,23 +8,23 @@ ghost use Rattle.octets.specs.Optional.{or?};
 ghost use Rattle.types.specs.Table.{entry, find, defaults};
 ghost use Rattle.types.specs.Laid.{rowsIn, tableIn, rowFound};
 ghost use Rattle.types.specs.Reading.{under};
-use crate::Found;
+use crate::Lookup;
 use octets::both;
 use octets::peek;
 use octets::upper_octet;
 
 // What the default types and these rows say of a name, in either case.
-pub fn find(rows: &[u8], name: &[u8]) -> Found
+pub fn find(rows: &[u8], name: &[u8]) -> Lookup
     ensures { λ r. ⌜ rowFound r ≡ find (tableIn (now (rows .entry))) (now (name .entry)) ⌝ }
 {
     match find_default(name) {
-        Found::Listed(code, many) => Found::Listed(code, many),
-        Found::Unlisted => find_in(rows, name),
+        Lookup::Listed(code, many) => Lookup::Listed(code, many),
+        Lookup::Unlisted => find_in(rows, name),
     }
 }
 
 // What the default types say of a name.
-fn find_default(name: &[u8]) -> Found
+fn find_default(name: &[u8]) -> Lookup
     ensures { λ r. ⌜ rowFound r ≡ find defaults (now (name .entry)) ⌝ }
 {
     match initial(name) {
@@ -43,12 +43,12 @@ fn find_default(name: &[u8]) -> Found
         b'T' => find_t(name),
         b'U' => find_u(name),
         b'V' => named(name, b"VERSION", 11, false),
-        _ => Found::Unlisted,
+        _ => Lookup::Unlisted,
     }
 }
 
 // The default types by their first letters.
-fn find_a(name: &[u8]) -> Found
+fn find_a(name: &[u8]) -> Lookup
     ensures { λ r. ⌜ rowFound r ≡ find (under "A" defaults) (now (name .entry)) ⌝ }
 {
     let a = named(name, b"ACTION", 11, false);
@@ -56,7 +56,7 @@ fn find_a(name: &[u8]) -> Found
     or_named(b, name, b"ATTENDEE", 3, false)
 }
 
-fn find_c(name: &[u8]) -> Found
+fn find_c(name: &[u8]) -> Lookup
     ensures { λ r. ⌜ rowFound r ≡ find (under "C" defaults) (now (name .entry)) ⌝ }
 {
     let a = named(name, b"CALSCALE", 11, false);
@@ -68,7 +68,7 @@ fn find_c(name: &[u8]) -> Found
     or_named(f, name, b"CREATED", 5, false)
 }
 
-fn find_d(name: &[u8]) -> Found
+fn find_d(name: &[u8]) -> Lookup
     ensures { λ r. ⌜ rowFound r ≡ find (under "D" defaults) (now (name .entry)) ⌝ }
 {
     let a = named(name, b"DESCRIPTION", 11, false);
@@ -79,14 +79,14 @@ fn find_d(name: &[u8]) -> Found
     or_named(e, name, b"DURATION", 6, false)
 }
 
-fn find_l(name: &[u8]) -> Found
+fn find_l(name: &[u8]) -> Lookup
     ensures { λ r. ⌜ rowFound r ≡ find (under "L" defaults) (now (name .entry)) ⌝ }
 {
     let a = named(name, b"LOCATION", 11, false);
     or_named(a, name, b"LAST-MODIFIED", 5, false)
 }
 
-fn find_p(name: &[u8]) -> Found
+fn find_p(name: &[u8]) -> Lookup
     ensures { λ r. ⌜ rowFound r ≡ find (under "P" defaults) (now (name .entry)) ⌝ }
 {
     let a = named(name, b"PRODID", 11, false);
@@ -94,7 +94,7 @@ fn find_p(name: &[u8]) -> Found
     or_named(b, name, b"PRIORITY", 8, false)
 }
 
-fn find_r(name: &[u8]) -> Found
+fn find_r(name: &[u8]) -> Lookup
     ensures { λ r. ⌜ rowFound r ≡ find (under "R" defaults) (now (name .entry)) ⌝ }
 {
     let a = named(name, b"RELATED-TO", 11, false);
@@ -106,7 +106,7 @@ fn find_r(name: &[u8]) -> Found
     or_named(f, name, b"RRULE", 10, false)
 }
 
-fn find_s(name: &[u8]) -> Found
+fn find_s(name: &[u8]) -> Lookup
     ensures { λ r. ⌜ rowFound r ≡ find (under "S" defaults) (now (name .entry)) ⌝ }
 {
     let a = named(name, b"STATUS", 11, false);
@@ -114,7 +114,7 @@ fn find_s(name: &[u8]) -> Found
     or_named(b, name, b"SEQUENCE", 8, false)
 }
 
-fn find_t(name: &[u8]) -> Found
+fn find_t(name: &[u8]) -> Lookup
     ensures { λ r. ⌜ rowFound r ≡ find (under "T" defaults) (now (name .entry)) ⌝ }
 {
     let a = named(name, b"TRANSP", 11, false);
@@ -126,7 +126,7 @@ fn find_t(name: &[u8]) -> Found
     or_named(f, name, b"TZOFFSETTO", 14, false)
 }
 
-fn find_u(name: &[u8]) -> Found
+fn find_u(name: &[u8]) -> Lookup
     ensures { λ r. ⌜ rowFound r ≡ find (under "U" defaults) (now (name .entry)) ⌝ }
 {
     let a = named(name, b"UID", 11, false);
@@ -141,43 +141,43 @@ pub(crate) fn initial(name: &[u8]) -> u8
 }
 
 // What one row says of a name.
-pub(crate) fn named(name: &[u8], row: &[u8], code: u8, many: bool) -> Found
+pub(crate) fn named(name: &[u8], row: &[u8], code: u8, many: bool) -> Lookup
     ensures { λ r. ⌜ rowFound r ≡ find (entry (now (row .entry)) code many ∷ []) (now (name .entry)) ⌝ }
 {
     if is_named(row, name) {
-        return Found::Listed(code, many);
+        return Lookup::Listed(code, many);
     }
-    Found::Unlisted
+    Lookup::Unlisted
 }
 
 // What was found before, or else what one row more says of a name.
-pub(crate) fn or_named(found: Found, name: &[u8], row: &[u8], code: u8, many: bool) -> Found
+pub(crate) fn or_named(found: Lookup, name: &[u8], row: &[u8], code: u8, many: bool) -> Lookup
     ensures { λ r. ⌜ rowFound r ≡ or? (rowFound found) (find (entry (now (row .entry)) code many ∷ []) (now (name .entry))) ⌝ }
 {
     match found {
-        Found::Listed(kind, several) => Found::Listed(kind, several),
-        Found::Unlisted => named(name, row, code, many),
+        Lookup::Listed(kind, several) => Lookup::Listed(kind, several),
+        Lookup::Unlisted => named(name, row, code, many),
     }
 }
 
 // What these rows say of a name.
-fn find_in(rows: &[u8], name: &[u8]) -> Found
+fn find_in(rows: &[u8], name: &[u8]) -> Lookup
     ensures { λ r. ⌜ rowFound r ≡ find (rowsIn (now (rows .entry))) (now (name .entry)) ⌝ }
 {
     let mut at = 0;
     while at < rows.len() {
         let n = rows[at] as usize;
         if rows.len() - at < n + 3 {
-            return Found::Unlisted;
+            return Lookup::Unlisted;
         }
         let start = at + 3;
         let next = start + n;
         if is_named(&rows[start..next], name) {
-            return Found::Listed(rows[at + 1], rows[at + 2] == 1);
+            return Lookup::Listed(rows[at + 1], rows[at + 2] == 1);
         }
         at = next;
     }
-    Found::Unlisted
+    Lookup::Unlisted
 }
 
 // The row's name is this one in uppercase.

@@ -7,12 +7,12 @@ use Rattle.octets.specs.Pen.{pen}
 use Rattle.values.specs.TextWalk.{textsFrom}
 use Rattle.values.specs.Shown.{runOctet}
 use Rattle.jcal_texts.specs.Trying.{WroteTexts}
-use Rattle.jcal_texts.specs.declared.Texts.the-variants.{Wrote as Counted}
+use Rattle.jcal_texts.specs.declared.Texts.the-variants.{Written}
 use Rattle.jcal_texts.proofs.Counts.{status-few, status-many, status-stands, no-fields}
 use Rattle.jcal_texts.proofs.put_tested_status.Statement.{statement}
 use Rattle.jcal_texts.proofs.put_tested_status.Tie as tie
 
-counted : (c : tie.After-known-told) → WroteTexts (textsFrom (code ";") (code ",") false (c .before .before .before .before .before .before .before .before .before .before .before .before .before .before .args .s .now)) (pen (c .before .before .before .before .before .before .before .before .before .put-all .last .0) (c .before .before .before .before .before .before .before .before .before .put-all .result)) (c .before .before .before .before .before .put-between .last .0) (Counted (c .before .q .given .0 .0) (c .before .q .given .0 .1 .0))
+counted : (c : tie.After-known-told) → WroteTexts (textsFrom (code ";") (code ",") false (c .before .before .before .before .before .before .before .before .before .before .before .before .before .before .args .s .now)) (pen (c .before .before .before .before .before .before .before .before .before .put-all .last .0) (c .before .before .before .before .before .before .before .before .before .put-all .result)) (c .before .before .before .before .before .put-between .last .0) (Written (c .before .q .given .0 .0) (c .before .q .given .0 .1 .0))
 counted c = rw (c .before .q .given .1) at (c .before .before .before .before .before .put-between .ensures)
 
 returns-3 : tie.Need-returns-3

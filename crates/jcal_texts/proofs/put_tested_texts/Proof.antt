@@ -9,12 +9,12 @@ use Rattle.octets.proofs.Cases.{or-first, or-second, or-false}
 use Rattle.values.specs.TextWalk.{textsFrom}
 use Rattle.values.specs.Shown.{runOctet}
 use Rattle.jcal_texts.specs.Trying.{WroteTexts}
-use Rattle.jcal_texts.specs.declared.Texts.the-variants.{Wrote as Counted}
+use Rattle.jcal_texts.specs.declared.Texts.the-variants.{Written}
 use Rattle.jcal_texts.proofs.Counts.{texts-stand, texts-differ, no-texts}
 use Rattle.jcal_texts.proofs.put_tested_texts.Statement.{statement}
 use Rattle.jcal_texts.proofs.put_tested_texts.Tie as tie
 
-counted : (c : tie.After-known-told) → WroteTexts (textsFrom (code ",") (code ";") false (c .before .before .before .before .before .before .before .before .before .before .before .before .before .before .args .s .now)) (pen (c .before .before .before .before .before .before .before .before .before .put-all .last .0) (c .before .before .before .before .before .before .before .before .before .put-all .result)) (c .before .before .before .before .before .put-between .last .0) (Counted (c .before .q .given .0 .0) (c .before .q .given .0 .1 .0))
+counted : (c : tie.After-known-told) → WroteTexts (textsFrom (code ",") (code ";") false (c .before .before .before .before .before .before .before .before .before .before .before .before .before .before .args .s .now)) (pen (c .before .before .before .before .before .before .before .before .before .put-all .last .0) (c .before .before .before .before .before .before .before .before .before .put-all .result)) (c .before .before .before .before .before .put-between .last .0) (Written (c .before .q .given .0 .0) (c .before .q .given .0 .1 .0))
 counted c = rw (c .before .q .given .1) at (c .before .before .before .before .before .put-between .ensures)
 
 returns : tie.Need-returns

@@ -12,7 +12,7 @@ use Rattle.calendar.specs.Rules.{ruleSaid}
 use Rattle.calendar.proofs.RuleParts.{readParts}
 use Rattle.calendar.proofs.PartsRead.{Gathered, gathered-none}
 use Rattle.calendar.proofs.RuleLoop.{follows, part-ends, part-begins, part-inside, turn-refused, rule-on, rule-end}
-use Rattle.calendar.specs.declared.rules.Head.{Head}
+use Rattle.calendar.specs.declared.rules.RuleHead.{RuleHead}
 use Rattle.calendar.proofs.rules.read_rule.Statement.{statement}
 use Rattle.calendar.proofs.rules.read_rule.Tie as tie
 
@@ -44,7 +44,7 @@ part-with-value-end c =
 
 returns-2 : tie.Need-returns-2 Inv-loop μ-loop
 returns-2 c =
-    c .rule-of .ensures ∙ ap (λ (x : Head). ruleRead x (set (c .before .before .before .before .before .before .before .before .before .loop .seen) (c .before .before .before .before .before .before .before .first-part .result .key) true)) (c .before .before .with-value .ensures)
+    c .rule-of .ensures ∙ ap (λ (x : RuleHead). ruleRead x (set (c .before .before .before .before .before .before .before .before .before .loop .seen) (c .before .before .before .before .before .before .before .first-part .result .key) true)) (c .before .before .with-value .ensures)
     ∙ rule-end (c .before .before .before .before .before .before .before .before .before .before .before .args .s .now) (c .before .before .before .before .before .before .before .before .before .loop .at) (c .before .before .before .before .before .before .before .first-part .result) (c .before .before .before .before .before .before .before .first-part .ensures) (c .before .before .before .before .before .before .before .before .before .loop .seen) (c .before .before .before .before .before .before .before .before .before .loop .head) (c .before .before .before .before .before .before .before .before .before .loop .inv .1) (sym (c .before .before .before .before .before .may-follow .ensures) ∙ not-false (c .before .before .before .before .before .may-follow .result) (c .before .before .before .before .if1 .left)) (c .before .if2 .taken)
 
 add-at : tie.Need-add-at Inv-loop μ-loop

@@ -5,7 +5,7 @@ use borrow.Author.Needs.{needs}
 use Rattle.octets.proofs.Limits.{most-levels}
 use Rattle.types.specs.Laid.{tableIn}
 use Rattle.conversion_theory.specs.Property.{readProperty}
-use Rattle.jcal.specs.declared.components.Next.the-variants.{Sub, End}
+use Rattle.jcal.specs.declared.components.NextItem.the-variants.{Sub, End}
 use Rattle.jcal.proofs.Stages.{some-line, calendar-few, calendar-ready, calendar-refused, calendar-placed}
 use Rattle.jcal.proofs.components.place_calendar.Statement.{statement}
 use Rattle.jcal.proofs.components.place_calendar.Tie as tie

@@ -12,7 +12,7 @@ use Rattle.values.specs.Sorts.{sortSplits}
 use Rattle.values.specs.Coded.{sortSaid}
 use Rattle.jcal_values.specs.Parts.{readAlone}
 use Rattle.jcal_texts.specs.Trying.{Tried}
-use Rattle.jcal_texts.specs.declared.Attempt.the-variants.{Wrote as Done}
+use Rattle.jcal_texts.specs.declared.Attempt.the-variants.{Written}
 use Rattle.jcal_values.proofs.ValueLists.{within, inside, Listed, listed-start, value-wrong, value-last, value-alone, value-on}
 use Rattle.jcal_values.proofs.raw.put_tested_list.Statement.{statement}
 use Rattle.jcal_values.proofs.raw.put_tested_list.Tie as tie
@@ -26,7 +26,7 @@ abbrev μ-loop : tie.MeasureT-loop
 -- the value at i stands and is written
 tried : (c : tie.After-known-told Inv-loop μ-loop)
     → let value = take (c .before .before .before .before .before .before .before .before .before .before .before .before .value-end .result - 0) (drop 0 (take (length (c .before .before .before .before .before .before .before .before .before .before .before .before .before .before .before .before .before .args .raw .now) - c .before .before .before .before .before .before .before .before .before .before .before .before .before .before .loop .i) (drop (c .before .before .before .before .before .before .before .before .before .before .before .before .before .before .loop .i) (c .before .before .before .before .before .before .before .before .before .before .before .before .before .before .before .before .before .args .raw .now)))) in
-    Tried (readAlone (sortSaid (c .before .before .before .before .before .before .before .before .before .before .before .before .before .before .before .before .before .args .sort)) value) print (pen (c .before .before .before .before .before .before .before .before .before .before .put .last .0) (c .before .before .before .before .before .before .before .before .before .before .put .result)) (c .before .before .before .before .before .put-tested-one .last .0) (Done (c .before .q .given .0 .0))
+    Tried (readAlone (sortSaid (c .before .before .before .before .before .before .before .before .before .before .before .before .before .before .before .before .before .args .sort)) value) print (pen (c .before .before .before .before .before .before .before .before .before .before .put .last .0) (c .before .before .before .before .before .before .before .before .before .before .put .result)) (c .before .before .before .before .before .put-tested-one .last .0) (Written (c .before .q .given .0 .0))
 tried c = rw (c .before .q .given .1) at (c .before .before .before .before .before .put-tested-one .ensures)
 
 -- a separator stands ahead

@@ -12,7 +12,7 @@ use Rattle.octets.specs.Pen.{pen}
 use Rattle.json.specs.Reader.{openingOf, memberKey, pair, valueWithin}
 use Rattle.json.specs.Tape.{serString, ser}
 use Rattle.json.specs.Promise.{Agrees, too-deep}
-use Rattle.json.specs.declared.Step.{Step}
+use Rattle.json.specs.declared.JsonRead.{JsonRead}
 use Rattle.octets.proofs.Runs.{inside-is}
 use Rattle.json.proofs.Agreements.{HasRead, was-read, agrees-by, Going, going-start}
 use Rattle.json.proofs.Tapes.{serList, serPair}
@@ -98,7 +98,7 @@ array-Inv-loop text at left tape₀ to p₀ i₀ tape p i = (i₀ ≤ i) × (i �
 abbrev array-μ-loop : array-lts.MeasureT-loop
 array-μ-loop text at left tape₀ to p₀ i₀ tape p i = length text - i
 
-elements : (t : ℕ) (c : array-lts.Else2 (claims-array t) (array-at t) array.Post array-Inv-loop array-μ-loop) → {t₁ : List ℕ} {r : Step} → Agrees (serList ser) (now (c .before .before .before .before .before .before .before .before .before .before .args .text)) (c .before .before .before .before .before .before .before .before .before .before .args .at + 1) (pen (c .before .before .before .before .before .put .last .0) (c .before .before .before .before .before .put .result)) t₁ (several 93 (valueWithin (c .before .before .before .before .before .before .before .before .before .before .args .left - 1)) (drop (c .before .before .past-space .result) (now (c .before .before .before .before .before .before .before .before .before .before .args .text)))) r → Agrees ser (now (c .before .before .before .before .before .before .before .before .before .before .args .text)) (c .before .before .before .before .before .before .before .before .before .before .args .at + 1) (pen (now (c .before .before .before .before .before .before .before .before .before .before .args .tape)) (c .before .before .before .before .before .before .before .before .before .before .args .to)) t₁ (valueWithin (c .before .before .before .before .before .before .before .before .before .before .args .left) (drop (c .before .before .before .before .before .before .before .before .before .before .args .at) (now (c .before .before .before .before .before .before .before .before .before .before .args .text)))) r
+elements : (t : ℕ) (c : array-lts.Else2 (claims-array t) (array-at t) array.Post array-Inv-loop array-μ-loop) → {t₁ : List ℕ} {r : JsonRead} → Agrees (serList ser) (now (c .before .before .before .before .before .before .before .before .before .before .args .text)) (c .before .before .before .before .before .before .before .before .before .before .args .at + 1) (pen (c .before .before .before .before .before .put .last .0) (c .before .before .before .before .before .put .result)) t₁ (several 93 (valueWithin (c .before .before .before .before .before .before .before .before .before .before .args .left - 1)) (drop (c .before .before .past-space .result) (now (c .before .before .before .before .before .before .before .before .before .before .args .text)))) r → Agrees ser (now (c .before .before .before .before .before .before .before .before .before .before .args .text)) (c .before .before .before .before .before .before .before .before .before .before .args .at + 1) (pen (now (c .before .before .before .before .before .before .before .before .before .before .args .tape)) (c .before .before .before .before .before .before .before .before .before .before .args .to)) t₁ (valueWithin (c .before .before .before .before .before .before .before .before .before .before .args .left) (drop (c .before .before .before .before .before .before .before .before .before .before .args .at) (now (c .before .before .before .before .before .before .before .before .before .before .args .text)))) r
 elements t c =
     λ x. array-agrees (now (c .before .before .before .before .before .before .before .before .before .before .args .text)) (c .before .before .before .before .before .before .before .before .before .before .args .at) _ (c .before .before .before .before .before .before .before .before .before .before .pre .1) (c .before .before .before .before .before .before .before .if1 .left) (c .before .before .before .before .before .put .ensures)
     (agrees-by (group-some ser 93 _ (now (c .before .before .before .before .before .before .before .before .before .before .args .text)) (c .before .before .past-space .ensures) (value-nil _) (λ h. c .if2 .left (c .before .peek .ensures ∙ h))) (le-refl _) x)
@@ -155,7 +155,7 @@ object-Inv-loop text at left tape₀ to p₀ i₀ tape p i = (i₀ ≤ i) × (i 
 abbrev object-μ-loop : object-lts.MeasureT-loop
 object-μ-loop text at left tape₀ to p₀ i₀ tape p i = length text - i
 
-members : (t : ℕ) (c : object-lts.Else2 (claims-object t) (object-at t) object.Post object-Inv-loop object-μ-loop) → {t₁ : List ℕ} {r : Step} → Agrees (serList serPair) (now (c .before .before .before .before .before .before .before .before .before .before .args .text)) (c .before .before .before .before .before .before .before .before .before .before .args .at + 1) (pen (c .before .before .before .before .before .put .last .0) (c .before .before .before .before .before .put .result)) t₁ (several 125 (pair (valueWithin (c .before .before .before .before .before .before .before .before .before .before .args .left - 1))) (drop (c .before .before .past-space .result) (now (c .before .before .before .before .before .before .before .before .before .before .args .text)))) r → Agrees ser (now (c .before .before .before .before .before .before .before .before .before .before .args .text)) (c .before .before .before .before .before .before .before .before .before .before .args .at + 1) (pen (now (c .before .before .before .before .before .before .before .before .before .before .args .tape)) (c .before .before .before .before .before .before .before .before .before .before .args .to)) t₁ (valueWithin (c .before .before .before .before .before .before .before .before .before .before .args .left) (drop (c .before .before .before .before .before .before .before .before .before .before .args .at) (now (c .before .before .before .before .before .before .before .before .before .before .args .text)))) r
+members : (t : ℕ) (c : object-lts.Else2 (claims-object t) (object-at t) object.Post object-Inv-loop object-μ-loop) → {t₁ : List ℕ} {r : JsonRead} → Agrees (serList serPair) (now (c .before .before .before .before .before .before .before .before .before .before .args .text)) (c .before .before .before .before .before .before .before .before .before .before .args .at + 1) (pen (c .before .before .before .before .before .put .last .0) (c .before .before .before .before .before .put .result)) t₁ (several 125 (pair (valueWithin (c .before .before .before .before .before .before .before .before .before .before .args .left - 1))) (drop (c .before .before .past-space .result) (now (c .before .before .before .before .before .before .before .before .before .before .args .text)))) r → Agrees ser (now (c .before .before .before .before .before .before .before .before .before .before .args .text)) (c .before .before .before .before .before .before .before .before .before .before .args .at + 1) (pen (now (c .before .before .before .before .before .before .before .before .before .before .args .tape)) (c .before .before .before .before .before .before .before .before .before .before .args .to)) t₁ (valueWithin (c .before .before .before .before .before .before .before .before .before .before .args .left) (drop (c .before .before .before .before .before .before .before .before .before .before .args .at) (now (c .before .before .before .before .before .before .before .before .before .before .args .text)))) r
 members t c =
     λ x. object-agrees (now (c .before .before .before .before .before .before .before .before .before .before .args .text)) (c .before .before .before .before .before .before .before .before .before .before .args .at) _ (c .before .before .before .before .before .before .before .before .before .before .pre .1) (c .before .before .before .before .before .before .before .if1 .left) (c .before .before .before .before .before .put .ensures)
     (agrees-by (group-some serPair 125 _ (now (c .before .before .before .before .before .before .before .before .before .before .args .text)) (c .before .before .past-space .ensures) (pair-nil _) (λ h. c .if2 .left (c .before .peek .ensures ∙ h))) (le-refl _) x)

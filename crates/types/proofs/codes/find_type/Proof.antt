@@ -6,7 +6,7 @@ use Rattle.octets.specs.Classes.{between, isLower, upperOctet, upper}
 use Rattle.types.specs.Codes.{typeNames}
 use Rattle.types.specs.Reading.{led, numbered, types}
 use Rattle.types.specs.Laid.{rowFound}
-use Rattle.types.proofs.Lookup.{in-letter, no-letter}
+use Rattle.types.proofs.LookupLaws.{in-letter, no-letter}
 use Rattle.types.proofs.codes.find_type.Statement.{statement}
 use Rattle.types.proofs.codes.find_type.Tie as tie
 

@@ -3,7 +3,7 @@ use borrow.Author.Needs.{needs}
 use Rattle.octets.specs.Classes.{between, isLower, upperOctet, upper}
 use Rattle.types.specs.Codes.{typeNames}
 use Rattle.types.specs.Reading.{led, numbered, types}
-use Rattle.types.proofs.Lookup.{one-more}
+use Rattle.types.proofs.LookupLaws.{one-more}
 use Rattle.types.proofs.codes.type_t.Statement.{statement}
 use Rattle.types.proofs.codes.type_t.Tie as tie
 

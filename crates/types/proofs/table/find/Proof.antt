@@ -2,7 +2,7 @@
 use borrow.Author.Needs.{needs}
 use mathlib.Core.Path.{sym, ap, _∙_}
 use Rattle.types.specs.Laid.{rowFound}
-use Rattle.types.proofs.Lookup.{found-default, not-default}
+use Rattle.types.proofs.LookupLaws.{found-default, not-default}
 use Rattle.types.proofs.table.find.Statement.{statement}
 use Rattle.types.proofs.table.find.Tie as tie
 

@@ -5,7 +5,7 @@ use borrow.Author.Tests.{ne-eqb}
 use Rattle.types.specs.Table.{defaults}
 use Rattle.types.specs.Reading.{led}
 use Rattle.types.specs.Laid.{rowFound}
-use Rattle.types.proofs.Lookup.{in-letter, no-letter}
+use Rattle.types.proofs.LookupLaws.{in-letter, no-letter}
 use Rattle.types.proofs.table.find_default.Statement.{statement}
 use Rattle.types.proofs.table.find_default.Tie as tie
 
