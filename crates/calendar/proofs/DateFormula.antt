@@ -175,7 +175,7 @@ at-365 t k e h = rw (h, e)
 more-days : (t l : ℕ) → t ≤ 364 → t < 365 + l
 more-days t l h = omega arith
 
-pub record Found (n y m d : ℕ) : Type 0 where
+pub record DateFound (n y m d : ℕ) : Type 0 where
   pub day : Day y m d
   pub number : beforeYear y + (beforeMonth y m + (d - 1)) ≡ n
 
@@ -223,7 +223,7 @@ module _ (n c r e t k : ℕ) (in-range : n < 3652425) (hc : c ≡ (4 * (n + 1460
       go (yes g) = more-days t (leapDay y) g
       go (no g) = let j : t ≡ 365 = (let s = Y .short in omega arith) in rw (leap-at j, j) (lit≤ tt)
 
-  pub found : Found n y m d
+  pub found : DateFound n y m d
   found =
       record {
         day =

@@ -13,7 +13,7 @@ use Rattle.octets.proofs.Limits.{last-year}
 use Rattle.calendar.specs.declared.dates.Date.{Date}
 use Rattle.calendar.specs.Gregorian.{leapDay, months, monthDays, yearDays, isDay, dateOn, sum, beforeYear, beforeMonth, dayNumber, dayCount, inMonths, inYears, dateAt}
 use Rattle.calendar.proofs.Days.{Day, day-tells, day-is, before-year}
-use Rattle.calendar.proofs.DateFormula.{Found, found}
+use Rattle.calendar.proofs.DateFormula.{DateFound, found}
 
 pub day-count : dayCount ≡ 3652425
 unfolding dayCount
@@ -114,7 +114,7 @@ date-back d h =
     year-among (d .year) _ (f .year) (within (d .year) (d .month) (d .day) f) ∙ day-at (d .year) (d .month) (d .day) f
 
 -- the formula gives the date of a day number
-pub formula-date : (n y m d : ℕ) → Found n y m d → dateAt n ≡ dateOn y m d
+pub formula-date : (n y m d : ℕ) → DateFound n y m d → dateAt n ≡ dateOn y m d
 unfolding dayNumber
 formula-date n y m d f = ap dateAt (sym (f .number)) ∙ date-back (dateOn y m d) (day-is (f .day))
 
@@ -122,7 +122,7 @@ pub record Named (n : ℕ) : Type 0 where
   pub number : dayNumber (dateAt n) ≡ n
   pub day : isDay (dateAt n .year) (dateAt n .month) (dateAt n .day) ≡ true
 
-named-by : (n y m d : ℕ) → Found n y m d → Named n
+named-by : (n y m d : ℕ) → DateFound n y m d → Named n
 unfolding dayNumber
 named-by n y m d f = let e = formula-date n y m d f in record { number = rw e (f .number); day = rw e (day-is (f .day)) }
 

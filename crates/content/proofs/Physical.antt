@@ -49,10 +49,10 @@ left afterF4 = 3
 left broken = 0
 
 -- an octet begins a character, or is one of those due; or the text is broken
-data Step (d : Due) (c : ℕ) : Type 0 where
-  lost : due d c ≡ broken → Step d c
-  first : d ≡ start → suc (left (due d c)) ≡ width c → Step d c
-  more : width c ≡ 0 → suc (left (due d c)) ≡ left d → Step d c
+data DueStep (d : Due) (c : ℕ) : Type 0 where
+  lost : due d c ≡ broken → DueStep d c
+  first : d ≡ start → suc (left (due d c)) ≡ width c → DueStep d c
+  more : width c ≡ 0 → suc (left (due d c)) ≡ left d → DueStep d c
 
 module _ (c : ℕ) where
   width-one : c < 128 → width c ≡ 1
@@ -76,7 +76,7 @@ module _ (c : ℕ) where
   width-four h = rw (le-ltb c 128 (omega arith), le-ltb c 192 (omega arith), le-ltb c 224 (omega arith), le-ltb c 240 h)
 
   -- the first octet of a character
-  lead-step : Step start c
+  lead-step : DueStep start c
   unfolding due lead left
   lead-step =
       cases (leb c 127) (λ e. first refl (rw e (sym (width-one (omega (arith, leb-true c 127 e)))))) λ n₁.
@@ -97,7 +97,7 @@ module _ (c : ℕ) where
   within : (lo hi : ℕ) → 128 ≤ lo → hi < 192 → between lo hi c ≡ true → width c ≡ 0
   within lo hi h k e = let b = between-true lo hi c e in width-none (omega arith) (omega arith)
 
-  step : (d : Due) → Step d c
+  step : (d : Due) → DueStep d c
   unfolding due left
   step start = lead-step
   step one = cases (between 128 191 c) (λ e. more (within 128 191 (omega arith) (omega arith) e) (rw e)) (λ e. lost (rw e))
@@ -159,7 +159,7 @@ module _ (col c : ℕ) (d : Due) (s : List ℕ) (h : col + left d ≤ mostColumn
   one-octet : Fine col d (physicalFrom col (c ∷ s))
   one-octet = by (step c d)
     where
-      by : Step d c → Fine col d (physicalFrom col (c ∷ s))
+      by : DueStep d c → Fine col d (physicalFrom col (c ∷ s))
       by (lost b) = broken-start (sym (broken-stays s) ∙ (rw b at e))
       by (first q w) = cases (breaks col c) (λ b. folded q b w) (λ b. unfolded b (fits b w))
       by (more z w) = unfolded (breaks-never col c z) (omega arith)

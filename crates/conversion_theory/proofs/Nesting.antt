@@ -17,7 +17,7 @@ use Rattle.octets.proofs.Answers.{not-accepted, accepted-same, then-accepted}
 use Rattle.conversion_theory.specs.Tree.{Property, Component, leaf, levels, levelsIn}
 use Rattle.conversion_theory.specs.Structure.{Event, begins, ends, carries, stray, Nest, fresh, closed, inside, fault, left, nest, nestAfter, verdict, structured}
 use Rattle.conversion_theory.specs.Growth.{Level, level, innermost, around, withProperty, withComponent, levelsFrom, outermost, treeOf, eachProperty, behindEvent}
-use Rattle.conversion_theory.proofs.Shapes.{no-pair, pair, Step, both-begin, both-end, both-hold, Steps}
+use Rattle.conversion_theory.proofs.Shapes.{no-pair, pair, EventStep, both-begin, both-end, both-hold, Steps}
 use Rattle.conversion_theory.proofs.Events.{IsTop}
 
 -- events that are accepted are closed, and stay as they are
@@ -127,7 +127,7 @@ module _ {A B : Type 0} (F : A → Type 0) (f : A → Answer B) where
   abbrev pub Reads : A → B → Type 0
   Reads a b = F a × (f a ≡ accepted b)
 
-  behind : {e : Event A} {g : Event B} {es : List (Event A)} {qs ps : List (Event B)} → g ∷ qs ≡ ps → Step Reads e g → Steps Reads es qs → Steps Reads (e ∷ es) ps
+  behind : {e : Event A} {g : Event B} {es : List (Event A)} {qs ps : List (Event B)} → g ∷ qs ≡ ps → EventStep Reads e g → Steps Reads es qs → Steps Reads (e ∷ es) ps
   behind {e} {g} {es} {qs} {ps} q r s = subst (Steps Reads (e ∷ es)) q (pair r s)
 
   pub read-steps : (es : List (Event A)) (ps : List (Event B)) (s : Nest) → eachProperty f es ≡ accepted ps → nestAfter s es ≡ closed → All (Known F) es → Steps Reads es ps

@@ -34,14 +34,14 @@ pub record Held (a new : Table) (ls : List (List ℕ)) (c : Component) : Type 0 
   pub top-new : Top c
 
 module _ (a new : Table) (w : Well-formed new) (k : Keeps a new) where
-  record Found (es : List (Event Line)) (ps : List (Event Property)) : Type 0 where
+  record EventsFound (es : List (Event Line)) (ps : List (Event Property)) : Type 0 where
     found : List (Event Property)
     read : Steps (λ l q. readProperty a l ≡ accepted q) es found
     seen : Steps (λ l q. readAsOlder a new l ≡ accepted q) es found
     twice : Steps (Twice a new) found ps
     listed : steps-list (excepted-line a new) twice ≡ exceptedIn a new es
 
-  found-too : {es : List (Event Line)} {ps : List (Event Property)} → Steps (Reads LineFine (readProperty new)) es ps → Found es ps
+  found-too : {es : List (Event Line)} {ps : List (Event Property)} → Steps (Reads LineFine (readProperty new)) es ps → EventsFound es ps
   unfolding steps-list exceptedIn
   found-too no-pair = record { found = []; read = no-pair; seen = no-pair; twice = no-pair; listed = refl }
   found-too (pair (both-begin {n} l) s) =

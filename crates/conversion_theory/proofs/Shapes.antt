@@ -30,16 +30,16 @@ pairs-all f (pair r l) = (f _ _ r, pairs-all f l)
 
 -- two events of one kind: the same lowercase name, or properties that are related
 module _ {A B : Type 0} (R : A → B → Type 0) where
-  pub data Step : Event A → Event B → Type 0 where
-    both-begin : {n : List ℕ} → isLowerName n ≡ true → Step (begins n) (begins n)
-    both-end : {n : List ℕ} → Step (ends n) (ends n)
-    both-hold : {a : A} {b : B} → R a b → Step (carries a) (carries b)
+  pub data EventStep : Event A → Event B → Type 0 where
+    both-begin : {n : List ℕ} → isLowerName n ≡ true → EventStep (begins n) (begins n)
+    both-end : {n : List ℕ} → EventStep (ends n) (ends n)
+    both-hold : {a : A} {b : B} → R a b → EventStep (carries a) (carries b)
 
 abbrev pub Steps : {A B : Type 0} → (A → B → Type 0) → List (Event A) → List (Event B) → Type 0
-Steps R es fs = Pairwise (Step R) es fs
+Steps R es fs = Pairwise (EventStep R) es fs
 
 -- events in step nest alike
-step-nest : {A B : Type 0} {R : A → B → Type 0} {e : Event A} {f : Event B} (s : Nest) → Step R e f → nest s e ≡ nest s f
+step-nest : {A B : Type 0} {R : A → B → Type 0} {e : Event A} {f : Event B} (s : Nest) → EventStep R e f → nest s e ≡ nest s f
 unfolding nest
 step-nest fresh (both-begin n) = refl
 step-nest closed (both-begin n) = refl

@@ -26,7 +26,7 @@ use Rattle.conversion_theory.specs.Property.{readProperty}
 use Rattle.conversion_theory.specs.ToIcal.{beginLine, endLine, propertyLine, componentLines, forestLines}
 use Rattle.conversion_theory.specs.ToJcal.{readLines}
 use Rattle.conversion_theory.proofs.PropertyLaws.{Returned}
-use Rattle.conversion_theory.proofs.Shapes.{Pairwise, no-pair, pair, pairs-append, pairs-all, Step, both-begin, both-end, both-hold, Steps, steps-nest, steps-read, Alike, alike, Alikes, no-more, one-more}
+use Rattle.conversion_theory.proofs.Shapes.{Pairwise, no-pair, pair, pairs-append, pairs-all, EventStep, both-begin, both-end, both-hold, Steps, steps-nest, steps-read, Alike, alike, Alikes, no-more, one-more}
 use Rattle.conversion_theory.proofs.Events.{eventsOf, eventsIn, events-pair, events-grow}
 use Rattle.conversion_theory.proofs.Nesting.{Top}
 use Rattle.conversion_theory.proofs.Readings.{eventsAt, taken-lines}
@@ -36,7 +36,7 @@ pub record Tells (t : Table) (l : List ℕ) (e : Event Property) : Type 0 where
   pub is-clean : clean l ≡ true
   pub is-formed : formed l ≡ true
   pub upright : Upright l
-  pub event : Step (λ l p. readProperty t l ≡ accepted p) (eventOf (lineOf l)) e
+  pub event : EventStep (λ l p. readProperty t l ≡ accepted p) (eventOf (lineOf l)) e
 
 -- BEGIN and END
 begin-text : (n : List ℕ) → beginLine n ≡ lineText (octets "BEGIN") [] (upper n)
@@ -65,7 +65,7 @@ end-event n h = rw (line-back (octets "END") [] (upper n) end-name tt, name-uppe
 
 -- a line without parameters under a name that the table does not see
 module _ (t : Table) (name n : List ℕ) (k : isName name ≡ true) (h : isLowerName n ≡ true) where
-  bare-tells : {e : Event Property} → Step (λ l p. readProperty t l ≡ accepted p) (eventOf (lineOf (lineText name [] (upper n)))) e → Tells t (lineText name [] (upper n)) e
+  bare-tells : {e : Event Property} → EventStep (λ l p. readProperty t l ≡ accepted p) (eventOf (lineOf (lineText name [] (upper n)))) e → Tells t (lineText name [] (upper n)) e
   bare-tells s = record {
     is-clean = line-clean name [] (upper n) k tt tt (name-clean n (lower-name n h));
     is-formed = line-formed name [] (upper n) k tt;

@@ -167,19 +167,19 @@ numeral-kind b y = rw (apart numeric b 91 y refl, apart numeric b 123 y refl, ap
     numeric x = eqb x 45 or isDigit x
 
 -- strings
-data Written : ℕ → Type 0 where
-  w-quote : Written 34
-  w-backslash : Written 92
-  w-newline : Written 10
-  w-tab : Written 9
-  w-bare : {b : ℕ} → eqb b 34 ≡ false → eqb b 92 ≡ false → eqb b 10 ≡ false → eqb b 9 ≡ false → ltb b 32 ≡ false → Written b
+data FitCase : ℕ → Type 0 where
+  w-quote : FitCase 34
+  w-backslash : FitCase 92
+  w-newline : FitCase 10
+  w-tab : FitCase 9
+  w-bare : {b : ℕ} → eqb b 34 ≡ false → eqb b 92 ≡ false → eqb b 10 ≡ false → eqb b 9 ≡ false → ltb b 32 ≡ false → FitCase b
 
-written : (b : ℕ) → fitOctet b ≡ true → Written b
+written : (b : ℕ) → fitOctet b ≡ true → FitCase b
 unfolding fitOctet
 written b h = same? b 34 (λ q. rw q w-quote) (λ nq. same? b 92 (λ q. rw q w-backslash) (λ nb. same? b 10 (λ q. rw q w-newline) (λ nn. same? b 9 (λ q. rw q w-tab)
     (λ nt. w-bare nq nb nn nt (le-ltb b 32 (either (leb 32 b) (eqb b 10 or eqb b 9) h (λ l. leb-true 32 b l) (λ x. either (eqb b 10) (eqb b 9) x (λ y. never y nn) (λ y. never y nt))))))))
 
-pieces-written : {b : ℕ} (n : ℕ) (s : List ℕ) → Written b → stringPieces (suc n) (escaped b ++ s) ≡ fmap (λ ys. b ∷ ys) (stringPieces n s)
+pieces-written : {b : ℕ} (n : ℕ) (s : List ℕ) → FitCase b → stringPieces (suc n) (escaped b ++ s) ≡ fmap (λ ys. b ∷ ys) (stringPieces n s)
 unfolding stringPieces escaped piece escape escapeOf
 pieces-written n s w-quote = refl
 pieces-written n s w-backslash = refl
@@ -187,7 +187,7 @@ pieces-written n s w-newline = refl
 pieces-written n s w-tab = refl
 pieces-written n s (w-bare q b c t l) = rw (q, b, c, t, q, b, l)
 
-escaped-length : {b : ℕ} → Written b → 1 ≤ length (escaped b)
+escaped-length : {b : ℕ} → FitCase b → 1 ≤ length (escaped b)
 unfolding escaped
 escaped-length w-quote = omega arith
 escaped-length w-backslash = omega arith

@@ -79,7 +79,7 @@ abbrev pub Again : {A : Type 0} → ℕ → (List ℕ → Option A) → (A → L
 Again {A} sep R W = (s : List ℕ) (a : A) → Free sep s → R s ≡ some a → (R (W a) ≡ some a) × Free sep (W a)
 
 -- the items as they are written
-pub record Written {A : Type 0} (R : List ℕ → Option A) (W : A → List ℕ) (sep : ℕ) (items : List A) : Type 0 where
+pub record WrittenItems {A : Type 0} (R : List ℕ → Option A) (W : A → List ℕ) (sep : ℕ) (items : List A) : Type 0 where
   pub read : each R (map W items) ≡ some items
   pub free : All (Free sep) (map W items)
 
@@ -91,8 +91,8 @@ module _ {A : Type 0} (sep : ℕ) (R : List ℕ → Option A) (W : A → List �
   item-again : (o : Option A) (r : Option (List A)) (items : List A)
       → both? _∷_ o r ≡ some items
       → ((a : A) → o ≡ some a → (R (W a) ≡ some a) × Free sep (W a))
-      → ((others : List A) → r ≡ some others → Written R W sep others)
-      → Written R W sep items
+      → ((others : List A) → r ≡ some others → WrittenItems R W sep others)
+      → WrittenItems R W sep items
   unfolding both?
   item-again none r items e f g = let z : _≡_ {A = ℕ} 0 1 = cc in absurd (omega arith)
   item-again (some a) none items e f g = let z : _≡_ {A = ℕ} 0 1 = cc in absurd (omega arith)
@@ -102,12 +102,12 @@ module _ {A : Type 0} (sep : ℕ) (R : List ℕ → Option A) (W : A → List �
       let k = g others refl in
       rw (← q) (record { read = each-cons R W a others (h .0) (k .read); free = (h .1, k .free) })
 
-  pub each-again : (ls : List (List ℕ)) (items : List A) → All (Free sep) ls → each R ls ≡ some items → Written R W sep items
+  pub each-again : (ls : List (List ℕ)) (items : List A) → All (Free sep) ls → each R ls ≡ some items → WrittenItems R W sep items
   unfolding each
   each-again [] items h e = let q : [] ≡ items = cc in rw (← q) (record { read = unfold each in refl; free = tt })
   each-again (l ∷ ls) items h e = item-again (R l) (each R ls) items e (λ a d. law l a (h .0) d) (λ others d. each-again ls others (h .1) d)
 
-  joined-again : (items : List A) → Written R W sep items → (items ≡ [] → ⊥) → each R (split sep (joined sep (map W items))) ≡ some items
+  joined-again : (items : List A) → WrittenItems R W sep items → (items ≡ [] → ⊥) → each R (split sep (joined sep (map W items))) ≡ some items
   joined-again [] b n = absurd (n refl)
   joined-again (a ∷ items) b n = rw (split-joined sep (W a) (map W items) (b .free)) (b .read)
 
