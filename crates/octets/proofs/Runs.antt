@@ -37,6 +37,16 @@ through {class = class} R f (x ∷ xs) ys h = let b = both (class x) (all class 
 pub run-passes : {X : Type 0} {class : ℕ → Bool} {text : List ℕ} {at r : ℕ} (R : List ℕ → X) → ((b : ℕ) (s : List ℕ) → class b ≡ true → R (b ∷ s) ≡ R s) → ClassRun class text at r → R (drop at text) ≡ R (drop r text)
 run-passes {text = text} {at} {r} R f w = ap R (part-rest text at r (w .above)) ∙ through R f (take (r - at) (drop at text)) (drop r text) (w .inside)
 
+-- a writing that leaves each octet of the class as it is leaves a run as it is
+left : {class : ℕ → Bool} (R : List ℕ → List ℕ) → ((b : ℕ) (s : List ℕ) → class b ≡ true → R (b ∷ s) ≡ b ∷ R s) → (xs ys : List ℕ) → all class xs ≡ true → R (xs ++ ys) ≡ xs ++ R ys
+unfolding all
+left R f [] ys h = refl
+left {class} R f (x ∷ xs) ys h = let b = both (class x) (all class xs) h in f x (xs ++ ys) (b .0) ∙ ap (λ (l : List ℕ). x ∷ l) (left R f xs ys (b .1))
+
+pub run-left : {class : ℕ → Bool} {text : List ℕ} {at r : ℕ} (R : List ℕ → List ℕ) → ((b : ℕ) (s : List ℕ) → class b ≡ true → R (b ∷ s) ≡ b ∷ R s) → ClassRun class text at r
+    → R (drop at text) ≡ take (r - at) (drop at text) ++ R (drop r text)
+run-left {text = text} {at} {r} R f w = ap R (part-rest text at r (w .above)) ∙ left R f (take (r - at) (drop at text)) (drop r text) (w .inside)
+
 module _ {class : ℕ → Bool} {text : List ℕ} {at r : ℕ} where
   -- behind the end stands 0
   pub run-next : class 0 ≡ false → ClassRun class text at r → class (getD text r 0) ≡ false
