@@ -5,15 +5,16 @@ use mathlib.Core.Path.{_≡_, refl, sym, ap, _∙_}
 use mathlib.Core.Bool.{Bool, true, false, not}
 use mathlib.Core.List.{List, [], _∷_, _++_}
 use native.Mathlib.Omega.{arith}
-use borrow.Author.Tests.{ne-eqb, ltb-true, ltb-false}
+use borrow.Author.Tests.{ne-eqb, ltb-true, ltb-false, not-true, not-false}
 use lib.Dec.{eqb, ltb}
 use lib.ListN.{length, getD, drop}
-use Rattle.octets.specs.Basics.{pick, _or_, All}
+use Rattle.octets.specs.Basics.{pick, _and_, All}
 use Rattle.octets.specs.Classes.{nameOctet}
-use Rattle.octets.proofs.Cases.{cases, never, neither}
+use Rattle.octets.specs.Groups.{safeOctet}
+use Rattle.octets.proofs.Cases.{cases, never, both}
 use Rattle.octets.proofs.Positions.{here, ended, past-end}
 use Rattle.content.specs.Form.{formed}
-use Rattle.content.specs.LinePlaces.{LinePlace, start, name, paramStart, paramName, valueStart, plain, quoted, unquoted, value, nowhere, behindValue, inValue, placeBehind, placeAfter, isValue, endsPlain, Passes}
+use Rattle.content.specs.LinePlaces.{LinePlace, start, name, paramStart, paramName, valueStart, plain, quoted, unquoted, value, nowhere, behindValue, inValue, placeBehind, placeAfter, isValue, Passes}
 use Rattle.octets.specs.Search.{until}
 use Rattle.content.proofs.LinePlaces.{formed-walked}
 use Rattle.octets.proofs.Search.{until-none, until-here, until-free, scan-low, scan-high, scan-stop, scan-split, scan-whole}
@@ -89,17 +90,11 @@ alike s p q i v f = within i s
 abbrev pub offName : ℕ → Bool
 offName c = not (nameOctet c)
 
-on-name : (c : ℕ) → offName c ≡ false → nameOctet c ≡ true
-on-name c e = cases (nameOctet c) (λ h. h) (λ h. never (rw h) e)
-
-off-name : (c : ℕ) → offName c ≡ true → nameOctet c ≡ false
-off-name c e = cases (nameOctet c) (λ h. never e (rw h)) (λ h. h)
-
 module _ (p q : LinePlace) (first : (c : ℕ) → placeBehind p c ≡ pick (nameOctet c) q nowhere) (more : (c : ℕ) → nameOctet c ≡ true → placeBehind q c ≡ q)
     (not-p : isValue p ≡ false) (s : List ℕ) (i n : ℕ) (e : n ≡ i + length (until offName (drop i s))) where
   named-none : n ≡ i → Formed s p i ≡ false
   named-none z = within i s
-      (λ h. lost s p i h (first (getD s i 0) ∙ rw (off-name (getD s i 0) (rw z at (scan-stop offName s i n e (omega arith))))))
+      (λ h. lost s p i h (first (getD s i 0) ∙ rw (not-true (nameOctet (getD s i 0)) (rw z at (scan-stop offName s i n e (omega arith))))))
       (λ h. at-end s p i h ∙ not-p)
 
   named-on : i < n → Formed s p i ≡ Formed s q n
@@ -108,7 +103,7 @@ module _ (p q : LinePlace) (first : (c : ℕ) → placeBehind p c ≡ pick (name
       let c : nameOctet (getD s i 0) ≡ true = cases (nameOctet (getD s i 0)) (λ k. k) (λ k. absurd (omega (arith, until-here offName s i h (rw k)))) in
       step s p i h
       ∙ rw (first (getD s i 0), c) (sym (step s q i h ∙ rw (more (getD s i 0) c)))
-      ∙ span q offName (λ c k. more c (on-name c k)) s i n e
+      ∙ span q offName (λ c k. more c (not-false (nameOctet c) k)) s i n e
 
 -- the name of a line
 name-more : (c : ℕ) → nameOctet c ≡ true → placeBehind name c ≡ name
@@ -124,7 +119,7 @@ module _ (s : List ℕ) (n : ℕ) (e : n ≡ 0 + length (until offName (drop 0 s
   line-on = formed-walked s ∙ named-on start name (λ c. unfold placeBehind in refl) name-more (unfold isValue in refl) s 0 n e g
 
   off : n < length s → nameOctet (getD s n 0) ≡ false
-  off h = off-name (getD s n 0) (scan-stop offName s 0 n e h)
+  off h = not-true (nameOctet (getD s n 0)) (scan-stop offName s 0 n e h)
 
   pub line-comma : getD s n 0 ≡ code "," → formed s ≡ false
   line-comma c = line-on ∙ within n s
@@ -135,19 +130,22 @@ module _ (s : List ℕ) (n : ℕ) (e : n ≡ 0 + length (until offName (drop 0 s
   line-tail c = line-on ∙ alike s name unquoted n (unfold isValue in refl) (λ h. unfold placeBehind behindValue in rw (off h, ne-eqb (getD s n 0) (code ",") c))
 
 -- a parameter value without quotes
-plain-more : (c : ℕ) → endsPlain c ≡ false → placeBehind plain c ≡ plain
-unfolding placeBehind inValue behindValue endsPlain
-plain-more c e =
-    let a = neither (eqb c (code ",")) _ e in
-    let b = neither (eqb c (code ";")) _ (a .1) in
-    let d = neither (eqb c (code ":")) _ (b .1) in
-    rw (a .0, b .0, d .0, d .1)
+abbrev offSafe : ℕ → Bool
+offSafe c = not (safeOctet c)
 
-plain-over : (c : ℕ) → endsPlain c ≡ true → placeBehind plain c ≡ placeBehind unquoted c
-unfolding placeBehind inValue behindValue endsPlain
+plain-more : (c : ℕ) → offSafe c ≡ false → placeBehind plain c ≡ plain
+unfolding placeBehind inValue behindValue safeOctet
+plain-more c e =
+    let a = both (not (eqb c (code ","))) _ (not-false _ e) in
+    let b = both (not (eqb c (code ";"))) _ (a .1) in
+    let d = both (not (eqb c (code ":"))) _ (b .1) in
+    rw (not-true (eqb c (code ",")) (a .0), not-true (eqb c (code ";")) (b .0), not-true (eqb c (code ":")) (d .0), not-true (eqb c (code "\"")) (d .1))
+
+plain-over : (c : ℕ) → offSafe c ≡ true → placeBehind plain c ≡ placeBehind unquoted c
+unfolding placeBehind inValue behindValue safeOctet
 plain-over c e = by (eqb c (code ",")) (eqb c (code ";")) (eqb c (code ":")) (eqb c (code "\"")) e
   where
-    by : (a b d q : Bool) → (a or b or d or q) ≡ true
+    by : (a b d q : Bool) → not (not a and not b and not d and not q) ≡ true
         → pick a valueStart (pick b paramStart (pick d value (pick q nowhere plain))) ≡ pick a valueStart (pick b paramStart (pick d value nowhere))
     by true b d q e = refl
     by false true d q e = refl
@@ -156,13 +154,13 @@ plain-over c e = by (eqb c (code ",")) (eqb c (code ";")) (eqb c (code ":")) (eq
     by false false false false e = never e refl
 
 module _ (s : List ℕ) (i : ℕ) (l : i ≤ length s) where
-  pub value-plain : (r : ℕ) → (getD s i 0 ≡ code "\"" → ⊥) → r ≡ i + length (until endsPlain (drop i s)) → Passes s valueStart i unquoted r
+  pub value-plain : (r : ℕ) → (getD s i 0 ≡ code "\"" → ⊥) → r ≡ i + length (until offSafe (drop i s)) → Passes s valueStart i unquoted r
   value-plain r c e = record {
-    low = scan-low endsPlain s i r e;
-    high = scan-high endsPlain s i r e l;
+    low = scan-low offSafe s i r e;
+    high = scan-high offSafe s i r e l;
     told = alike s valueStart plain i (unfold isValue in refl) (λ h. unfold placeBehind in rw (ne-eqb (getD s i 0) (code "\"") c))
-        ∙ span plain endsPlain plain-more s i r e
-        ∙ alike s plain unquoted r (unfold isValue in refl) (λ h. plain-over (getD s r 0) (scan-stop endsPlain s i r e h));
+        ∙ span plain offSafe plain-more s i r e
+        ∙ alike s plain unquoted r (unfold isValue in refl) (λ h. plain-over (getD s r 0) (scan-stop offSafe s i r e h));
   }
 
   -- in quotes, to the quote at e or to the end of the line
@@ -215,7 +213,7 @@ module _ (s : List ℕ) (i : ℕ) (l : i ≤ length s) (n : ℕ) (e : n ≡ i + 
 
     pub param-not : (getD s n 0 ≡ code "=" → ⊥) → Passes s paramStart i unquoted (length s)
     param-not c = failed (on ∙ within n s
-        (λ h. lost s paramName n h (unfold placeBehind in rw (off-name (getD s n 0) (scan-stop offName s i n e h), ne-eqb (getD s n 0) (code "=") c)))
+        (λ h. lost s paramName n h (unfold placeBehind in rw (not-true (nameOctet (getD s n 0)) (scan-stop offName s i n e h), ne-eqb (getD s n 0) (code "=") c)))
         (λ h. at-end s paramName n h ∙ unfold isValue in refl))
 
     pub param-inside : getD s n 0 ≡ code "=" → n < length s
@@ -225,7 +223,7 @@ module _ (s : List ℕ) (i : ℕ) (l : i ≤ length s) (n : ℕ) (e : n ≡ i + 
     param-on r c p = record {
       low = omega (arith, p .low);
       high = p .high;
-      told = on ∙ moved s paramName n valueStart (param-inside c) (unfold placeBehind in rw (off-name (getD s n 0) (scan-stop offName s i n e (param-inside c)), c)) ∙ p .told;
+      told = on ∙ moved s paramName n valueStart (param-inside c) (unfold placeBehind in rw (not-true (nameOctet (getD s n 0)) (scan-stop offName s i n e (param-inside c)), c)) ∙ p .told;
     }
 
 -- behind a value

@@ -6,7 +6,7 @@ use mathlib.Core.Bool.{Bool, true, false}
 use mathlib.Core.List.{List, [], _∷_}
 use lib.Dec.{eqb}
 use lib.ListN.{length, drop}
-use Rattle.octets.specs.Basics.{pick, _or_}
+use Rattle.octets.specs.Basics.{pick}
 use Rattle.octets.specs.Classes.{nameOctet}
 
 -- Where in a line the next octet stands: at the start or in the name; at the start or in a parameter's name; in a parameter's value:
@@ -50,10 +50,6 @@ isValue quoted = false
 isValue unquoted = false
 isValue value = true
 isValue nowhere = false
-
--- an octet that does not stand in a parameter value outside quotes
-unfoldable pub endsPlain : ℕ → Bool
-endsPlain c = eqb c (code ",") or eqb c (code ";") or eqb c (code ":") or eqb c (code "\"")
 
 -- from place p at i the line has the form where it has it from place q at e
 pub record Passes (s : List ℕ) (p : LinePlace) (i : ℕ) (q : LinePlace) (e : ℕ) : Type 0 where

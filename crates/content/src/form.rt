@@ -1,46 +1,16 @@
 // The form of content lines: name, parameters, colon, value.
 ghost use mathlib.Core.Path.{_≡_};
-ghost use Prim.Native.Nat.{_+_, _≤_};
+ghost use Prim.Native.Nat.{_≤_};
 ghost use lib.ListN.{length, drop};
 ghost use Rattle.octets.specs.Basics.{all};
 ghost use Rattle.content.specs.Lines.{cutLines};
 ghost use Rattle.content.specs.Form.{formed};
-ghost use Rattle.content.specs.LinePlaces.{paramStart, valueStart, unquoted, placeAfter, isValue, endsPlain, Passes};
-ghost use Rattle.octets.specs.Search.{until};
+ghost use Rattle.content.specs.LinePlaces.{paramStart, valueStart, unquoted, placeAfter, isValue, Passes};
 use crate::lines::line_end;
 use octets::Class;
 use octets::find;
 use octets::peek;
 use octets::run_end;
-
-fn ends_plain(c: u8) -> bool
-    ensures { λ r. ⌜ r ≡ endsPlain c ⌝ }
-{
-    if c == b',' {
-        return true;
-    }
-    if c == b';' {
-        return true;
-    }
-    if c == b':' {
-        return true;
-    }
-    c == b'"'
-}
-
-// The end of the parameter value at `at`, which has no quotes around it.
-fn plain_end(s: &[u8], at: usize) -> usize
-    ensures { λ r. ⌜ r ≡ at + length (until endsPlain (drop at (now (s .entry)))) ⌝ }
-{
-    let mut i = at;
-    while i < s.len() {
-        if ends_plain(s[i]) {
-            return i;
-        }
-        i += 1;
-    }
-    i
-}
 
 // The end of the parameter value at `at`, with its quotes.
 fn value_end(s: &[u8], at: usize) -> usize
@@ -48,7 +18,7 @@ fn value_end(s: &[u8], at: usize) -> usize
     ensures { λ r. ⌜ Passes (now (s .entry)) valueStart at unquoted r ⌝ }
 {
     if peek(s, at) != b'"' {
-        return plain_end(s, at);
+        return run_end(s, at, Class::Safe);
     }
     let e = find(s, at + 1, b'"');
     if e < s.len() { e + 1 } else { e }

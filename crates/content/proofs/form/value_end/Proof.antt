@@ -6,7 +6,7 @@ use Rattle.content.proofs.form.value_end.Statement.{statement}
 use Rattle.content.proofs.form.value_end.Tie as tie
 
 returns : tie.Need-returns
-returns c = value-plain (c .before .before .before .before .args .s .now) (c .before .before .before .before .args .at) (c .before .before .before .before .pre) _ (λ e. c .before .if1 .taken (c .before .before .peek .ensures ∙ e)) (c .plain-end .ensures)
+returns c = value-plain (c .before .before .before .before .args .s .now) (c .before .before .before .before .args .at) (c .before .before .before .before .pre) _ (λ e. c .before .if1 .taken (c .before .before .peek .ensures ∙ e)) (c .run-end .ensures)
 
 returns-2 : tie.Need-returns-2
 returns-2 c = value-quoted (c .before .before .before .before .before .args .s .now) (c .before .before .before .before .before .args .at) (c .before .before .before .before .before .pre) (sym (c .before .before .before .peek .ensures) ∙ c .before .before .if1 .left) _ (c .before .find .ensures) (c .if2 .taken)
