@@ -2,22 +2,23 @@
 use Prim.Native.Nat.{ℕ, _+_, _-_, _≤_, _<_}
 use Prim.Native.Char.{code}
 use mathlib.Core.Path.{_≡_, refl, sym, ap, _∙_}
-use mathlib.Core.Bool.{Bool, true, false}
+use mathlib.Core.Bool.{Bool, true, false, not}
 use mathlib.Core.List.{List, [], _∷_, _++_, append-assoc}
 use native.Mathlib.Omega.{arith}
-use borrow.Author.Tests.{eqb-true, not-true, not-false}
+use borrow.Author.Tests.{eqb-true, not-true}
 use lib.Dec.{eqb}
 use lib.ListN.{length, getD, take, drop}
 use lib.Seq.{drop-drop}
-use Rattle.octets.specs.Basics.{octets, pick, All}
-use Rattle.octets.proofs.Cases.{same?, neither}
-use Rattle.octets.proofs.Positions.{here, ended, first-of, part-rest}
+use Rattle.octets.specs.Basics.{octets, pick}
+use Rattle.octets.proofs.Cases.{same?, both}
+use Rattle.octets.proofs.Positions.{here, ended, first-of}
+use Rattle.octets.proofs.Runs.{run-left}
 use Rattle.json.specs.Print.{escaped, quoted}
+use Rattle.json.proofs.Quotes.{escaped-bare}
 use Rattle.content.specs.Carets.{decodedOctet, caretAfter, decodedFrom, decoded}
-use Rattle.octets.specs.Groups.{asIsOctet}
-use Rattle.octets.specs.Search.{until}
-use Rattle.content.specs.Object.{standsFor, octetsRead, special}
-use Rattle.octets.proofs.Search.{until-free, scan-low, scan-is}
+use Rattle.octets.specs.Groups.{asIsOctet, paramAsIs}
+use Rattle.octets.specs.Search.{ClassRun}
+use Rattle.content.specs.Object.{standsFor, octetsRead}
 
 -- one octet, or a caret and the octet behind it
 caret-by : (d : ℕ) (s : List ℕ) (n k q : Bool) → eqb d (code "^") ≡ k → eqb d (code "'") ≡ q
@@ -37,22 +38,12 @@ turn c (d ∷ s) = same? c (code "^")
     (λ e. rw e (caret-by d s (eqb d (code "n")) (eqb d (code "^")) (eqb d (code "'")) refl refl))
     (λ n. rw n)
 
--- octets that are not special
-plain-octet : (c : ℕ) → special c ≡ false → (eqb c (code "^") ≡ false) × (escaped c ≡ c ∷ [])
-unfolding special asIsOctet escaped
-plain-octet c e =
-    let k = neither (eqb c (code "^")) _ e in
-    let q = neither (eqb c (code "\"")) _ (not-true _ (not-false _ (k .1))) in
-    let b = neither (eqb c (code "\\")) _ (q .1) in
-    let n = neither (eqb c (code "\n")) _ (b .1) in
-    (k .0, rw (q .0, b .0, n .0, n .1))
-
-plain-run : (xs ys : List ℕ) → All (λ c. special c ≡ false) xs → quoted (decodedFrom false (xs ++ ys)) ≡ xs ++ quoted (decodedFrom false ys)
-unfolding decodedFrom decodedOctet caretAfter quoted
-plain-run [] ys h = refl
-plain-run (x ∷ xs) ys h =
-    let p = plain-octet x (h .0) in
-    rw (p .0, p .1, plain-run xs ys (h .1))
+-- an octet that stays as it is
+stays : (c : ℕ) (s : List ℕ) → paramAsIs c ≡ true → quoted (decodedFrom false (c ∷ s)) ≡ c ∷ quoted (decodedFrom false s)
+unfolding paramAsIs decodedFrom decodedOctet caretAfter quoted
+stays c s e =
+    let b = both (not (eqb c (code "^"))) (asIsOctet c) e in
+    rw (not-true (eqb c (code "^")) (b .0), escaped-bare c (b .1))
 
 -- A loop at i: a run to e, and the octet there.
 module _ (s : List ℕ) (i : ℕ) where
@@ -64,11 +55,9 @@ module _ (s : List ℕ) (i : ℕ) where
   unfolding decodedFrom quoted
   value-none h = rw (ended s i h)
 
-  module _ (e : ℕ) (q : e ≡ i + length (until special (drop i s))) where
+  module _ (e : ℕ) (w : ClassRun paramAsIs s i e) where
     run : quoted (decodedFrom false (drop i s)) ≡ take (e - i) (drop i s) ++ quoted (decodedFrom false (drop e s))
-    run =
-        ap (λ (r : List ℕ). quoted (decodedFrom false r)) (part-rest s i e (scan-low special s i e q))
-        ∙ plain-run (take (e - i) (drop i s)) (drop e s) (rw (scan-is special s i e q) (until-free special (drop i s)))
+    run = run-left (λ r. quoted (decodedFrom false r)) stays w
 
     step : e < length s → decodedFrom false (drop e s)
         ≡ standsFor (getD s e 0) (getD s (e + 1) 0) ∷ decodedFrom false (drop (e + octetsRead (getD s e 0) (getD s (e + 1) 0)) s)

@@ -2,7 +2,7 @@
 ghost use mathlib.Core.Path.{_≡_};
 ghost use mathlib.Core.Bool.{false};
 ghost use mathlib.Core.List.{[], _++_, map};
-ghost use Prim.Native.Nat.{_+_, _≤_};
+ghost use Prim.Native.Nat.{_≤_};
 ghost use lib.ListN.{length, drop};
 ghost use Rattle.octets.specs.Basics.{octets, pick};
 ghost use Rattle.octets.specs.Classes.{lower};
@@ -11,18 +11,19 @@ ghost use Rattle.json.specs.Tree.{str, obj, itemsOf};
 ghost use Rattle.json.specs.Print.{quoted, printString, printKey, moreItems, print};
 ghost use Rattle.content.specs.Line.{pieces, paramValue};
 ghost use Rattle.content.specs.Carets.{decoded};
-ghost use Rattle.octets.specs.Search.{until};
 ghost use Rattle.content.specs.Parts.{paramsIn};
 ghost use Rattle.content.specs.Parameters.{withoutValue, plainOr, membersOf};
-ghost use Rattle.content.specs.Object.{standsFor, octetsRead, special};
+ghost use Rattle.content.specs.Object.{standsFor, octetsRead};
 use crate::parts::inner;
 use crate::parts::param_at;
 use crate::scan::next_bare;
 use json::put_escaped;
+use octets::Class;
 use octets::lower_octet;
 use octets::peek;
 use octets::put;
 use octets::put_all;
+use octets::run_end;
 use octets::same_name;
 
 // The octet that `c` stands for, where `d` follows it.
@@ -54,33 +55,6 @@ fn taken(c: u8, d: u8) -> usize
     }
 }
 
-fn is_special(c: u8) -> bool
-    ensures { λ r. ⌜ r ≡ special c ⌝ }
-{
-    match c {
-        b'^' => true,
-        b'"' => true,
-        b'\\' => true,
-        b'\n' => true,
-        b'\t' => true,
-        _ => false,
-    }
-}
-
-// The end of the octets from `at` on that are read and written as they stand.
-fn run_end(s: &[u8], at: usize) -> usize
-    ensures { λ r. ⌜ r ≡ at + length (until special (drop at (now (s .entry)))) ⌝ }
-{
-    let mut i = at;
-    while i < s.len() {
-        if is_special(s[i]) {
-            return i;
-        }
-        i += 1;
-    }
-    i
-}
-
 // Writes a value without its quotes, decoded, and the closing quote of its JSON string.
 fn put_decoded(out: &mut [u8], at: usize, v: &[u8]) -> usize
     ensures { λ r. ⌜ Wrote (pen (now (out .entry)) at) (quoted (decoded (now (v .entry)))) (pen (now (out .exit)) r) ⌝ }
@@ -88,7 +62,7 @@ fn put_decoded(out: &mut [u8], at: usize, v: &[u8]) -> usize
     let mut to = at;
     let mut i = 0;
     while i < v.len() {
-        let e = run_end(v, i);
+        let e = run_end(v, i, Class::ParamAsIs);
         let a = put_all(out, to, &v[i..e]);
         if e >= v.len() {
             return put(out, a, b'"');

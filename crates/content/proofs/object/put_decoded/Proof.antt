@@ -5,13 +5,14 @@ use mathlib.Core.Bool.{false}
 use mathlib.Core.Path.{_≡_, refl}
 use Prim.Native.Nat.{_-_}
 use borrow.Author.Needs.{needs}
-use Rattle.content.specs.Object.{special}
+use Rattle.octets.specs.Groups.{paramAsIs}
+use Rattle.octets.specs.Search.{ClassRun}
+use Rattle.octets.proofs.Runs.{run-found}
 use Rattle.content.specs.Carets.{decoded, decodedFrom}
 use Rattle.json.specs.Print.{quoted}
 use Rattle.octets.proofs.Pen.{Leads, leads-start, leads-on, leads-last, then}
 use Rattle.octets.specs.Pen.{pen}
 use Rattle.content.proofs.Decoding.{value-start, value-none, value-last, value-on, takes-some, takes-few}
-use Rattle.octets.proofs.Search.{scan-low, scan-high}
 use Rattle.content.proofs.object.put_decoded.Statement.{statement}
 use Rattle.content.proofs.object.put_decoded.Tie as tie
 
@@ -24,20 +25,24 @@ abbrev μ-loop : tie.MeasureT-loop
 loop-holds : tie.Need-loop-holds Inv-loop μ-loop
 loop-holds c = (refl, rw (value-start (c .before .before .args .v .now) 0) leads-start)
 
+-- the octets that stay as they are
+passed : (c : tie.After-run-end Inv-loop μ-loop) → ClassRun paramAsIs (c .before .before .before .before .before .args .v .now) (c .before .before .loop .i) (c .run-end .result)
+passed c = run-found _ _ _ (omega arith) (c .run-end .ensures)
+
 part-put-all-end : tie.Need-part-put-all-end Inv-loop μ-loop
-part-put-all-end c = scan-high special (c .before .before .before .before .before .before .args .v .now) (c .before .before .before .loop .i) _ (c .before .run-end .ensures) (omega arith)
+part-put-all-end c = passed (c .before) .below
 
 returns : tie.Need-returns Inv-loop μ-loop
-returns c = leads-last (c .before .before .before .before .before .before .before .before .before .before .before .before .loop .inv .1) (then (c .before .before .before .before .before .before .before .put-all .ensures) (c .before .before .put .ensures)) (value-last (c .before .before .before .before .before .before .before .before .before .before .before .before .before .before .before .args .v .now) (c .before .before .before .before .before .before .before .before .before .before .before .before .loop .i) (c .before .before .before .before .before .before .before .before .before .before .run-end .result) (c .before .before .before .before .before .before .before .before .before .before .run-end .ensures) (c .before .before .before .before .if1 .taken))
+returns c = leads-last (c .before .before .before .before .before .before .before .before .before .before .before .before .loop .inv .1) (then (c .before .before .before .before .before .before .before .put-all .ensures) (c .before .before .put .ensures)) (value-last (c .before .before .before .before .before .before .before .before .before .before .before .before .before .before .before .args .v .now) (c .before .before .before .before .before .before .before .before .before .before .before .before .loop .i) (c .before .before .before .before .before .before .before .before .before .before .run-end .result) (passed (c .before .before .before .before .before .before .before .before .before .before)) (c .before .before .before .before .if1 .taken))
 
 add-i : tie.Need-add-i Inv-loop μ-loop
 add-i c = omega (arith, takes-few _ _ (c .taken .result) (c .taken .ensures))
 
 loop-less : tie.Need-loop-less Inv-loop μ-loop
-loop-less c = omega (arith, takes-some _ _ (c .taken .result) (c .taken .ensures), scan-low special (c .before .before .before .before .before .before .before .before .before .before .before .before .before .before .before .before .before .before .before .args .v .now) (c .before .before .before .before .before .before .before .before .before .before .before .before .before .before .before .before .loop .i) _ (c .before .before .before .before .before .before .before .before .before .before .before .before .before .before .run-end .ensures))
+loop-less c = omega (arith, takes-some _ _ (c .taken .result) (c .taken .ensures), passed (c .before .before .before .before .before .before .before .before .before .before .before .before .before .before) .above)
 
 loop-again : tie.Need-loop-again Inv-loop μ-loop
-loop-again c = (omega arith, leads-on (c .before .before .before .before .before .before .before .before .before .before .before .before .before .before .before .before .loop .inv .1) (then (c .before .before .before .before .before .before .before .before .before .before .before .put-all .ensures) (c .before .before .before .put-escaped .ensures)) (value-on (c .before .before .before .before .before .before .before .before .before .before .before .before .before .before .before .before .before .before .before .args .v .now) (c .before .before .before .before .before .before .before .before .before .before .before .before .before .before .before .before .loop .i) (c .before .before .before .before .before .before .before .before .before .before .before .before .before .before .run-end .result) (c .before .before .before .before .before .before .before .before .before .before .before .before .before .before .run-end .ensures) (c .before .before .before .before .before .before .before .before .if1 .left) (c .before .before .before .before .before .before .peek .result) (c .before .before .before .before .stands-for .result) (c .taken .result) (c .before .before .before .before .before .before .peek .ensures) (c .before .before .before .before .stands-for .ensures) (c .taken .ensures)))
+loop-again c = (omega arith, leads-on (c .before .before .before .before .before .before .before .before .before .before .before .before .before .before .before .before .loop .inv .1) (then (c .before .before .before .before .before .before .before .before .before .before .before .put-all .ensures) (c .before .before .before .put-escaped .ensures)) (value-on (c .before .before .before .before .before .before .before .before .before .before .before .before .before .before .before .before .before .before .before .args .v .now) (c .before .before .before .before .before .before .before .before .before .before .before .before .before .before .before .before .loop .i) (c .before .before .before .before .before .before .before .before .before .before .before .before .before .before .run-end .result) (passed (c .before .before .before .before .before .before .before .before .before .before .before .before .before .before)) (c .before .before .before .before .before .before .before .before .if1 .left) (c .before .before .before .before .before .before .peek .result) (c .before .before .before .before .stands-for .result) (c .taken .result) (c .before .before .before .before .before .before .peek .ensures) (c .before .before .before .before .stands-for .ensures) (c .taken .ensures)))
 
 returns-2 : tie.Need-returns-2 Inv-loop μ-loop
 returns-2 c = leads-last (c .before .before .before .before .before .loop .inv .1) (c .before .before .put2 .ensures) (value-none (c .before .before .before .before .before .before .before .before .args .v .now) (c .before .before .before .before .before .loop .i) (c .before .before .before .before .loop-test .left))
