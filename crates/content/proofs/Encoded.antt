@@ -1,20 +1,22 @@
 -- RFC 6868: what is encoded is decoded again; and what a value is once it is encoded.
 use Prim.Native.Nat.{ℕ, _+_, _-_, _≤_, _<_}
 use Prim.Native.Char.{code}
-use mathlib.Core.Path.{_≡_, refl, sym, ap, _∙_}
-use mathlib.Core.Bool.{Bool, true, false}
-use mathlib.Core.List.{List, [], _∷_, _++_, append-assoc, append-nil}
-use native.Mathlib.Nat.{sub-self}
+use mathlib.Core.Path.{_≡_, refl, ap, _∙_}
+use mathlib.Core.Bool.{Bool, true, false, not}
+use mathlib.Core.List.{List, [], _∷_, _++_, append-nil}
 use native.Mathlib.Omega.{arith}
-use borrow.Author.Tests.{ne-eqb}
+use borrow.Author.Tests.{not-true}
 use lib.Dec.{eqb}
 use lib.ListN.{length, getD, take, drop}
 use Rattle.octets.specs.Basics.{octets, all, any}
 use Rattle.octets.specs.Classes.{isControl, plainOctet, textOctet}
+use Rattle.octets.specs.Groups.{caretFree}
+use Rattle.octets.specs.Search.{ClassRun}
 use Rattle.octets.specs.Utf8.{utf8}
-use Rattle.octets.proofs.Cases.{cases, same?, apart-not}
+use Rattle.octets.proofs.Cases.{cases, same?, both, apart-not}
 use Rattle.octets.proofs.Pieces.{Free}
-use Rattle.octets.proofs.Positions.{here, ended, part-more, from}
+use Rattle.octets.proofs.Positions.{here, ended, from}
+use Rattle.octets.proofs.Runs.{run-left}
 use Rattle.octets.proofs.Utf8.{ascii}
 use Rattle.octets.proofs.Transducer.{Runs, Keeps, run-all, run-utf8}
 use Rattle.octets.proofs.Classes.{text-plain}
@@ -35,9 +37,12 @@ decoded-encoded [] = unfold decodedFrom in refl
 decoded-encoded (c ∷ v) = decoded-octet c (encoded v) ∙ ap (λ l. c ∷ l) (decoded-encoded v)
 
 -- an octet that no caret encodes
-pub stays : (c : ℕ) → (c ≡ code "\n" → ⊥) → (c ≡ code "\"" → ⊥) → (c ≡ code "^" → ⊥) → encodedOctet c ≡ c ∷ []
-unfolding encodedOctet
-stays c h k m = rw (ne-eqb c (code "^") m, ne-eqb c (code "\"") k, ne-eqb c (code "\n") h)
+stays : (c : ℕ) → caretFree c ≡ true → encodedOctet c ≡ c ∷ []
+unfolding encodedOctet caretFree
+stays c h =
+    let k = both (not (eqb c (code "^"))) _ h in
+    let q = both (not (eqb c (code "\""))) _ (k .1) in
+    rw (not-true (eqb c (code "^")) (k .0), not-true (eqb c (code "\"")) (q .0), not-true (eqb c (code "\n")) (q .1))
 
 -- the value from a position on
 module _ (v : List ℕ) where
@@ -49,19 +54,14 @@ module _ (v : List ℕ) where
   unfolding encoded
   encoded-ended i h = rw (ended v i h)
 
-  -- from i to r nothing is encoded
-  abbrev pub Plain : ℕ → ℕ → Type 0
-  Plain i r = encoded (drop i v) ≡ take (r - i) (drop i v) ++ encoded (drop r v)
-
-  pub plain-none : (i : ℕ) → Plain i i
-  plain-none i = rw (sub-self i)
-
-  pub plain-more : (i r : ℕ) → i ≤ r → r < length v → encodedOctet (getD v r 0) ≡ getD v r 0 ∷ [] → Plain i r → Plain i (r + 1)
-  plain-more i r h k e p = p ∙ rw (encoded-here r k, e, part-more v i r h k) (sym (append-assoc (take (r - i) (drop i v)) (getD v r 0 ∷ []) (encoded (drop (r + 1) v))))
+  -- a run of octets that no caret encodes, from i to r
+  pub encoded-run : {i r : ℕ} → ClassRun caretFree v i r → encoded (drop i v) ≡ take (r - i) (drop i v) ++ encoded (drop r v)
+  unfolding encoded
+  encoded-run w = run-left encoded (λ c s h. rw (stays c h)) w
 
   -- nothing is encoded at all
-  pub plain-whole : Plain 0 (length v) → encoded v ≡ v
-  plain-whole p = p ∙ rw (encoded-ended (length v) (omega arith), from v 0) (append-nil v)
+  pub encoded-whole : ClassRun caretFree v 0 (length v) → encoded v ≡ v
+  encoded-whole w = encoded-run w ∙ rw (encoded-ended (length v) (omega arith), from v 0) (append-nil v)
 
 -- no double quote is left, and quotes are asked for as before
 pub no-quotes : (v : List ℕ) → Free (code "\"") (encoded v)

@@ -1,8 +1,6 @@
 // Pieces of a content line through the folding pen: the head of a parameter, and its values.
 ghost use mathlib.Core.Path.{_≡_};
 ghost use mathlib.Core.List.{_++_};
-ghost use Prim.Native.Nat.{_-_, _≤_};
-ghost use lib.ListN.{length, take, drop};
 ghost use Rattle.octets.specs.Basics.{octets, any};
 ghost use Rattle.octets.specs.Classes.{upper};
 ghost use Rattle.content.specs.Carets.{encodedOctet, encoded};
@@ -12,6 +10,8 @@ use crate::fold::Folder;
 use crate::fold::fold_all;
 use crate::fold::fold_octet;
 use crate::fold::fold_upper;
+use octets::Class;
+use octets::run_end;
 
 // Whether an octet asks for quotes around its value.
 fn asks_quotes(c: u8) -> bool
@@ -40,25 +40,6 @@ fn is_quoted(v: &[u8]) -> bool
     false
 }
 
-// The end of the octets from i on that no caret encodes.
-fn plain_end(v: &[u8], i: usize) -> usize
-    requires { ⌜ i ≤ length (now v) ⌝ }
-    ensures { λ r. ⌜ (i ≤ r) × (r ≤ length (now (v .entry))) × (encoded (drop i (now (v .entry))) ≡ take (r - i) (drop i (now (v .entry))) ++ encoded (drop r (now (v .entry)))) ⌝ }
-{
-    let mut r = i;
-    while r < v.len() {
-        match v[r] {
-            b'^' | b'"' | b'\n' => {
-                return r;
-            }
-            _ => {
-                r += 1;
-            }
-        }
-    }
-    r
-}
-
 // Writes an octet, a caret encoding it where it must.
 fn fold_encoded_octet(out: &mut [u8], p: Folder, c: u8) -> Folder
     ensures { λ r. ⌜ Folded (folding (now (out .entry)) p) (encodedOctet c) (folding (now (out .exit)) r) ⌝ }
@@ -78,9 +59,9 @@ fn fold_encoded(out: &mut [u8], p: Folder, v: &[u8]) -> Folder
     let mut q = p;
     let mut i = 0;
     loop {
-        let end = plain_end(&*v, i);
+        let end = run_end(&*v, i, Class::CaretFree);
         q = fold_all(out, q, &v[i..end]);
-        if end == v.len() {
+        if end >= v.len() {
             return q;
         }
         q = fold_encoded_octet(out, q, v[end]);
@@ -106,7 +87,7 @@ pub fn write_param_value(out: &mut [u8], p: Folder, v: &[u8]) -> Folder
         let b = fold_encoded(out, a, &*v);
         return fold_octet(out, b, b'"');
     }
-    if plain_end(&*v, 0) == v.len() {
+    if run_end(&*v, 0, Class::CaretFree) == v.len() {
         return fold_all(out, p, &*v);
     }
     fold_encoded(out, p, &*v)

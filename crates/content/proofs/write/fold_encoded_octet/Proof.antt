@@ -1,7 +1,7 @@
 -- `content::write::fold_encoded_octet` meets its contract.
 use borrow.Author.Needs.{needs}
+use borrow.Author.Tests.{ne-eqb}
 use Rattle.content.specs.Carets.{encodedOctet}
-use Rattle.content.proofs.Encoded.{stays}
 use Rattle.content.proofs.write.fold_encoded_octet.Statement.{statement}
 use Rattle.content.proofs.write.fold_encoded_octet.Tie as tie
 
@@ -18,7 +18,11 @@ unfolding encodedOctet
 returns-3 c = rw (c .before .before .before .before .before .match .keys3) (c .before .before .fold-all3 .ensures)
 
 returns-4 : tie.Need-returns-4
-returns-4 c = rw (stays _ (c .before .before .before .before .match .rest .1) (c .before .before .before .before .match .rest .0 .1) (c .before .before .before .before .match .rest .0 .0 .1)) (c .before .before .fold-octet .ensures)
+unfolding encodedOctet
+returns-4 c =
+    let other = c .before .before .before .before in
+    let b = other .before .before .args .c in
+    rw (ne-eqb b 94 (other .match .rest .0 .0 .1), ne-eqb b 34 (other .match .rest .0 .1), ne-eqb b 10 (other .match .rest .1)) (c .before .before .fold-octet .ensures)
 
 pub fold-encoded-octet-spec : {M : Type 1} → statement M
 fold-encoded-octet-spec =

@@ -1,8 +1,11 @@
 -- `content::write::write_param_value` meets its contract.
+use mathlib.Core.Path.{sym, _∙_}
+use native.Mathlib.Omega.{arith}
 use borrow.Author.Needs.{needs}
+use Rattle.octets.proofs.Runs.{run-found}
 use Rattle.content.specs.Write.{paramValueText, quotedIf}
 use Rattle.content.proofs.Folding.{then}
-use Rattle.content.proofs.Encoded.{plain-whole}
+use Rattle.content.proofs.Encoded.{encoded-whole}
 use Rattle.content.proofs.write.write_param_value.Statement.{statement}
 use Rattle.content.proofs.write.write_param_value.Tie as tie
 
@@ -19,8 +22,9 @@ unfolding paramValueText quotedIf
 returns-2 c =
     let found = c .before .before .before .before .before in
     let test = found .before in
-    let plain = plain-whole (test .before .before .before .before .args .v .now) (rw (c .before .before .before .before .if2 .taken) at (found .plain-end .ensures .2)) in
-    rw (← (test .before .is-quoted .ensures), test .if1 .left, plain) (c .before .before .fold-all .ensures)
+    let v = test .before .before .before .before .args .v .now in
+    let whole = encoded-whole v (run-found v 0 _ (omega arith) (sym (c .before .before .before .before .if2 .taken) ∙ found .run-end .ensures)) in
+    rw (← (test .before .is-quoted .ensures), test .if1 .left, whole) (c .before .before .fold-all .ensures)
 
 returns-3 : tie.Need-returns-3
 unfolding paramValueText quotedIf
