@@ -88,8 +88,8 @@ fn fold_run(out: &mut [u8], p: Folder, s: &[u8]) -> Folder
     }
 }
 
-// The end of a run from i that stands in safe columns.
-fn run_end(column: usize, i: usize, len: usize) -> usize
+// The end of the octets from i on that fit into safe columns.
+fn fitting_end(column: usize, i: usize, len: usize) -> usize
     requires { ⌜ (column + 3 < mostColumns) × (i < len) ⌝ }
     ensures { λ r. ⌜ (i < r) × (r ≤ len) × (column + (r - i) + 3 ≤ mostColumns) ⌝ }
 {
@@ -109,7 +109,7 @@ fn fold_long(out: &mut [u8], p: Folder, s: &[u8]) -> Folder
     while i < s.len() {
         let column = q.column;
         if column < SAFE_COLUMNS {
-            let end = run_end(column, i, s.len());
+            let end = fitting_end(column, i, s.len());
             q = fold_run(out, q, &s[i..end]);
             i = end;
         } else {

@@ -21,13 +21,13 @@ fold-run-requires : tie.Need-fold-run-requires Inv-loop μ-loop
 fold-run-requires c κs =
     let found = c .before .before in
     let turn = found .before .before .before in
-    rw (part-length (turn .before .before .before .args .s .now) (turn .loop .i) (found .run-end .result) (omega arith) (omega arith)) (found .run-end .ensures .2)
+    rw (part-length (turn .before .before .before .args .s .now) (turn .loop .i) (found .fitting-end .result) (omega arith) (omega arith)) (found .fitting-end .ensures .2)
 
 loop-again : tie.Need-loop-again Inv-loop μ-loop
 loop-again c =
     let found = c .before .before .before .before .before in
     let turn = found .before .before .before in
-    (omega arith, omega arith, leads-on (turn .loop .inv .2) (c .before .before .fold-run .ensures) (part-rest _ (turn .loop .i) (found .run-end .result) (omega arith)))
+    (omega arith, omega arith, leads-on (turn .loop .inv .2) (c .before .before .fold-run .ensures) (part-rest _ (turn .loop .i) (found .fitting-end .result) (omega arith)))
 
 loop-again-2 : tie.Need-loop-again-2 Inv-loop μ-loop
 loop-again-2 c =
