@@ -20,10 +20,6 @@ otherPieces (p ∷ ps) = ps
 unfoldable pub paramsIn : List ℕ → List Param
 paramsIn s = map paramOf (otherPieces (pieces (code ";") false s))
 
--- the lowercase name of the parameter that begins at i
-unfoldable pub nameAt : List ℕ → ℕ → List ℕ
-nameAt s i = lower (before (code "=") false (before (code ";") false (drop i s)))
-
 -- what the places cut out of l
 unfoldable pub lineAt : List ℕ → Parts → Line
 lineAt l p = record { name = take (p .name) l; params = paramsIn (take (p .colon - p .name) (drop (p .name) l)); value = drop (p .value) l }

@@ -1,19 +1,20 @@
 // Whether a parameter name stands twice. A few are compared with all names behind them; many are found again by a table of slots.
 ghost use mathlib.Core.Path.{_≡_};
 ghost use mathlib.Core.List.{map};
-ghost use lib.ListN.{length, drop};
+ghost use lib.ListN.{drop};
 ghost use Rattle.octets.specs.Basics.{among};
 ghost use Rattle.octets.specs.Classes.{lower};
-ghost use Rattle.octets.specs.Slots.{slotIn, Blank, Within};
+ghost use Rattle.octets.specs.Slots.{Blank};
 ghost use Rattle.content.specs.Parameters.{nameTwice};
 ghost use Rattle.content.specs.Line.{nameOf};
-ghost use Rattle.content.specs.Parts.{paramsIn, nameAt};
+ghost use Rattle.content.specs.Parts.{paramsIn};
 use crate::parts::param_at;
 use crate::scan::next_bare;
 use octets::Case;
+use octets::Entry;
 use octets::SLOTS;
+use octets::enter;
 use octets::same_name;
-use octets::slot_of;
 
 // Names that are compared with all behind them.
 const FEW: usize = 8;
@@ -35,26 +36,6 @@ fn has_name(s: &[u8], from: usize, name: &[u8]) -> bool
     false
 }
 
-// The slot that holds a name, or the free one for it, or the end of the table.
-fn slot_in(s: &[u8], table: &[usize], name: &[u8]) -> usize
-    requires { ⌜ Within (length (now s)) (now table) ⌝ }
-    ensures { λ r. ⌜ r ≡ slotIn (nameAt (now (s .entry))) (lower (now (name .entry))) (now (table .entry)) ⌝ }
-{
-    let mut q = slot_of(name, Case::Lower);
-    while q < table.len() {
-        let p = table[q];
-        if p == 0 {
-            return q;
-        }
-        let e = next_bare(s, p, b'=', b';');
-        if same_name(name, &s[p..e]) {
-            return q;
-        }
-        q += 1;
-    }
-    q
-}
-
 // Whether a name of the parameters from `from` on stands twice; the table is free.
 fn twice_by(s: &[u8], from: usize, table: &mut [usize]) -> bool
     requires { ⌜ Blank (now table) ⌝ }
@@ -66,18 +47,17 @@ fn twice_by(s: &[u8], from: usize, table: &mut [usize]) -> bool
         let p = param_at(s, i);
         let n = p.name;
         let end = p.end;
-        let q = slot_in(s, table, &s[i..n]);
-        if q < table.len() {
-            if table[q] != 0 {
-                return true;
+        match enter(s, i, n, Case::Lower, table) {
+            Entry::Seen => return true,
+            Entry::Placed => {
+                e = end;
             }
-            table[q] = i;
-            e = end;
-        } else {
-            if has_name(s, end, &s[i..n]) {
-                return true;
+            Entry::Full => {
+                if has_name(s, end, &s[i..n]) {
+                    return true;
+                }
+                e = end;
             }
-            e = end;
         }
     }
     false

@@ -1,9 +1,10 @@
 -- `content::twice::twice_by` meets its contract.
 use Prim.Native.Nat.{_-_}
 use mathlib.Core.Path.{_≡_, refl, sym, _∙_}
+use native.Mathlib.Omega.{arith}
 use borrow.Author.Needs.{needs}
-use lib.ListN.{length, length-set}
-use Rattle.content.proofs.Tables.{Walk, walk-start, walk-end, walk-twice, walk-there, walk-full, walk-free}
+use lib.ListN.{length}
+use Rattle.content.proofs.Tables.{Walk, walk-start, walk-end, walk-twice, walk-seen, walk-full, walk-placed}
 use Rattle.content.proofs.twice.twice_by.Statement.{statement}
 use Rattle.content.proofs.twice.twice_by.Tie as tie
 
@@ -18,25 +19,27 @@ loop-holds c = (refl, walk-start _ _ _ _ (c .before .before .before .pre) (c .ne
 
 returns : tie.Need-returns Inv-loop μ-loop
 returns c =
-    let b = c .before .before .before .before .before .before in
-    sym (walk-there (b .before .before .loop .inv .1) (b .before .loop-test .taken) (b .param-at .ensures) (c .before .before .before .slot-in .ensures) (c .if2 .taken))
+    let entered = c .before .before .before .before in
+    let param = entered .before .before in
+    sym (walk-seen (param .before .before .loop .inv .1) (param .before .loop-test .taken) (param .param-at .ensures) (rw (c .enum-told .given .1) at (entered .enter .ensures)))
 
 loop-again : tie.Need-loop-again Inv-loop μ-loop
 loop-again c =
-    let b = c .before .before .before .before .before .before in
-    let l = b .before .before .loop in
-    (rw length-set (l .inv .0), walk-free (l .inv .1) (b .before .loop-test .taken) (b .param-at .ensures) (c .before .before .before .slot-in .ensures) (c .before .before .if1 .taken) (c .if2 .left))
+    let entered = c .before .before .before .before in
+    let param = entered .before .before in
+    (omega arith, walk-placed (param .before .before .loop .inv .1) (param .before .loop-test .taken) (param .param-at .ensures) (rw (c .enum-told2 .given .1) at (entered .enter .ensures)))
 
 returns-2 : tie.Need-returns-2 Inv-loop μ-loop
 returns-2 c =
-    let b = c .before .before .before .before .before .before .before in
-    sym (walk-twice (b .before .before .loop .inv .1) (b .before .loop-test .taken) (b .param-at .ensures) (sym (c .before .has-name .ensures) ∙ c .if3 .taken))
+    let param = c .before .before .before .before .before .before .before .before .before in
+    sym (walk-twice (param .before .before .loop .inv .1) (param .before .loop-test .taken) (param .param-at .ensures) (sym (c .before .has-name .ensures) ∙ c .if1 .taken))
 
 loop-again-2 : tie.Need-loop-again-2 Inv-loop μ-loop
 loop-again-2 c =
-    let b = c .before .before .before .before .before .before .before in
-    let l = b .before .before .loop in
-    (l .inv .0, walk-full (l .inv .1) (b .before .loop-test .taken) (b .param-at .ensures) (c .before .before .before .before .slot-in .ensures) (c .before .before .before .if1 .left) (sym (c .before .has-name .ensures) ∙ c .if3 .left))
+    let told = c .before .before .before in
+    let entered = told .before .before .before .before in
+    let param = entered .before .before in
+    (omega arith, walk-full (param .before .before .loop .inv .1) (param .before .loop-test .taken) (param .param-at .ensures) (rw (told .enum-told3 .given .1) at (entered .enter .ensures)) (sym (c .before .has-name .ensures) ∙ c .if1 .left))
 
 returns-3 : tie.Need-returns-3 Inv-loop μ-loop
 returns-3 c = sym (walk-end (c .before .loop .inv .1) (c .loop-test .left))
@@ -51,18 +54,14 @@ twice-by-spec =
     loop-holds
     (λ c. search needs)
     (λ c κs. search needs)
-    (λ c. search needs)
-    (λ c. search needs)
-    (λ c. search needs)
     (λ c κs. search needs)
-    (λ c. search needs)
     (λ c. search needs)
     (λ c. search needs)
     returns
     (λ c. search needs)
     (λ c. search needs)
-    (λ c. search needs)
     loop-again
+    (λ c. search needs)
     (λ c. search needs)
     (λ c. search needs)
     (λ c. search needs)
