@@ -1,18 +1,20 @@
 -- Keys found again by a table of slots.
-use Prim.Native.Nat.{ℕ, _≤_, _<_}
+use Prim.Native.Nat.{ℕ}
 use mathlib.Core.Path.{_≡_, refl, sym, _∙_}
 use mathlib.Core.Bool.{Bool, true, false, not}
-use mathlib.Core.List.{List, [], _∷_}
-use native.Mathlib.Omega.{arith}
-use lib.ListN.{length, getD, set}
+use mathlib.Core.List.{List, [], _∷_, map}
 use Rattle.octets.specs.Basics.{_and_, _or_, any, among, twice}
-use Rattle.octets.specs.Slots.{slotIn, Blank}
-use Rattle.octets.proofs.Positions.{past-end}
-use Rattle.octets.proofs.Slots.{slot-there, slot-absent, Noting, noting-start, noting-end, noting-there, noting-twice, noting-full, noting-free}
+use Rattle.octets.specs.Groups.{cased}
+use Rattle.octets.specs.Slots.{Blank, nameIn, Enters}
+use Rattle.octets.specs.declared.names.Case.the-variants.{Exact}
+use Rattle.octets.specs.declared.tables.Entry.{Entry}
+use Rattle.octets.specs.declared.tables.Entry.the-variants.{Seen, Placed, Full}
+use Rattle.octets.proofs.Classes.{exact}
+use Rattle.octets.proofs.Slots.{Noting, noting-start, noting-end, noting-twice, noting-seen, noting-full, noting-placed}
 use Rattle.json.specs.Tree.{Members, noMembers, member}
 use Rattle.json.specs.Tape.{tagEnd}
 use Rattle.tape.specs.Sound.{hasKey, distinctKeys}
-use Rattle.tape.specs.Decode.{keyTextAt, tagAt, membersAt}
+use Rattle.tape.specs.Decode.{tagAt, membersAt}
 use Rattle.tape.specs.declared.Text.{Text}
 use Rattle.tape.proofs.Values.{members-end}
 use Rattle.tape.proofs.Scans.{Keyed, part, members-on}
@@ -38,7 +40,7 @@ key-twice (member k j ms) = rw (key-among k ms, key-twice ms) (neither-of (among
 
 -- The keys up to i are in the table, and differ: what is left tells whether all keys from a on do.
 pub record Telling (t table : List ℕ) (a i : ℕ) : Type 0 where
-  pub is : Noting (keyTextAt t) table (keysIn (membersAt t a)) (keysIn (membersAt t i))
+  pub is : Noting (nameIn Exact t) table (keysIn (membersAt t a)) (keysIn (membersAt t i))
 
 pub telling-start : {t table : List ℕ} {a : ℕ} → Blank table → Telling t table a a
 telling-start b = record { is = noting-start b }
@@ -48,7 +50,7 @@ module _ {t table : List ℕ} {a i : ℕ} (g : Telling t table a i) where
   telling-end z = let n : twice (keysIn (membersAt t a)) ≡ false = noting-end (rw (members-end t i z) at (g .is)) in key-twice (membersAt t a) ∙ rw n
 
   module _ {e : ℕ} {r : Text} (m : Keyed t i r e) where
-    at-key : Noting (keyTextAt t) table (keysIn (membersAt t a)) (part t r ∷ keysIn (membersAt t e))
+    at-key : Noting (nameIn Exact t) table (keysIn (membersAt t a)) (part t r ∷ keysIn (membersAt t e))
     at-key = rw (members-on m) at (g .is)
 
     repeated : twice (keysIn (membersAt t a)) ≡ true → distinctKeys (membersAt t a) ≡ false
@@ -57,13 +59,16 @@ module _ {t table : List ℕ} {a i : ℕ} (g : Telling t table a i) where
     pub telling-twice : hasKey (part t r) (membersAt t e) ≡ true → distinctKeys (membersAt t a) ≡ false
     telling-twice h = repeated (noting-twice at-key (sym (key-among (part t r) (membersAt t e)) ∙ h))
 
-    -- the key is looked for in the table up to the slot q
-    module _ {q : ℕ} (s : q ≡ slotIn (keyTextAt t) (part t r) table) where
-      pub telling-there : ((getD table q 0 ≡ 0) → ⊥) → distinctKeys (membersAt t a) ≡ false
-      telling-there z = repeated (noting-there at-key q z (slot-there (keyTextAt t) (part t r) table q s z))
+    -- what became of the key that is entered
+    abbrev Entered : List ℕ → Entry → Type 0
+    Entered new s = Enters (nameIn Exact t) (map (cased Exact) (part t r)) table new s
 
-      pub telling-full : length table ≤ q → hasKey (part t r) (membersAt t e) ≡ false → Telling t table a e
-      telling-full l h = record { is = noting-full at-key (slot-absent (keyTextAt t) (part t r) table q s (past-end table q l)) (sym (key-among (part t r) (membersAt t e)) ∙ h) }
+    module _ {new : List ℕ} where
+      pub telling-seen : Entered new Seen → distinctKeys (membersAt t a) ≡ false
+      telling-seen s = repeated (noting-seen at-key (rw (exact (part t r)) at s))
 
-      pub telling-free : 1 ≤ i → q < length table → getD table q 0 ≡ 0 → Telling t (set table q i) a e
-      telling-free o l z = record { is = noting-free at-key q i (λ y. omega arith) (sym (m .key .part)) s l z }
+      pub telling-full : Entered new Full → hasKey (part t r) (membersAt t e) ≡ false → Telling t new a e
+      telling-full s h = record { is = noting-full at-key (rw (exact (part t r)) at s) (sym (key-among (part t r) (membersAt t e)) ∙ h) }
+
+      pub telling-placed : Entered new Placed → Telling t new a e
+      telling-placed s = record { is = noting-placed at-key (rw (exact (part t r)) at s) }

@@ -97,10 +97,6 @@ textAt t i = textAtFront (drop i t)
 unfoldable pub valueAt : List ℕ → ℕ → Json
 valueAt t i = headItem (top (view t i))
 
--- the key at a place of an object
-abbrev pub keyTextAt : List ℕ → ℕ → List ℕ
-keyTextAt t i = octetsOf (valueAt t i)
-
 -- the values from a place to the end of its group, as a list, and as members of an object
 unfoldable pub itemsAt : List ℕ → ℕ → Items
 itemsAt t i = top (view t i)

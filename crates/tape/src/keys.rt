@@ -4,14 +4,14 @@ use super::walking::behind;
 use super::walking::tag;
 use super::walking::text_at;
 use octets::Case;
+use octets::Entry;
 use octets::SLOTS;
+use octets::enter;
 use octets::same;
-use octets::slot_of;
 ghost use mathlib.Core.Path.{_≡_};
-ghost use Prim.Native.Nat.{_+_, _≤_};
-ghost use Rattle.octets.specs.Slots.{slotIn, Blank};
+ghost use Rattle.octets.specs.Slots.{Blank};
 ghost use Rattle.tape.specs.Sound.{hasKey, distinctKeys};
-ghost use Rattle.tape.specs.Decode.{membersAt, keyTextAt};
+ghost use Rattle.tape.specs.Decode.{membersAt};
 
 // Keys that are compared with all behind them.
 const FEW: usize = 8;
@@ -37,30 +37,9 @@ fn has_key(t: &[u8], at: usize, key: &[u8]) -> bool
     }
 }
 
-// The slot of a table that holds a key, or the free one for it, or the end of the table; the slots hold places of keys, and 0 where they are free.
-fn slot_in(t: &[u8], table: &[usize], key: &[u8]) -> usize
-    ensures { λ r. ⌜ r ≡ slotIn (keyTextAt (now (t .entry))) (now (key .entry)) (now (table .entry)) ⌝ }
-{
-    let mut q = slot_of(key, Case::Exact);
-    while q < table.len() {
-        let p = table[q];
-        if p == 0 {
-            return q;
-        }
-        let k = text_at(t, p);
-        let from = k.from;
-        let to = k.to;
-        if same(key, &t[from..to]) {
-            return q;
-        }
-        q += 1;
-    }
-    q
-}
-
 // Whether the keys from `at` on are all different; the table is free.
 fn all_new(t: &[u8], at: usize, table: &mut [usize]) -> bool
-    requires { ⌜ 1 ≤ at ⌝ ∗ ⌜ Blank (now table) ⌝ }
+    requires { ⌜ Blank (now table) ⌝ }
     ensures { λ r. ⌜ r ≡ distinctKeys (membersAt (now (t .entry)) at) ⌝ }
 {
     let mut i = at;
@@ -73,25 +52,23 @@ fn all_new(t: &[u8], at: usize, table: &mut [usize]) -> bool
         let e = behind(t, v);
         let from = k.from;
         let to = k.to;
-        let q = slot_in(t, table, &t[from..to]);
-        if q < table.len() {
-            if table[q] != 0 {
-                return false;
+        match enter(t, from, to, Case::Exact, table) {
+            Entry::Seen => return false,
+            Entry::Placed => {
+                i = e;
             }
-            table[q] = i;
-            i = e;
-        } else {
-            if has_key(t, e, &t[from..to]) {
-                return false;
+            Entry::Full => {
+                if has_key(t, e, &t[from..to]) {
+                    return false;
+                }
+                i = e;
             }
-            i = e;
         }
     }
 }
 
 // Whether the keys from `at` on are all different, by a table.
 fn many_distinct(t: &[u8], at: usize) -> bool
-    requires { ⌜ 1 ≤ at ⌝ }
     ensures { λ r. ⌜ r ≡ distinctKeys (membersAt (now (t .entry)) at) ⌝ }
 {
     let mut table = [0usize; SLOTS];
@@ -101,7 +78,6 @@ fn many_distinct(t: &[u8], at: usize) -> bool
 // Whether the keys from `at` on are all different: `few` of them are compared with all keys behind them, the rest by a table.
 // The call of itself comes before `has_key`, so that it is no tail call: a recursion, and the table's room with it, is not inlined.
 fn few_distinct(t: &[u8], at: usize, few: usize) -> bool
-    requires { ⌜ 1 ≤ at + few ⌝ }
     ensures { λ r. ⌜ r ≡ distinctKeys (membersAt (now (t .entry)) at) ⌝ }
 {
     if tag(&*t, at) == END {

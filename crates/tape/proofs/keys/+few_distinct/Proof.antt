@@ -6,7 +6,7 @@ use native.Mathlib.Omega.{arith}
 use borrow.Author.Needs.{needs}
 use borrow.Fn.Kinds.{In}
 use borrow.Fn.PlainCycle.{Measures, is, falls, and}
-use Rattle.tape.proofs.Scans.{Keyed, distinct-end, key-new, keys-twice, member-on}
+use Rattle.tape.proofs.Scans.{Keyed, distinct-end, key-new, keys-twice}
 use Rattle.tape.proofs.keys.few_distinct.Reads as few-distinct
 use Rattle.tape.proofs.keys.few_distinct.Kinds as few-distinct-kinds
 use Rattle.tape.proofs.keys.+few_distinct.Lts-few_distinct as few-distinct-lts
@@ -43,12 +43,6 @@ keyed t c = record { some = λ z. c .before .before .before .if1 .left (c .befor
 few-distinct-returns : (t : ℕ) → few-distinct-lts.Need-returns (claims t) (few-distinct-at t) few-distinct.Post
 few-distinct-returns t c = sym (distinct-end _ _ (sym (c .before .tag .ensures) ∙ c .if1 .taken))
 
-few-distinct-many-distinct-requires : (t : ℕ) → few-distinct-lts.Need-many-distinct-requires (claims t) (few-distinct-at t) few-distinct.Post
-few-distinct-many-distinct-requires t c κs = omega (arith, c .before .before .before .before .pre .1)
-
-few-distinct-few-distinct-requires : (t : ℕ) → few-distinct-lts.Need-few-distinct-requires (claims t) (few-distinct-at t) few-distinct.Post
-few-distinct-few-distinct-requires t c κs = (omega (arith, c .before .before .before .before .before .before .pre .0), omega (arith, member-on (keyed t c)))
-
 few-distinct-returns-3 : (t : ℕ) → few-distinct-lts.Need-returns-3 (claims t) (few-distinct-at t) few-distinct.Post
 few-distinct-returns-3 t c = ap not (c .has-key .ensures) ∙ sym (key-new (keyed t (c .before .before .before .before)) (sym (c .before .before .before .few-distinct .ensures) ∙ c .before .before .if3 .taken))
 
@@ -61,12 +55,12 @@ pub +few-distinct-spec : {M : Type 1} → statement M
     few-distinct.Post
     (λ c κs. search needs)
     (few-distinct-returns t)
-    (few-distinct-many-distinct-requires t)
+    (λ c κs. search needs)
     (λ c. c .many-distinct .ensures)
     (λ c κs. search needs)
     (λ c κs. search needs)
     (λ c. search needs)
-    (few-distinct-few-distinct-requires t)
+    (λ c κs. (omega arith, tt))
     (λ c. search needs)
     (λ c. search needs)
     (λ c. search needs)

@@ -1,25 +1,25 @@
 -- `tape::keys::all_new` meets its contract.
-use Prim.Native.Nat.{_-_, _≤_, _<_}
+use Prim.Native.Nat.{_-_, _<_}
 use mathlib.Core.Path.{_≡_, refl, sym, _∙_}
 use native.Mathlib.Omega.{arith}
 use borrow.Author.Needs.{needs}
-use lib.ListN.{length, length-set}
+use lib.ListN.{length}
 use Rattle.tape.proofs.Scans.{Keyed, member-on}
-use Rattle.tape.proofs.Tables.{Telling, telling-start, telling-end, telling-there, telling-twice, telling-full, telling-free}
+use Rattle.tape.proofs.Tables.{Telling, telling-start, telling-end, telling-twice, telling-seen, telling-full, telling-placed}
 use Rattle.tape.proofs.keys.all_new.Statement.{statement}
 use Rattle.tape.proofs.keys.all_new.Tie as tie
 
 abbrev Inv-loop : tie.InvT-loop
-Inv-loop t at table₀ i₀ table i = (length table ≡ length table₀) × (1 ≤ i) × Telling t table at i
+Inv-loop t at table₀ i₀ table i = (length table ≡ length table₀) × Telling t table at i
 
 abbrev μ-loop : tie.MeasureT-loop
 μ-loop t at table₀ i₀ table i = length t - i
 
 loop-holds : tie.Need-loop-holds Inv-loop μ-loop
-loop-holds c = (refl, c .before .before .pre .0, telling-start (c .before .before .pre .1))
+loop-holds c = (refl, telling-start (c .before .before .pre))
 
 returns : tie.Need-returns Inv-loop μ-loop
-returns c = sym (telling-end (c .before .before .loop .inv .2) (sym (c .before .tag .ensures) ∙ c .if1 .taken))
+returns c = sym (telling-end (c .before .before .loop .inv .1) (sym (c .before .tag .ensures) ∙ c .if1 .taken))
 
 -- the member at i
 keyed :
@@ -32,25 +32,27 @@ onward c = omega (arith, member-on (keyed c), c .behind .ensures .high)
 
 returns-2 : tie.Need-returns-2 Inv-loop μ-loop
 returns-2 c =
-    let b = c .before .before .before .before .before .before in
-    sym (telling-there (b .before .before .before .before .loop .inv .2) (keyed b) (c .before .before .before .slot-in .ensures) (c .if3 .taken))
+    let entered = c .before .before .before .before in
+    let b = entered .before .before in
+    sym (telling-seen (b .before .before .before .before .loop .inv .1) (keyed b) (rw (c .enum-told .given .1) at (entered .enter .ensures)))
 
 loop-again : tie.Need-loop-again Inv-loop μ-loop
 loop-again c =
-    let b = c .before .before .before .before .before .before in
-    let l = b .before .before .before .before .loop in
-    (rw length-set (l .inv .0), omega (arith, member-on (keyed b)), telling-free (l .inv .2) (keyed b) (c .before .before .before .slot-in .ensures) (l .inv .1) (c .before .before .if2 .taken) (c .if3 .left))
+    let entered = c .before .before .before .before in
+    let b = entered .before .before in
+    (omega arith, telling-placed (b .before .before .before .before .loop .inv .1) (keyed b) (rw (c .enum-told2 .given .1) at (entered .enter .ensures)))
 
 returns-3 : tie.Need-returns-3 Inv-loop μ-loop
 returns-3 c =
-    let b = c .before .before .before .before .before .before .before in
-    sym (telling-twice (b .before .before .before .before .loop .inv .2) (keyed b) (sym (c .before .has-key .ensures) ∙ c .if4 .taken))
+    let b = c .before .before .before .before .before .before .before .before .before in
+    sym (telling-twice (b .before .before .before .before .loop .inv .1) (keyed b) (sym (c .before .has-key .ensures) ∙ c .if2 .taken))
 
 loop-again-2 : tie.Need-loop-again-2 Inv-loop μ-loop
 loop-again-2 c =
-    let b = c .before .before .before .before .before .before .before in
-    let l = b .before .before .before .before .loop in
-    (l .inv .0, omega (arith, member-on (keyed b)), telling-full (l .inv .2) (keyed b) (c .before .before .before .before .slot-in .ensures) (c .before .before .before .if2 .left) (sym (c .before .has-key .ensures) ∙ c .if4 .left))
+    let told = c .before .before .before in
+    let entered = told .before .before .before .before in
+    let b = entered .before .before in
+    (omega arith, telling-full (b .before .before .before .before .loop .inv .1) (keyed b) (rw (told .enum-told3 .given .1) at (entered .enter .ensures)) (sym (c .before .has-key .ensures) ∙ c .if2 .left))
 
 pub all-new-spec : {M : Type 1} → statement M
 all-new-spec =
@@ -64,23 +66,19 @@ all-new-spec =
     returns
     (λ c κs. search needs)
     (λ c κs. search needs)
-    (λ c. search needs)
-    (λ c. search needs)
-    (λ c. search needs)
     (λ c κs. search needs)
     (λ c. search needs)
     (λ c. search needs)
-    (λ c. search needs)
     returns-2
-    (λ c. search needs)
     (λ c. search needs)
     (λ c. onward (c .before .before .before .before .before .before))
     loop-again
     (λ c. search needs)
     (λ c. search needs)
     (λ c. search needs)
+    (λ c. search needs)
     (λ c κs. search needs)
     (λ c. search needs)
     returns-3
-    (λ c. onward (c .before .before .before .before .before .before .before))
+    (λ c. onward (c .before .before .before .before .before .before .before .before .before))
     loop-again-2)

@@ -6,6 +6,4 @@ use Rattle.tape.proofs.keys.many_distinct.Tie as tie
 
 pub many-distinct-spec : {M : Type 1} → statement M
 many-distinct-spec =
-    tie.close
-    (tie.spec
-    (λ c. search needs) (λ c κs. (c .before .before .pre, blank 16640)) (λ c. search needs))
+    tie.close (tie.spec (λ c. search needs) (λ c κs. blank 16640) (λ c. search needs))
