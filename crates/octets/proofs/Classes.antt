@@ -9,10 +9,10 @@ use borrow.Author.Tests.{le-leb, lt-leb, leb-true, eq-eqb, ne-eqb, eqb-true, eqb
 use lib.Dec.{eqb, leb}
 use lib.ListN.{length, getD, drop}
 use Rattle.octets.specs.Basics.{_and_, _or_, all, filled, same}
-use Rattle.octets.specs.Classes.{between, isDigit, isUpper, isLower, isLetter, nameOctet, isName, lowerNameOctet, isLowerName, plainOctet, textOctet, upperOctet, lowerOctet, upper, lower, sameName}
-use Rattle.octets.specs.Groups.{cased}
+use Rattle.octets.specs.Classes.{between, isDigit, isUpper, isLower, isLetter, nameOctet, isName, lowerNameOctet, isLowerName, isControl, plainOctet, textOctet, upperOctet, lowerOctet, upper, lower, sameName}
+use Rattle.octets.specs.Groups.{cased, textAsIs}
 use Rattle.octets.specs.declared.names.Case.the-variants.{Exact}
-use Rattle.octets.proofs.Cases.{cases, same?, never, both, either, or-first, and-true, and-assoc, and-true-right, and-false-right, all-weaker}
+use Rattle.octets.proofs.Cases.{cases, same?, never, both, either, apart, or-first, and-true, and-assoc, and-true-right, and-false-right, all-weaker}
 use Rattle.octets.proofs.Positions.{here, ended}
 
 -- lo ≤ c ≤ hi, told by the test
@@ -144,6 +144,13 @@ plain-text c h = or-first _ h
 pub text-plain : (c : ℕ) → textOctet c ≡ true → eqb c (code "\n") ≡ false → plainOctet c ≡ true
 unfolding textOctet
 text-plain c h n = either (plainOctet c) (eqb c (code "\n")) h (λ e. e) (λ e. never e n)
+
+-- an octet that text and JSON string have alike is plain
+pub as-is-plain : (c : ℕ) → textAsIs c ≡ true → plainOctet c ≡ true
+unfolding textAsIs plainOctet isControl
+as-is-plain c h =
+    let l : leb c 31 ≡ false = lt-leb c 31 (omega (arith, leb-true 32 c (both (leb 32 c) _ h .0))) in
+    rw (l, apart textAsIs c 127 h refl)
 
 -- case
 pub upperOctet-twice : (c : ℕ) → upperOctet (upperOctet c) ≡ upperOctet c
