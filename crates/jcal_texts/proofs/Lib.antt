@@ -1,6 +1,5 @@
 pub mod Reading
 pub mod TextRuns
 pub mod Strings
-pub mod Blocks
 pub mod Plain
 pub mod Counts

@@ -8,21 +8,22 @@ use mathlib.Core.Path.{_≡_, refl, ap, _∙_}
 use lib.ListN.{length, take, drop, getD}
 use Rattle.octets.specs.Basics.{all}
 use Rattle.octets.specs.Classes.{plainOctet}
+use Rattle.octets.specs.Groups.{textAsIs}
 use Rattle.octets.specs.Optional.{when}
 use Rattle.octets.specs.Pen.{Pen, Wrote, FrontKept}
+use Rattle.octets.specs.Search.{ClassRun}
+use Rattle.octets.proofs.Classes.{as-is-plain}
 use Rattle.octets.proofs.Pen.{nothing, then, Leads, leads-start, leads-on, leads-last, front-wrote}
 use Rattle.octets.proofs.Positions.{here, ended, part-rest}
+use Rattle.octets.proofs.Runs.{run-passes}
 use Rattle.json.specs.Tree.{Json, str}
 use Rattle.json.specs.Print.{escaped, quoted, printString, print}
-use Rattle.json.specs.Promise.{Run}
-use Rattle.json.proofs.Runs.{run-passes}
 use Rattle.values.specs.Read.{readPlain}
-use Rattle.values.specs.Shown.{runOctet}
-use Rattle.jcal_texts.proofs.TextRuns.{run-plain, quoted-run}
+use Rattle.jcal_texts.proofs.TextRuns.{quoted-run}
 
-plain-step : (b : ℕ) (s : List ℕ) → runOctet b ≡ true → all plainOctet (b ∷ s) ≡ all plainOctet s
+plain-step : (b : ℕ) (s : List ℕ) → textAsIs b ≡ true → all plainOctet (b ∷ s) ≡ all plainOctet s
 unfolding all
-plain-step b s h = rw (run-plain b h)
+plain-step b s h = rw (as-is-plain b h)
 
 -- s is plain if what lies ahead of i is, and to write that from q on, behind what is written so far, is to write all from p on
 pub record Plainly (s : List ℕ) (p q : Pen) (i : ℕ) : Type 0 where
@@ -35,7 +36,7 @@ module _ (s : List ℕ) where
   plainly-start = record { holds = refl; leads = leads-start; written = ([], nothing) }
 
   module _ {p q : Pen} {i : ℕ} (g : Plainly s p q i) where
-    pub plainly-run : {e : ℕ} {r : Pen} → Run runOctet s i e → Wrote q (take (e - i) (drop i s)) r → Plainly s p r e
+    pub plainly-run : {e : ℕ} {r : Pen} → ClassRun textAsIs s i e → Wrote q (take (e - i) (drop i s)) r → Plainly s p r e
     plainly-run {e} v w = record {
       holds = g .holds ∙ run-passes (all plainOctet) plain-step v;
       leads = leads-on (g .leads) w (ap quoted (part-rest s i e (v .above)) ∙ quoted-run (take (e - i) (drop i s)) (drop e s) (v .inside));

@@ -2,61 +2,43 @@
 use Prim.Native.Nat.{ℕ, _+_, _-_, _≤_, _<_}
 use Prim.Native.Char.{code}
 use mathlib.Core.Path.{_≡_, refl, ap, _∙_}
-use mathlib.Core.Bool.{Bool, true, false, not}
+use mathlib.Core.Bool.{Bool, true, false}
 use mathlib.Core.List.{List, [], _∷_, _++_, map, append-assoc}
 use mathlib.Core.Option.{Option, none, some}
 use native.Mathlib.Omega.{arith}
-use borrow.Author.Tests.{eq-eqb, ne-eqb, ltb-true, ltb-false, leb-true, lt-leb}
-use lib.Dec.{eqb, leb, ltb}
+use borrow.Author.Tests.{eq-eqb, ne-eqb, ltb-true, ltb-false}
+use lib.Dec.{eqb, ltb}
 use lib.ListN.{length, take, drop, getD}
-use Rattle.octets.specs.Basics.{octets, _and_, _or_, all}
-use Rattle.octets.specs.Classes.{isControl, plainOctet}
+use Rattle.octets.specs.Basics.{octets, all}
+use Rattle.octets.specs.Classes.{plainOctet}
+use Rattle.octets.specs.Groups.{textAsIs}
 use Rattle.octets.specs.Optional.{map?}
 use Rattle.octets.specs.Pen.{Pen, pen, Wrote}
 use Rattle.octets.specs.Pieces.{onto}
+use Rattle.octets.specs.Search.{ClassRun}
 use Rattle.octets.proofs.Cases.{cases, apart, both}
+use Rattle.octets.proofs.Classes.{as-is-plain}
 use Rattle.octets.proofs.Pen.{nothing, then, Leads, leads-start, leads-on, leads-last, front-wrote}
 use Rattle.octets.proofs.Positions.{here, ended, part-rest, past-end}
 use Rattle.values.specs.TextWalk.{Act, add, next, escape, stop, act, escapes, done, textsFrom}
 use Rattle.json.specs.Tree.{str}
 use Rattle.json.specs.Print.{escaped, quoted, printString, print, valuesJson}
-use Rattle.json.specs.Promise.{Run}
-use Rattle.values.specs.Shown.{runOctet}
 use Rattle.jcal_texts.specs.Trying.{WroteTexts, StandsFor, StepsAt}
 use Rattle.jcal_texts.specs.declared.Texts.the-variants.{Written, Invalid as NoTexts}
 use Rattle.jcal_texts.specs.declared.Step.the-variants.{Octet, Separator, Invalid as Wrong}
 use Rattle.jcal_texts.proofs.Reading.{Going, going-start, going-on}
 
 -- an octet of a run is none that is written otherwise
-module _ (c : ℕ) (h : runOctet c ≡ true) where
-  no-quote : eqb c (code "\"") ≡ false
-  no-quote = apart runOctet c (code "\"") h (unfold runOctet in refl)
+run-escaped : (c : ℕ) → textAsIs c ≡ true → escaped c ≡ c ∷ []
+unfolding textAsIs escaped
+run-escaped c h =
+    let no : (k : ℕ) → textAsIs k ≡ false → eqb c k ≡ false = λ k n. apart textAsIs c k h n in
+    rw (no (code "\"") refl, no (code "\\") refl, no (code "\n") refl, no (code "\t") refl)
 
-  no-backslash : eqb c (code "\\") ≡ false
-  no-backslash = apart runOctet c (code "\\") h (unfold runOctet in refl)
-
-  no-newline : eqb c (code "\n") ≡ false
-  no-newline = apart runOctet c (code "\n") h (unfold runOctet in refl)
-
-  no-tab : eqb c (code "\t") ≡ false
-  no-tab = apart runOctet c (code "\t") h (unfold runOctet in refl)
-
-  run-escaped : escaped c ≡ c ∷ []
-  unfolding escaped
-  run-escaped = rw (no-quote, no-backslash, no-newline, no-tab)
-
-  pub run-plain : plainOctet c ≡ true
-  unfolding plainOctet isControl
-  run-plain =
-      let g : (leb 32 c and not (eqb c (code "\"") or eqb c (code ",") or eqb c (code ";") or eqb c (code "\\") or eqb c 127)) ≡ true = unfold runOctet in h in
-      let b = both (leb 32 c) _ g in
-      let l : leb c 31 ≡ false = lt-leb c 31 (omega (arith, leb-true 32 c (b .0))) in
-      rw (l, apart runOctet c 127 h (unfold runOctet in refl))
-
-pub quoted-run : (xs ys : List ℕ) → all runOctet xs ≡ true → quoted (xs ++ ys) ≡ xs ++ quoted ys
+pub quoted-run : (xs ys : List ℕ) → all textAsIs xs ≡ true → quoted (xs ++ ys) ≡ xs ++ quoted ys
 unfolding all quoted
 quoted-run [] ys h = refl
-quoted-run (x ∷ xs) ys h = let b = both (runOctet x) (all runOctet xs) h in rw (run-escaped x (b .0), quoted-run xs ys (b .1))
+quoted-run (x ∷ xs) ys h = let b = both (textAsIs x) (all textAsIs xs) h in rw (run-escaped x (b .0), quoted-run xs ys (b .1))
 
 -- there is one text at least
 onto-filled : (c : ℕ) (r : Option (List (List ℕ))) → map? (onto c) r ≡ some [] → ⊥
@@ -145,16 +127,16 @@ module _ (sep other : ℕ) where
   none-read b c s e = rw e
 
   -- a run
-  module _ (k : runOctet sep ≡ false) (l : runOctet other ≡ false) where
-    run-adds : (c : ℕ) → runOctet c ≡ true → act sep other false c ≡ add c
-    unfolding act
-    run-adds c h = rw (no-backslash c h, apart runOctet c sep h k, apart runOctet c other h l, run-plain c h)
+  module _ (k : textAsIs sep ≡ false) (l : textAsIs other ≡ false) where
+    run-adds : (c : ℕ) → textAsIs c ≡ true → act sep other false c ≡ add c
+    unfolding act textAsIs
+    run-adds c h = rw (apart textAsIs c (code "\\") h refl, apart textAsIs c sep h k, apart textAsIs c other h l, as-is-plain c h)
 
-    run-read : (xs ys : List ℕ) → all runOctet xs ≡ true → textsFrom sep other false (xs ++ ys) ≡ map? (prefixed xs) (textsFrom sep other false ys)
+    run-read : (xs ys : List ℕ) → all textAsIs xs ≡ true → textsFrom sep other false (xs ++ ys) ≡ map? (prefixed xs) (textsFrom sep other false ys)
     unfolding all
     run-read [] ys h = none-more (textsFrom sep other false ys)
     run-read (x ∷ xs) ys h =
-        let b = both (runOctet x) (all runOctet xs) h in
+        let b = both (textAsIs x) (all textAsIs xs) h in
         octet-read false x x (xs ++ ys) (run-adds x (b .0)) ∙ ap (map? (onto x)) (run-read xs ys (b .1)) ∙ one-more x xs (textsFrom sep other false ys) (texts-filled sep other false ys)
 
   -- a place, and what stands there
@@ -213,7 +195,7 @@ module _ (sep other : ℕ) (s : List ℕ) where
   left j ts e z = texts-filled sep other false (drop j s) (e ∙ ap some z)
 
   module _ {p q : Pen} {n i : ℕ} (g : Walked p q n i) where
-    pub walked-run : {e : ℕ} {r : Pen} → runOctet sep ≡ false → runOctet other ≡ false → Run runOctet s i e → Wrote q (take (e - i) (drop i s)) r → Walked p r n e
+    pub walked-run : {e : ℕ} {r : Pen} → textAsIs sep ≡ false → textAsIs other ≡ false → ClassRun textAsIs s i e → Wrote q (take (e - i) (drop i s)) r → Walked p r n e
     walked-run {e} k l v w =
         let xs = take (e - i) (drop i s) in
         record {

@@ -2,21 +2,22 @@
 ghost use mathlib.Core.Path.{_≡_};
 ghost use mathlib.Core.Bool.{false};
 ghost use mathlib.Core.List.{map};
-ghost use Prim.Native.Nat.{_≤_, _<_};
+ghost use Prim.Native.Nat.{_<_};
 ghost use lib.ListN.{length};
-ghost use Rattle.octets.specs.Basics.{_and_, _or_, all, single};
+ghost use Rattle.octets.specs.Basics.{_or_, single};
 ghost use Rattle.octets.specs.Classes.{upper};
+ghost use Rattle.octets.specs.Groups.{textAsIs};
 ghost use Rattle.octets.specs.Optional.{map?, guard};
 ghost use Rattle.octets.specs.Pen.{pen, Wrote};
 ghost use Rattle.values.specs.TextWalk.{textsFrom, texts};
 ghost use Rattle.json.specs.Tree.{str};
 ghost use Rattle.json.specs.Print.{printString, print, valuesJson};
-ghost use Rattle.json.specs.Promise.{Run};
 ghost use Rattle.values.specs.Read.{readPlain, readStatus};
-ghost use Rattle.values.specs.Shown.{runOctet};
 ghost use Rattle.jcal_texts.specs.Trying.{Tried, WroteTexts, StandsFor, StepsAt};
 use json::put_escaped;
+use octets::Class;
 use octets::is_plain_octet;
+use octets::long_run_end;
 use octets::peek;
 use octets::put;
 use octets::put_all;
@@ -39,74 +40,6 @@ enum Step {
     Octet(u8, usize),
     Separator,
     Invalid,
-}
-
-// Octets that are looked at together.
-const BLOCK: usize = 16;
-
-// Both, with no branch.
-fn both(a: bool, b: bool) -> bool
-    ensures { λ r. ⌜ r ≡ (a and b) ⌝ }
-{
-    if a { b } else { false }
-}
-
-// Comparisons with no branch between them, so that many octets are looked at together.
-fn is_run_octet(c: u8) -> bool
-    ensures { λ r. ⌜ r ≡ runOctet c ⌝ }
-{
-    let quote = both(32 <= c, c != b'"');
-    let comma = both(quote, c != b',');
-    let semicolon = both(comma, c != b';');
-    let backslash = both(semicolon, c != b'\\');
-    both(backslash, c != 127)
-}
-
-// Each octet may stand in a run. The loop has no way out on the way.
-fn all_run(s: &[u8]) -> bool
-    ensures { λ r. ⌜ r ≡ all runOctet (now (s .entry)) ⌝ }
-{
-    let mut so_far = true;
-    let mut i = 0;
-    while i < s.len() {
-        so_far = both(so_far, is_run_octet(s[i]));
-        i += 1;
-    }
-    so_far
-}
-
-// The end of the run at `at`, octet by octet.
-fn past_octets(s: &[u8], at: usize) -> usize
-    requires { ⌜ at ≤ length (now s) ⌝ }
-    ensures { λ r. ⌜ Run runOctet (now (s .entry)) at r ⌝ }
-{
-    let mut i = at;
-    while i < s.len() {
-        if !is_run_octet(s[i]) {
-            return i;
-        }
-        i += 1;
-    }
-    i
-}
-
-// The end of the run at `at`: whole blocks first.
-fn past_run(s: &[u8], at: usize) -> usize
-    requires { ⌜ at ≤ length (now s) ⌝ }
-    ensures { λ r. ⌜ Run runOctet (now (s .entry)) at r ⌝ }
-{
-    let n = s.len();
-    let mut i = at;
-    while i < n {
-        if n - i < BLOCK {
-            return past_octets(&*s, i);
-        }
-        if !all_run(&s[i..i + BLOCK]) {
-            return past_octets(&*s, i);
-        }
-        i += BLOCK;
-    }
-    i
 }
 
 // The octet that c stands for behind a backslash; 0 where it may not stand there.
@@ -150,14 +83,14 @@ fn step_at(s: &[u8], i: usize, sep: u8, other: u8) -> Step
 
 // Tests the texts between bare separators, writes them behind their first quote, as strings with a comma between them, and counts them.
 fn put_between(out: &mut [u8], at: usize, s: &[u8], sep: u8, other: u8) -> Texts
-    requires { ⌜ (runOctet sep ≡ false) × (runOctet other ≡ false) ⌝ }
+    requires { ⌜ (textAsIs sep ≡ false) × (textAsIs other ≡ false) ⌝ }
     ensures { λ r. ⌜ WroteTexts (textsFrom sep other false (now (s .entry))) (pen (now (out .entry)) at) (now (out .exit)) r ⌝ }
 {
     let mut p = at;
     let mut n = 1;
     let mut i = 0;
     loop {
-        let e = past_run(&*s, i);
+        let e = long_run_end(&*s, i, Class::TextAsIs);
         let q = put_all(out, p, &s[i..e]);
         if e == s.len() {
             return Texts::Written(put(out, q, b'"'), n);
@@ -224,7 +157,7 @@ pub fn put_tested_plain(out: &mut [u8], at: usize, s: &[u8]) -> Attempt
     let mut p = put(out, at, b'"');
     let mut i = 0;
     loop {
-        let e = past_run(&*s, i);
+        let e = long_run_end(&*s, i, Class::TextAsIs);
         let q = put_all(out, p, &s[i..e]);
         if e == s.len() {
             return Attempt::Written(put(out, q, b'"'));

@@ -1,12 +1,12 @@
 -- The octets that are written for a raw value, valid or not.
 use Prim.Native.Nat.{ℕ, _+_, _-_}
 use Prim.Native.Char.{code}
-use mathlib.Core.Bool.{Bool, true, false, not}
+use mathlib.Core.Bool.{Bool, true, false}
 use mathlib.Core.List.{List, [], _∷_, _++_, map}
 use mathlib.Core.Option.{Option}
-use lib.Dec.{eqb, leb, ltb}
+use lib.Dec.{ltb}
 use lib.ListN.{length, take, drop}
-use Rattle.octets.specs.Basics.{octets, pick, _and_, _or_, same}
+use Rattle.octets.specs.Basics.{octets, pick, same}
 use Rattle.octets.specs.Pieces.{split, joined}
 use Rattle.octets.specs.Optional.{given}
 use Rattle.octets.specs.Classes.{upper, lower}
@@ -15,10 +15,6 @@ use Rattle.calendar.specs.Dates.{dateTimeOf, momentOf}
 use Rattle.calendar.specs.Recurrence.{PartSort, frequency, moment, count, weekday, ordinal, numbers}
 use Rattle.calendar.specs.Walk.{beforeFirst, keyAt, firstPart, itemShown}
 use Rattle.json.specs.Print.{printString}
-
--- an octet of a text that is written as it stands, and neither escapes nor separates
-unfoldable pub runOctet : ℕ → Bool
-runOctet c = leb 32 c and not (eqb c (code "\"") or eqb c (code ",") or eqb c (code ";") or eqb c (code "\\") or eqb c 127)
 
 -- what lies behind the first `sep`
 unfoldable pub behindFirst : ℕ → List ℕ → List ℕ
