@@ -10,7 +10,7 @@ use native.Mathlib.Omega.{arith}
 use borrow.Author.Tests.{eqb-true}
 use lib.Dec.{eqb, leb}
 use lib.ListN.{length, getD}
-use Rattle.octets.specs.Basics.{_or_, all, among}
+use Rattle.octets.specs.Basics.{all, among}
 use Rattle.octets.specs.Optional.{when}
 use Rattle.octets.specs.Classes.{between, isDigit, isLower, upperOctet, upper}
 use Rattle.octets.specs.Decimal.{isSign, minus, unsigned}

@@ -5,7 +5,7 @@ use mathlib.Core.Path.{_≡_, refl, _∙_}
 use mathlib.Core.Bool.{Bool, true, false, not}
 use mathlib.Core.List.{List, [], _∷_}
 use lib.Dec.{eqb}
-use Rattle.octets.specs.Basics.{_and_, _or_, all, filled}
+use Rattle.octets.specs.Basics.{_and_, all, filled}
 use Rattle.octets.specs.Pieces.{onto, cut}
 use Rattle.octets.specs.Classes.{between, isDigit, isUpper, isLower, isLetter, nameOctet, isName}
 use Rattle.octets.proofs.Cases.{cases, apart, and-false-right}

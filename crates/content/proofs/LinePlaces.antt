@@ -5,7 +5,7 @@ use mathlib.Core.Path.{_≡_, refl, _∙_}
 use mathlib.Core.Bool.{Bool, true, false}
 use mathlib.Core.List.{List, [], _∷_}
 use lib.Dec.{eqb}
-use Rattle.octets.specs.Basics.{pick, _and_, _or_, all, filled}
+use Rattle.octets.specs.Basics.{pick, _and_, all, filled}
 use Rattle.octets.specs.Classes.{between, isDigit, isUpper, isLower, isLetter, nameOctet, isName}
 use Rattle.octets.proofs.Cases.{cases, same?, apart, and-false-right, or-false-right}
 use Rattle.content.specs.Line.{quoteAfter, bare, before, behind}

@@ -1,5 +1,5 @@
 -- The lines of a text by what it begins with: an octet, an ending, a fold.
-use Prim.Native.Nat.{ℕ, suc, _+_, _≤_}
+use Prim.Native.Nat.{ℕ, suc, _≤_}
 use Prim.Native.Char.{code}
 use mathlib.Core.Path.{_≡_, refl, sym, ap, _∙_}
 use mathlib.Core.Bool.{Bool, true, false}
@@ -8,7 +8,7 @@ use native.Mathlib.Omega.{arith}
 use borrow.Author.Tests.{eqb-true}
 use lib.Dec.{eqb}
 use lib.ListN.{length, getD, drop}
-use Rattle.octets.specs.Basics.{pick, _and_, _or_}
+use Rattle.octets.specs.Basics.{pick, _and_}
 use Rattle.octets.specs.Pieces.{onto, cut}
 use Rattle.octets.proofs.Cases.{cases, never, both, apart, or-false-right}
 use Rattle.content.specs.Lines.{newlines, isBlank, folds, unfoldedFrom, cutLines, linesOf}

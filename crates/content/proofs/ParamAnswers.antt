@@ -10,7 +10,7 @@ use borrow.Author.Tests.{eqb-true, leb-true, leb-false}
 use lib.Dec.{eqb, leb}
 use lib.ListN.{length, getD, take, drop}
 use lib.Seq.{take-all}
-use Rattle.octets.specs.Basics.{octets, pick, _or_, all, any, same, filled, single}
+use Rattle.octets.specs.Basics.{octets, pick, all, any, same, filled, single}
 use Rattle.octets.specs.Pieces.{cut}
 use Rattle.octets.specs.Classes.{between, isDigit, isUpper, isLower, isLetter, nameOctet, isName, lowerOctet, upperOctet, upper, lower, sameName}
 use Rattle.octets.specs.Answers.{Answer, refused, accepted}

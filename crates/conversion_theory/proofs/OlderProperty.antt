@@ -21,7 +21,7 @@ use Rattle.values.specs.Sorts.{sortOf}
 use Rattle.values.specs.Read.{readValues, valuesOf}
 use Rattle.values.proofs.ValueLaws.{unprocessed-read}
 use Rattle.conversion_theory.specs.Tree.{Property, property}
-use Rattle.conversion_theory.specs.Property.{typeOf, codeOf, manyOf, encodingFits, readAs, readProperty}
+use Rattle.conversion_theory.specs.Property.{typeOf, manyOf, encodingFits, readAs, readProperty}
 use Rattle.conversion_theory.specs.Claim.{excepted, asUnknown, readAsOlder}
 use Rattle.conversion_theory.proofs.PropertyLaws.{LineFine}
 use Rattle.conversion_theory.proofs.ValueParameter.{none-stated, some-stated}

@@ -28,7 +28,7 @@ use Rattle.values.specs.Write.{valuesAre, valuesText}
 use Rattle.values.proofs.Neat.{Neat}
 use Rattle.values.proofs.ValueLaws.{values-are, Valued, values-of, unprocessed-held, unprocessed-text}
 use Rattle.conversion_theory.specs.Tree.{Property, property}
-use Rattle.conversion_theory.specs.Property.{typeOf, codeOf, manyOf, encodingFits, readAs}
+use Rattle.conversion_theory.specs.Property.{typeOf, manyOf, encodingFits, readAs}
 use Rattle.conversion_theory.specs.Return.{isUnknown, statedType, writtenSort, firstOctets, takenBy, checked, isDefault, shown}
 use Rattle.conversion_theory.proofs.PropertyReading.{read-as, as-read, read-alike, stated-code, stated-type, unprocessed-code}
 use Rattle.conversion_theory.proofs.OlderProperty.{stated-older, unprocessed-older}

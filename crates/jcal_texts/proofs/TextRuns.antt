@@ -16,6 +16,7 @@ use Rattle.octets.specs.Optional.{map?}
 use Rattle.octets.specs.Pen.{Pen, pen, Wrote}
 use Rattle.octets.specs.Pieces.{onto}
 use Rattle.octets.specs.Search.{ClassRun}
+use Rattle.octets.proofs.Runs.{all-left}
 use Rattle.octets.proofs.Cases.{cases, apart, both}
 use Rattle.octets.proofs.Classes.{as-is-plain}
 use Rattle.octets.proofs.Pen.{nothing, then, Leads, leads-start, leads-on, leads-last, front-wrote}
@@ -36,9 +37,8 @@ run-escaped c h =
     rw (no (code "\"") refl, no (code "\\") refl, no (code "\n") refl, no (code "\t") refl)
 
 pub quoted-run : (xs ys : List ℕ) → all textAsIs xs ≡ true → quoted (xs ++ ys) ≡ xs ++ quoted ys
-unfolding all quoted
-quoted-run [] ys h = refl
-quoted-run (x ∷ xs) ys h = let b = both (textAsIs x) (all textAsIs xs) h in rw (run-escaped x (b .0), quoted-run xs ys (b .1))
+unfolding quoted
+quoted-run xs ys h = all-left quoted (λ c s e. rw (run-escaped c e)) xs ys h
 
 -- there is one text at least
 onto-filled : (c : ℕ) (r : Option (List (List ℕ))) → map? (onto c) r ≡ some [] → ⊥

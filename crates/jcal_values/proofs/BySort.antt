@@ -1,7 +1,7 @@
 -- Values by their sort: texts together, others one by one.
 use Prim.Native.Nat.{ℕ}
 use mathlib.Core.Path.{_≡_, refl}
-use mathlib.Core.List.{List, [], map}
+use mathlib.Core.List.{List, map}
 use Rattle.octets.specs.Basics.{pick}
 use Rattle.octets.specs.Optional.{map?, each}
 use Rattle.octets.specs.Classes.{between}

@@ -1,5 +1,5 @@
 -- Octets that a JSON string holds as they are; and short texts.
-use Prim.Native.Nat.{ℕ, _-_}
+use Prim.Native.Nat.{ℕ}
 use Prim.Native.Char.{code}
 use mathlib.Core.Path.{_≡_, refl, sym, _∙_}
 use mathlib.Core.Bool.{Bool, true, false}
@@ -7,7 +7,7 @@ use mathlib.Core.List.{List, [], _∷_, _++_}
 use mathlib.Core.Option.{Option, none, some}
 use borrow.Author.Tests.{eqb-true}
 use lib.Dec.{eqb}
-use Rattle.octets.specs.Basics.{_or_, all}
+use Rattle.octets.specs.Basics.{all}
 use Rattle.octets.specs.Optional.{isSome, given}
 use Rattle.octets.proofs.Cases.{cases, never, both, apart}
 use Rattle.calendar.specs.Texts.{octetsIn, textSaid, Says}

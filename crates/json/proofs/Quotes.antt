@@ -1,17 +1,18 @@
 -- Strings written: runs, escapes, the closing quote.
 use Prim.Native.Nat.{ℕ, _+_, _-_, _≤_, _<_}
-use mathlib.Core.Path.{_≡_, refl, ap, _∙_}
+use mathlib.Core.Path.{_≡_}
 use mathlib.Core.Bool.{true}
 use mathlib.Core.List.{List, [], _∷_, _++_}
 use borrow.Author.Tests.{not-true}
 use lib.Dec.{eqb}
 use lib.ListN.{length, take, drop, getD}
-use Rattle.octets.specs.Basics.{_or_, all}
-use Rattle.octets.proofs.Cases.{both, neither}
-use Rattle.octets.proofs.Positions.{here, ended, part-rest}
+use Rattle.octets.specs.Basics.{_or_}
+use Rattle.octets.proofs.Cases.{neither}
+use Rattle.octets.proofs.Positions.{here, ended}
 use Rattle.octets.specs.Groups.{asIsOctet}
 use Rattle.json.specs.Print.{escaped, quoted}
 use Rattle.octets.specs.Search.{ClassRun}
+use Rattle.octets.proofs.Runs.{run-left}
 
 pub escaped-bare : (b : ℕ) → asIsOctet b ≡ true → escaped b ≡ b ∷ []
 unfolding escaped asIsOctet
@@ -21,16 +22,10 @@ escaped-bare b e =
     let u = neither (eqb b 10) (eqb b 9) (v .1) in
     rw (w .0, v .0, u .0, u .1)
 
-quoted-bare : (xs ys : List ℕ) → all asIsOctet xs ≡ true → quoted (xs ++ ys) ≡ xs ++ quoted ys
-unfolding all quoted
-quoted-bare [] ys h = refl
-quoted-bare (x ∷ xs) ys h =
-    let b = both (asIsOctet x) (all asIsOctet xs) h in
-    rw (escaped-bare x (b .0), quoted-bare xs ys (b .1))
-
 module _ (s : List ℕ) where
   pub quoted-run : {i e : ℕ} → ClassRun asIsOctet s i e → quoted (drop i s) ≡ take (e - i) (drop i s) ++ quoted (drop e s)
-  quoted-run {i} {e} w = ap quoted (part-rest s i e (w .above)) ∙ quoted-bare (take (e - i) (drop i s)) (drop e s) (w .inside)
+  unfolding quoted
+  quoted-run w = run-left quoted (λ b r h. rw (escaped-bare b h)) w
 
   pub quoted-octet : (i : ℕ) → i < length s → quoted (drop i s) ≡ escaped (getD s i 0) ++ quoted (drop (i + 1) s)
   unfolding quoted

@@ -8,7 +8,7 @@ use lib.Dec.{eqb, leb, ltb}
 use lib.ListN.{length, take, drop, getD, length-drop}
 use lib.Seq.{drop-drop}
 use borrow.Author.Tests.{ne-eqb, eq-eqb, ltb-true, ltb-false, lt-ltb, le-ltb, leb-true, leb-false, eqb-false, not-true}
-use Rattle.octets.specs.Basics.{pick, _and_, _or_, all}
+use Rattle.octets.specs.Basics.{pick, _and_, all}
 use Rattle.octets.specs.Groups.{jsonUnescaped}
 use Rattle.octets.specs.Classes.{between, isDigit, hexDigit}
 use Rattle.octets.specs.Pen.{Pen, Wrote}

@@ -1,12 +1,11 @@
 -- What the crate's own readers promise each other; `parse` promises what Parse says.
-use Prim.Native.Nat.{ℕ, _-_, _≤_, _<_}
+use Prim.Native.Nat.{ℕ, _≤_}
 use Prim.Native.Char.{code}
 use mathlib.Core.Path.{_≡_}
-use mathlib.Core.Bool.{Bool, true, false}
 use mathlib.Core.List.{List, [], _∷_}
 use lib.Dec.{eqb}
-use lib.ListN.{length, take, drop, getD}
-use Rattle.octets.specs.Basics.{pick, all}
+use lib.ListN.{length, drop}
+use Rattle.octets.specs.Basics.{pick}
 use Rattle.octets.specs.Pen.{Pen, pen, Wrote}
 use Rattle.json.specs.Reads.{Out, ok, deep, bad}
 use Rattle.json.specs.Print.{escaped}

@@ -1,5 +1,4 @@
 // JSON strings written (01, Values): only the double quote, backslash, newline and tab are escaped, each by two characters.
-ghost use mathlib.Core.Path.{_≡_};
 ghost use Prim.Native.Nat.{_≤_};
 ghost use lib.ListN.{length};
 ghost use Rattle.octets.specs.Pen.{pen, Wrote};

@@ -1,5 +1,4 @@
 // White space and literal names (RFC 8259 2, 3): the place behind them.
-ghost use mathlib.Core.Path.{_≡_};
 ghost use Prim.Native.Nat.{_≤_};
 ghost use lib.ListN.{length, drop};
 ghost use Rattle.octets.specs.Classes.{isSpace};

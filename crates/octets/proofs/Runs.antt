@@ -9,8 +9,8 @@ use Rattle.octets.specs.Basics.{all}
 use Rattle.octets.specs.Search.{until, ClassRun}
 use lib.Dec.{eqb, ltb}
 use borrow.Author.Tests.{ltb-true, ltb-false, eq-eqb, ne-eqb, not-true, not-false}
-use Rattle.octets.proofs.Cases.{cases, never, both, and-true, all-append, All-weaker, All-all}
-use Rattle.octets.proofs.Positions.{here, ended, part-rest, part-more, past-end}
+use Rattle.octets.proofs.Cases.{cases, never, both, All-weaker, All-all}
+use Rattle.octets.proofs.Positions.{here, ended, part-rest, past-end}
 use Rattle.octets.proofs.Search.{until-free, scan-low, scan-high, scan-is, scan-stop}
 
 -- what the search for a run's end answers
@@ -38,14 +38,14 @@ pub run-passes : {X : Type 0} {class : ℕ → Bool} {text : List ℕ} {at r : �
 run-passes {text = text} {at} {r} R f w = ap R (part-rest text at r (w .above)) ∙ through R f (take (r - at) (drop at text)) (drop r text) (w .inside)
 
 -- a writing that leaves each octet of the class as it is leaves a run as it is
-left : {class : ℕ → Bool} (R : List ℕ → List ℕ) → ((b : ℕ) (s : List ℕ) → class b ≡ true → R (b ∷ s) ≡ b ∷ R s) → (xs ys : List ℕ) → all class xs ≡ true → R (xs ++ ys) ≡ xs ++ R ys
+pub all-left : {class : ℕ → Bool} (R : List ℕ → List ℕ) → ((b : ℕ) (s : List ℕ) → class b ≡ true → R (b ∷ s) ≡ b ∷ R s) → (xs ys : List ℕ) → all class xs ≡ true → R (xs ++ ys) ≡ xs ++ R ys
 unfolding all
-left R f [] ys h = refl
-left {class} R f (x ∷ xs) ys h = let b = both (class x) (all class xs) h in f x (xs ++ ys) (b .0) ∙ ap (λ (l : List ℕ). x ∷ l) (left R f xs ys (b .1))
+all-left R f [] ys h = refl
+all-left {class} R f (x ∷ xs) ys h = let b = both (class x) (all class xs) h in f x (xs ++ ys) (b .0) ∙ ap (λ (l : List ℕ). x ∷ l) (all-left R f xs ys (b .1))
 
 pub run-left : {class : ℕ → Bool} {text : List ℕ} {at r : ℕ} (R : List ℕ → List ℕ) → ((b : ℕ) (s : List ℕ) → class b ≡ true → R (b ∷ s) ≡ b ∷ R s) → ClassRun class text at r
     → R (drop at text) ≡ take (r - at) (drop at text) ++ R (drop r text)
-run-left {text = text} {at} {r} R f w = ap R (part-rest text at r (w .above)) ∙ left R f (take (r - at) (drop at text)) (drop r text) (w .inside)
+run-left {text = text} {at} {r} R f w = ap R (part-rest text at r (w .above)) ∙ all-left R f (take (r - at) (drop at text)) (drop r text) (w .inside)
 
 module _ {class : ℕ → Bool} {text : List ℕ} {at r : ℕ} where
   -- behind the end stands 0

@@ -8,7 +8,7 @@ use mathlib.Core.Option.{Option, none, some}
 use native.Mathlib.Omega.{arith}
 use lib.Dec.{eqb, leb}
 use lib.ListN.{length, length-append, length-map}
-use Rattle.octets.specs.Basics.{octets, _and_}
+use Rattle.octets.specs.Basics.{octets}
 use Rattle.octets.specs.Pieces.{split}
 use Rattle.octets.specs.Optional.{given, guard}
 use Rattle.octets.specs.Decimal.{figures, decimal}

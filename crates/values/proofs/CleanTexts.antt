@@ -9,7 +9,7 @@ use borrow.Author.Tests.{eqb-true}
 use lib.Dec.{eqb}
 use lib.ListN.{length, getD, take}
 use lib.Seq.{take-all}
-use Rattle.octets.specs.Basics.{_and_, all, All}
+use Rattle.octets.specs.Basics.{all, All}
 use Rattle.octets.specs.Pieces.{split, joined}
 use Rattle.octets.specs.Optional.{isSome, when}
 use Rattle.octets.specs.Classes.{between, isDigit, isUpper, isLower, isLetter}

@@ -1,5 +1,5 @@
 -- `calendar::durations::is_unit` meets its contract.
-use mathlib.Core.Logic.{_⊎_, inl, inr, ⊎-elim}
+use mathlib.Core.Logic.{inl, inr, ⊎-elim}
 use borrow.Author.Tests.{ne-eqb}
 use Rattle.calendar.specs.Durations.{isUnit}
 use Rattle.calendar.proofs.durations.is_unit.Statement.{statement}
