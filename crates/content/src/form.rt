@@ -61,7 +61,7 @@ fn tail_formed(s: &[u8], at: usize) -> bool
 }
 
 // Test 4 of one line.
-pub fn is_formed(line: &[u8]) -> bool
+fn is_formed(line: &[u8]) -> bool
     ensures { λ r. ⌜ r ≡ formed (now (line .entry)) ⌝ }
 {
     let n = run_end(line, 0, Class::Name);
@@ -75,7 +75,7 @@ pub fn is_formed(line: &[u8]) -> bool
 }
 
 // Test 4 of every line in a buffer.
-pub fn all_formed(buf: &[u8]) -> bool
+pub(crate) fn all_formed(buf: &[u8]) -> bool
     ensures { λ r. ⌜ r ≡ all formed (cutLines (now (buf .entry))) ⌝ }
 {
     let mut i = 0;

@@ -20,11 +20,7 @@ mod reading;
 mod scan;
 mod twice;
 
-pub use form::all_formed;
-pub use form::is_formed;
-pub use lines::all_clean;
 pub use lines::line_end;
-pub use lines::unfold;
 pub use object::put_params;
 pub use params::ValueType;
 pub use params::is_encoded;

@@ -61,7 +61,7 @@ fn begun_after(begun: bool, i: usize, k: usize) -> bool
 }
 
 // Lays the lines of a text into the buffer, unfolded, each ended by LF alone; answers where they end.
-pub fn unfold(text: &[u8], out: &mut [u8]) -> usize
+pub(crate) fn unfold(text: &[u8], out: &mut [u8]) -> usize
     ensures { λ r. ⌜ Wrote (pen (now (out .entry)) 0) (laidOut (linesOf (now (text .entry)))) (pen (now (out .exit)) r) ⌝ }
 {
     let mut i = 0;
@@ -92,7 +92,7 @@ pub fn unfold(text: &[u8], out: &mut [u8]) -> usize
 }
 
 // Test 3 of every line in a buffer: UTF-8 without control characters but tab.
-pub fn all_clean(buf: &[u8]) -> bool
+pub(crate) fn all_clean(buf: &[u8]) -> bool
     ensures { λ r. ⌜ r ≡ all clean (cutLines (now (buf .entry))) ⌝ }
 {
     if !is_utf8(buf) {

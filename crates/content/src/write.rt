@@ -1,8 +1,13 @@
 // Pieces of a content line through the folding pen: the head of a parameter, and its values.
 ghost use mathlib.Core.Path.{_≡_};
+ghost use mathlib.Core.Bool.{not};
 ghost use mathlib.Core.List.{_++_};
+ghost use Prim.Native.Nat.{_+_};
+ghost use lib.ListN.{length, drop};
 ghost use Rattle.octets.specs.Basics.{octets, any};
 ghost use Rattle.octets.specs.Classes.{upper};
+ghost use Rattle.octets.specs.Groups.{caretFree};
+ghost use Rattle.octets.specs.Search.{until};
 ghost use Rattle.content.specs.Carets.{encodedOctet, encoded};
 ghost use Rattle.content.specs.Write.{asksQuotes, paramValueText};
 ghost use Rattle.content.specs.Folding.{folding, Folded};
@@ -40,6 +45,13 @@ fn is_quoted(v: &[u8]) -> bool
     false
 }
 
+// The end of the octets from `at` on that no caret encodes. It stands by itself so that the search is compiled for this class alone.
+fn plain_end(v: &[u8], at: usize) -> usize
+    ensures { λ r. ⌜ r ≡ at + length (until (λ c. not (caretFree c)) (drop at (now (v .entry)))) ⌝ }
+{
+    run_end(&*v, at, Class::CaretFree)
+}
+
 // Writes an octet, a caret encoding it where it must.
 fn fold_encoded_octet(out: &mut [u8], p: Folder, c: u8) -> Folder
     ensures { λ r. ⌜ Folded (folding (now (out .entry)) p) (encodedOctet c) (folding (now (out .exit)) r) ⌝ }
@@ -59,7 +71,7 @@ fn fold_encoded(out: &mut [u8], p: Folder, v: &[u8]) -> Folder
     let mut q = p;
     let mut i = 0;
     loop {
-        let end = run_end(&*v, i, Class::CaretFree);
+        let end = plain_end(&*v, i);
         q = fold_all(out, q, &v[i..end]);
         if end >= v.len() {
             return q;
@@ -87,7 +99,7 @@ pub fn write_param_value(out: &mut [u8], p: Folder, v: &[u8]) -> Folder
         let b = fold_encoded(out, a, &*v);
         return fold_octet(out, b, b'"');
     }
-    if run_end(&*v, 0, Class::CaretFree) == v.len() {
+    if plain_end(&*v, 0) == v.len() {
         return fold_all(out, p, &*v);
     }
     fold_encoded(out, p, &*v)

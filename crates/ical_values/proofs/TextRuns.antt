@@ -10,10 +10,10 @@ use lib.Dec.{eqb}
 use lib.ListN.{length, getD, take, drop}
 use Rattle.octets.specs.Basics.{all}
 use Rattle.octets.specs.Classes.{isControl, plainOctet, textOctet}
-use Rattle.octets.specs.Groups.{textAsIs}
+use Rattle.octets.specs.Groups.{textBare}
 use Rattle.octets.specs.Search.{ClassRun}
 use Rattle.octets.proofs.Cases.{both, apart, or-false-right}
-use Rattle.octets.proofs.Classes.{plain-text, as-is-plain}
+use Rattle.octets.proofs.Classes.{plain-text, bare-plain}
 use Rattle.octets.proofs.Positions.{here, ended, part-rest}
 use Rattle.octets.proofs.Runs.{run-passes}
 use Rattle.values.specs.Texts.{escapedOctet, textIs, textText}
@@ -34,20 +34,20 @@ unfolding textOctet
 text-plain c n = rw (ne-eqb c (code "\n") n) (or-false-right (plainOctet c))
 
 -- an octet of a run
-run-octet : (c : ℕ) → textAsIs c ≡ true → (textOctet c ≡ true) × (escapedOctet c ≡ c ∷ [])
-unfolding textAsIs escapedOctet
+run-octet : (c : ℕ) → textBare c ≡ true → (textOctet c ≡ true) × (escapedOctet c ≡ c ∷ [])
+unfolding textBare escapedOctet
 run-octet c h =
-    let no : (k : ℕ) → textAsIs k ≡ false → eqb c k ≡ false = λ k n. apart textAsIs c k h n in
-    (plain-text c (as-is-plain c h), rw (no (code "\\") refl, no (code ";") refl, no (code ",") refl, no (code "\n") refl))
+    let no : (k : ℕ) → textBare k ≡ false → eqb c k ≡ false = λ k n. apart textBare c k h n in
+    (plain-text c (bare-plain c h), rw (no (code "\\") refl, no (code ";") refl, no (code ",") refl, no (code "\n") refl))
 
 -- octets of a run, with a text behind them
-run-on : (xs ys : List ℕ) → all textAsIs xs ≡ true → textText (xs ++ ys) ≡ xs ++ textText ys
+run-on : (xs ys : List ℕ) → all textBare xs ≡ true → textText (xs ++ ys) ≡ xs ++ textText ys
 unfolding textText all
 run-on [] ys h = refl
-run-on (x ∷ xs) ys h = let a = both (textAsIs x) _ h in rw (run-octet x (a .0) .1, run-on xs ys (a .1))
+run-on (x ∷ xs) ys h = let a = both (textBare x) _ h in rw (run-octet x (a .0) .1, run-on xs ys (a .1))
 
 -- a run, and the text behind it
-module _ {s : List ℕ} {i r : ℕ} (w : ClassRun textAsIs s i r) where
+module _ {s : List ℕ} {i r : ℕ} (w : ClassRun textBare s i r) where
   pub run-is : textIs (drop i s) ≡ textIs (drop r s)
   unfolding textIs all
   run-is = run-passes textIs (λ c t h. rw (run-octet c h .0)) w

@@ -44,7 +44,7 @@ pub(crate) fn write_text(out: &mut [u8], p: Folder, s: &[u8]) -> Folds
     let mut q = p;
     let mut i = 0;
     loop {
-        let end = long_run_end(s, i, Class::TextAsIs);
+        let end = long_run_end(s, i, Class::TextBare);
         q = fold_all(out, q, &s[i..end]);
         if end == s.len() {
             return Folds::To(q);

@@ -6,5 +6,3 @@ mod nesting;
 mod testing;
 
 pub use conversion::to_jcal;
-pub use nesting::Structure;
-pub use nesting::test_structure;

@@ -25,7 +25,7 @@ enum Nesting {
 }
 
 // BEGIN and END pair, and the lines are in order or not; or they are refused.
-pub enum Structure {
+pub(crate) enum Structure {
     Paired(bool),
     Failed(Refusal),
 }
@@ -154,7 +154,7 @@ fn at_end(nesting: Nesting, in_order: bool) -> Structure
 }
 
 // Tests 5 and 6, at the first line in fault, and whether the lines are in order.
-pub fn test_structure(buf: &[u8]) -> Structure
+pub(crate) fn test_structure(buf: &[u8]) -> Structure
     ensures { λ r. ⌜ pairing r ≡ verdict (nestAfter fresh (eventsIn (now (buf .entry)))) (ordered (eventsIn (now (buf .entry)))) ⌝ }
 {
     let mut names = [0usize; MOST_LEVELS];

@@ -11,7 +11,7 @@ use lib.Dec.{eqb, ltb}
 use lib.ListN.{length, take, drop, getD}
 use Rattle.octets.specs.Basics.{octets, all}
 use Rattle.octets.specs.Classes.{plainOctet}
-use Rattle.octets.specs.Groups.{textAsIs}
+use Rattle.octets.specs.Groups.{textBare, textAsIs}
 use Rattle.octets.specs.Optional.{map?}
 use Rattle.octets.specs.Pen.{Pen, pen, Wrote}
 use Rattle.octets.specs.Pieces.{onto}
@@ -31,7 +31,7 @@ use Rattle.jcal_texts.proofs.Reading.{Going, going-start, going-on}
 
 -- an octet of a run is none that is written otherwise
 run-escaped : (c : ℕ) → textAsIs c ≡ true → escaped c ≡ c ∷ []
-unfolding textAsIs escaped
+unfolding textAsIs textBare escaped
 run-escaped c h =
     let no : (k : ℕ) → textAsIs k ≡ false → eqb c k ≡ false = λ k n. apart textAsIs c k h n in
     rw (no (code "\"") refl, no (code "\\") refl, no (code "\n") refl, no (code "\t") refl)
@@ -130,7 +130,7 @@ module _ (sep other : ℕ) where
   module _ (k : textAsIs sep ≡ false) (l : textAsIs other ≡ false) where
     run-adds : (c : ℕ) → textAsIs c ≡ true → act sep other false c ≡ add c
     unfolding act textAsIs
-    run-adds c h = rw (apart textAsIs c (code "\\") h refl, apart textAsIs c sep h k, apart textAsIs c other h l, as-is-plain c h)
+    run-adds c h = rw (apart textAsIs c (code "\\") h (unfold textAsIs textBare in refl), apart textAsIs c sep h k, apart textAsIs c other h l, as-is-plain c h)
 
     run-read : (xs ys : List ℕ) → all textAsIs xs ≡ true → textsFrom sep other false (xs ++ ys) ≡ map? (prefixed xs) (textsFrom sep other false ys)
     unfolding all

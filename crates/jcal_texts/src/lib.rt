@@ -2,13 +2,14 @@
 ghost use mathlib.Core.Path.{_≡_};
 ghost use mathlib.Core.Bool.{false};
 ghost use mathlib.Core.List.{map};
-ghost use Prim.Native.Nat.{_<_};
+ghost use Prim.Native.Nat.{_≤_, _<_};
 ghost use lib.ListN.{length};
 ghost use Rattle.octets.specs.Basics.{_or_, single};
 ghost use Rattle.octets.specs.Classes.{upper};
 ghost use Rattle.octets.specs.Groups.{textAsIs};
 ghost use Rattle.octets.specs.Optional.{map?, guard};
 ghost use Rattle.octets.specs.Pen.{pen, Wrote};
+ghost use Rattle.octets.specs.Search.{ClassRun};
 ghost use Rattle.values.specs.TextWalk.{textsFrom, texts};
 ghost use Rattle.json.specs.Tree.{str};
 ghost use Rattle.json.specs.Print.{printString, print, valuesJson};
@@ -40,6 +41,14 @@ enum Step {
     Octet(u8, usize),
     Separator,
     Invalid,
+}
+
+// The end of the run at `at`. It stands by itself so that the search is compiled for this class alone.
+fn past_run(s: &[u8], at: usize) -> usize
+    requires { ⌜ at ≤ length (now s) ⌝ }
+    ensures { λ r. ⌜ ClassRun textAsIs (now (s .entry)) at r ⌝ }
+{
+    long_run_end(&*s, at, Class::TextAsIs)
 }
 
 // The octet that c stands for behind a backslash; 0 where it may not stand there.
@@ -90,7 +99,7 @@ fn put_between(out: &mut [u8], at: usize, s: &[u8], sep: u8, other: u8) -> Texts
     let mut n = 1;
     let mut i = 0;
     loop {
-        let e = long_run_end(&*s, i, Class::TextAsIs);
+        let e = past_run(&*s, i);
         let q = put_all(out, p, &s[i..e]);
         if e == s.len() {
             return Texts::Written(put(out, q, b'"'), n);
@@ -157,7 +166,7 @@ pub fn put_tested_plain(out: &mut [u8], at: usize, s: &[u8]) -> Attempt
     let mut p = put(out, at, b'"');
     let mut i = 0;
     loop {
-        let e = long_run_end(&*s, i, Class::TextAsIs);
+        let e = past_run(&*s, i);
         let q = put_all(out, p, &s[i..e]);
         if e == s.len() {
             return Attempt::Written(put(out, q, b'"'));

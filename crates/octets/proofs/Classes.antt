@@ -2,7 +2,7 @@
 use Prim.Native.Nat.{ℕ, suc, _+_, _-_, _≤_, _<_}
 use Prim.Native.Char.{code}
 use mathlib.Core.Path.{_≡_, refl, sym, ap, _∙_}
-use mathlib.Core.Bool.{Bool, true, false}
+use mathlib.Core.Bool.{Bool, true, false, not}
 use mathlib.Core.List.{List, [], _∷_, map, map-id}
 use native.Mathlib.Omega.{arith}
 use borrow.Author.Tests.{le-leb, lt-leb, leb-true, eq-eqb, ne-eqb, eqb-true, eqb-false}
@@ -10,7 +10,7 @@ use lib.Dec.{eqb, leb}
 use lib.ListN.{length, getD, drop}
 use Rattle.octets.specs.Basics.{_and_, _or_, all, filled, same}
 use Rattle.octets.specs.Classes.{between, isDigit, isUpper, isLower, isLetter, nameOctet, isName, lowerNameOctet, isLowerName, isControl, plainOctet, textOctet, upperOctet, lowerOctet, upper, lower, sameName}
-use Rattle.octets.specs.Groups.{cased, textAsIs}
+use Rattle.octets.specs.Groups.{cased, textBare, textAsIs}
 use Rattle.octets.specs.declared.names.Case.the-variants.{Exact}
 use Rattle.octets.proofs.Cases.{cases, same?, never, both, either, apart, or-first, and-true, and-assoc, and-true-right, and-false-right, all-weaker}
 use Rattle.octets.proofs.Positions.{here, ended}
@@ -145,12 +145,16 @@ pub text-plain : (c : ℕ) → textOctet c ≡ true → eqb c (code "\n") ≡ fa
 unfolding textOctet
 text-plain c h n = either (plainOctet c) (eqb c (code "\n")) h (λ e. e) (λ e. never e n)
 
--- an octet that text and JSON string have alike is plain
-pub as-is-plain : (c : ℕ) → textAsIs c ≡ true → plainOctet c ≡ true
-unfolding textAsIs plainOctet isControl
-as-is-plain c h =
+-- an octet that a text has as it is is plain
+pub bare-plain : (c : ℕ) → textBare c ≡ true → plainOctet c ≡ true
+unfolding textBare plainOctet isControl
+bare-plain c h =
     let l : leb c 31 ≡ false = lt-leb c 31 (omega (arith, leb-true 32 c (both (leb 32 c) _ h .0))) in
-    rw (l, apart textAsIs c 127 h refl)
+    rw (l, apart textBare c 127 h refl)
+
+pub as-is-plain : (c : ℕ) → textAsIs c ≡ true → plainOctet c ≡ true
+unfolding textAsIs
+as-is-plain c h = bare-plain c (both (not (eqb c (code "\""))) (textBare c) h .1)
 
 -- case
 pub upperOctet-twice : (c : ℕ) → upperOctet (upperOctet c) ≡ upperOctet c

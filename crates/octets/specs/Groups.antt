@@ -6,7 +6,7 @@ use lib.Dec.{eqb, leb}
 use Rattle.octets.specs.Basics.{_and_, _or_}
 use Rattle.octets.specs.Classes.{isDigit, nameOctet, lowerNameOctet, plainOctet, textOctet, isSpace, upperOctet, lowerOctet}
 use Rattle.octets.specs.declared.names.Class.{Class}
-use Rattle.octets.specs.declared.names.Class.the-variants.{Digit, Name, LowerName, Plain, Text, Space, Unescaped, AsIs, TextAsIs, Safe, CaretFree, ParamAsIs}
+use Rattle.octets.specs.declared.names.Class.the-variants.{Digit, Name, LowerName, Plain, Text, Space, Unescaped, AsIs, TextBare, TextAsIs, Safe, CaretFree, ParamAsIs}
 use Rattle.octets.specs.declared.names.Case.{Case}
 use Rattle.octets.specs.declared.names.Case.the-variants.{Upper, Lower, Exact}
 
@@ -18,9 +18,13 @@ jsonUnescaped c = leb 32 c and not (eqb c (code "\"")) and not (eqb c (code "\\"
 unfoldable pub asIsOctet : ℕ → Bool
 asIsOctet c = not (eqb c (code "\"") or eqb c (code "\\") or eqb c (code "\n") or eqb c (code "\t"))
 
--- 01, Values: an octet that text and JSON string have alike, as it is
+-- RFC 5545 3.3.11: an octet that a text has as it is, but for tab
+unfoldable pub textBare : ℕ → Bool
+textBare c = leb 32 c and not (eqb c (code ",")) and not (eqb c (code ";")) and not (eqb c (code "\\")) and not (eqb c 127)
+
+-- an octet that text and JSON string have alike, as it is
 unfoldable pub textAsIs : ℕ → Bool
-textAsIs c = leb 32 c and not (eqb c (code "\"")) and not (eqb c (code ",")) and not (eqb c (code ";")) and not (eqb c (code "\\")) and not (eqb c 127)
+textAsIs c = not (eqb c (code "\"")) and textBare c
 
 -- RFC 5545 3.1, SAFE-CHAR, where no control character stands: an octet of a parameter value without quotes
 unfoldable pub safeOctet : ℕ → Bool
@@ -43,6 +47,7 @@ belongs Text c = textOctet c
 belongs Space c = isSpace c
 belongs Unescaped c = jsonUnescaped c
 belongs AsIs c = asIsOctet c
+belongs TextBare c = textBare c
 belongs TextAsIs c = textAsIs c
 belongs Safe c = safeOctet c
 belongs CaretFree c = caretFree c

@@ -6,7 +6,7 @@ ghost use lib.ListN.{length, take, drop, getD};
 ghost use Rattle.octets.specs.Basics.{_and_, all, same};
 ghost use Rattle.octets.specs.Classes.{between, isDigit, isUpper, isLower, nameOctet, isName, lowerNameOctet, isLowerName, plainOctet, textOctet, isSpace, upperOctet, lowerOctet, upper, lower, sameName, hexDigit};
 ghost use Rattle.octets.specs.Decimal.{digits};
-ghost use Rattle.octets.specs.Groups.{belongs, cased, jsonUnescaped, asIsOctet, textAsIs, safeOctet, caretFree, paramAsIs};
+ghost use Rattle.octets.specs.Groups.{belongs, cased, jsonUnescaped, asIsOctet, textBare, textAsIs, safeOctet, caretFree, paramAsIs};
 ghost use Rattle.octets.specs.Pen.{pen, Wrote};
 use crate::writing::put;
 
@@ -20,6 +20,7 @@ pub enum Class {
     Space,
     Unescaped,
     AsIs,
+    TextBare,
     TextAsIs,
     Safe,
     CaretFree,
@@ -51,7 +52,7 @@ pub fn is_lower(c: u8) -> bool
 }
 
 // A letter, a digit or a hyphen.
-pub fn is_name_octet(c: u8) -> bool
+fn is_name_octet(c: u8) -> bool
     ensures { λ r. ⌜ r ≡ nameOctet c ⌝ }
 {
     if is_upper(c) {
@@ -61,7 +62,7 @@ pub fn is_name_octet(c: u8) -> bool
 }
 
 // A lowercase letter, a digit or a hyphen.
-pub fn is_lower_name_octet(c: u8) -> bool
+fn is_lower_name_octet(c: u8) -> bool
     ensures { λ r. ⌜ r ≡ lowerNameOctet c ⌝ }
 {
     if is_lower(c) {
@@ -84,7 +85,7 @@ pub fn is_plain_octet(c: u8) -> bool
 }
 
 // No control character but tab and newline.
-pub fn is_text_octet(c: u8) -> bool
+fn is_text_octet(c: u8) -> bool
     ensures { λ r. ⌜ r ≡ textOctet c ⌝ }
 {
     if is_plain_octet(c) {
@@ -126,17 +127,21 @@ fn is_as_is(c: u8) -> bool
     }
 }
 
-// Is the same in a text and in a JSON string; with no branch.
-fn is_text_as_is(c: u8) -> bool
-    ensures { λ r. ⌜ r ≡ textAsIs c ⌝ }
+// Stands in a text as it is; with no branch.
+fn is_text_bare(c: u8) -> bool
+    ensures { λ r. ⌜ r ≡ textBare c ⌝ }
 {
     both(
         32 <= c,
-        both(
-            c != b'"',
-            both(c != b',', both(c != b';', both(c != b'\\', c != 127))),
-        ),
+        both(c != b',', both(c != b';', both(c != b'\\', c != 127))),
     )
+}
+
+// Is the same in a text and in a JSON string.
+fn is_text_as_is(c: u8) -> bool
+    ensures { λ r. ⌜ r ≡ textAsIs c ⌝ }
+{
+    both(c != b'"', is_text_bare(c))
 }
 
 // May stand in a parameter value without quotes.
@@ -220,6 +225,7 @@ impl Class {
             Class::Space => is_space(c),
             Class::Unescaped => is_unescaped(c),
             Class::AsIs => is_as_is(c),
+            Class::TextBare => is_text_bare(c),
             Class::TextAsIs => is_text_as_is(c),
             Class::Safe => is_safe(c),
             Class::CaretFree => is_caret_free(c),

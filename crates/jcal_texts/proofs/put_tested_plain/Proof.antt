@@ -5,10 +5,7 @@ use mathlib.Core.Path.{_≡_, refl, sym, _∙_}
 use native.Mathlib.Omega.{arith}
 use lib.ListN.{length}
 use borrow.Author.Tests.{not-true, not-false}
-use Rattle.octets.specs.Groups.{textAsIs}
 use Rattle.octets.specs.Pen.{pen}
-use Rattle.octets.specs.Search.{ClassRun}
-use Rattle.octets.proofs.Runs.{run-found}
 use Rattle.jcal_texts.proofs.Plain.{Plainly, plainly-start, plainly-run, plainly-end, plainly-not, plainly-octet}
 use Rattle.jcal_texts.proofs.put_tested_plain.Statement.{statement}
 use Rattle.jcal_texts.proofs.put_tested_plain.Tie as tie
@@ -19,17 +16,13 @@ Inv-loop out₀ at s p₀ i₀ out p i = (i ≤ length s) × (length out ≡ len
 abbrev μ-loop : tie.MeasureT-loop
 μ-loop out₀ at s p₀ i₀ out p i = length s - i
 
--- where the run ends
-run : (c : tie.After-long-run-end Inv-loop μ-loop) → ClassRun textAsIs (c .before .before .before .before .before .before .before .before .args .s .now) (c .before .loop .i) (c .long-run-end .result)
-run c = run-found _ _ _ (c .before .loop .inv .0) (c .long-run-end .ensures)
-
 -- the run is passed and written
-passed : (c : tie.After-slice-known3 Inv-loop μ-loop) → Plainly (c .before .before .before .before .before .before .before .before .before .before .before .before .before .args .s .now) (pen (c .before .before .before .before .before .before .before .before .before .put .last .0) (c .before .before .before .before .before .before .before .before .before .put .result)) (pen (c .before .before .put-all .last .0) (c .before .before .put-all .result)) (c .before .before .before .before .before .long-run-end .result)
-passed c = plainly-run _ (c .before .before .before .before .before .before .loop .inv .2) (run (c .before .before .before .before .before)) (c .before .before .put-all .ensures)
+passed : (c : tie.After-slice-known3 Inv-loop μ-loop) → Plainly (c .before .before .before .before .before .before .before .before .before .before .before .before .before .args .s .now) (pen (c .before .before .before .before .before .before .before .before .before .put .last .0) (c .before .before .before .before .before .before .before .before .before .put .result)) (pen (c .before .before .put-all .last .0) (c .before .before .put-all .result)) (c .before .before .before .before .before .past-run .result)
+passed c = plainly-run _ (c .before .before .before .before .before .before .loop .inv .2) (c .before .before .before .before .before .past-run .ensures) (c .before .before .put-all .ensures)
 
 -- an octet stands behind the run
-inside : (c : tie.Else1 Inv-loop μ-loop) → c .before .before .before .before .before .before .long-run-end .result < length (c .before .before .before .before .before .before .before .before .before .before .before .before .before .before .args .s .now)
-inside c = omega (arith, run (c .before .before .before .before .before .before) .below, c .if1 .left)
+inside : (c : tie.Else1 Inv-loop μ-loop) → c .before .before .before .before .before .before .past-run .result < length (c .before .before .before .before .before .before .before .before .before .before .before .before .before .before .args .s .now)
+inside c = omega (arith, c .before .before .before .before .before .before .past-run .ensures .below, c .if1 .left)
 
 returns : tie.Need-returns Inv-loop μ-loop
 returns c = plainly-end _ (passed (c .before .before .before .before .before)) (c .before .before .before .before .before .before .before .before .before .before .before .before .before .before .put .ensures) (omega (arith, c .before .before .before .before .if1 .taken)) (c .before .before .put2 .ensures)
@@ -45,7 +38,6 @@ put-tested-plain-spec =
     tie.close
     (tie.spec
     Inv-loop μ-loop (λ c κs. search needs) (λ c. (omega arith, refl, plainly-start _)) (λ c κs. search needs)
-    (λ c. search needs) (λ c. run (c .before) .above) (λ c. run (c .before) .below) (λ c κs. search needs) (λ c κs. search needs)
-    (λ c. search needs) returns (λ c. inside (c .before)) (λ c κs. search needs) (λ c. search needs) returns-2
-    (λ c κs. search needs) (λ c. omega (arith, inside (c .before .before .before .before .before .before .before)))
-    (λ c. omega (arith, inside (c .before .before .before .before .before .before .before), run (c .before .before .before .before .before .before .before .before .before .before .before .before .before) .above)) loop-again)
+    (λ c. search needs) (λ c. search needs) (λ c. search needs) (λ c κs. search needs) (λ c κs. search needs)
+    (λ c. search needs) returns (λ c. search needs) (λ c κs. search needs) (λ c. search needs) returns-2
+    (λ c κs. search needs) (λ c. search needs) (λ c. search needs) loop-again)

@@ -3,7 +3,7 @@ use borrow.Author.Needs.{needs}
 use Prim.Native.Char.{code}
 use mathlib.Core.Bool.{false}
 use mathlib.Core.Path.{refl}
-use Rattle.octets.specs.Groups.{textAsIs}
+use Rattle.octets.specs.Groups.{textBare, textAsIs}
 use Rattle.octets.specs.Pen.{pen}
 use Rattle.values.specs.TextWalk.{textsFrom}
 use Rattle.jcal_texts.specs.Trying.{WroteTexts}
@@ -22,7 +22,7 @@ pub put-tested-status-spec : {M : Type 1} → statement M
 put-tested-status-spec =
     tie.close
     (tie.spec
-    (λ c. search needs) (λ c κs. search needs) (λ c κs. unfold textAsIs in (refl, refl)) (λ c. search needs)
+    (λ c. search needs) (λ c κs. search needs) (λ c κs. unfold textAsIs textBare in (refl, refl)) (λ c. search needs)
     (λ c. search needs)
     (λ c. status-few _ _ _ _ (counted (c .before)) (c .before .before .before .before .before .before .before .before .before .before .put-all .ensures) (c .if1 .taken))
     (λ c. search needs)

@@ -4,7 +4,7 @@ use Prim.Native.Char.{code}
 use mathlib.Core.Bool.{false}
 use mathlib.Core.Path.{refl}
 use borrow.Author.Tests.{eq-eqb, ne-eqb}
-use Rattle.octets.specs.Groups.{textAsIs}
+use Rattle.octets.specs.Groups.{textBare, textAsIs}
 use Rattle.octets.specs.Pen.{pen}
 use Rattle.octets.proofs.Cases.{or-first, or-second, or-false}
 use Rattle.values.specs.TextWalk.{textsFrom}
@@ -33,6 +33,6 @@ pub put-tested-texts-spec : {M : Type 1} → statement M
 put-tested-texts-spec =
     tie.close
     (tie.spec
-    (λ c. search needs) (λ c κs. search needs) (λ c κs. unfold textAsIs in (refl, refl)) (λ c. search needs)
+    (λ c. search needs) (λ c κs. search needs) (λ c κs. unfold textAsIs textBare in (refl, refl)) (λ c. search needs)
     (λ c. search needs) returns (λ c. search needs) returns-2 (λ c. search needs) (λ c. search needs) returns-3
     (λ c. search needs) returns-4)

@@ -21,8 +21,8 @@ abbrev μ-loop : tie.MeasureT-loop
 μ-loop out₀ v q₀ i₀ out q i = length v - i
 
 -- the octets that no caret encodes
-passed : (c : tie.After-run-end Inv-loop μ-loop) → ClassRun caretFree (c .before .before .before .before .args .v .now) (c .before .loop .i) (c .run-end .result)
-passed c = run-found _ _ _ (c .before .loop .inv .0) (c .run-end .ensures)
+passed : (c : tie.After-plain-end Inv-loop μ-loop) → ClassRun caretFree (c .before .before .before .before .args .v .now) (c .before .loop .i) (c .plain-end .result)
+passed c = run-found _ _ _ (c .before .loop .inv .0) (c .plain-end .ensures)
 
 returns : tie.Need-returns Inv-loop μ-loop
 returns c =
@@ -30,7 +30,7 @@ returns c =
     let found = run .before .before .before in
     let turn = found .before in
     leads-end (leads-on (turn .loop .inv .2) (run .fold-all .ensures) (encoded-run _ (passed found)))
-    (encoded-ended (turn .before .before .before .args .v .now) (found .run-end .result) (omega arith))
+    (encoded-ended (turn .before .before .before .args .v .now) (found .plain-end .result) (omega arith))
 
 loop-again : tie.Need-loop-again Inv-loop μ-loop
 loop-again c =
@@ -38,7 +38,7 @@ loop-again c =
     let found = run .before .before .before in
     let turn = found .before in
     let plain = leads-on (turn .loop .inv .2) (run .fold-all .ensures) (encoded-run _ (passed found)) in
-    let next = encoded-here (turn .before .before .before .args .v .now) (found .run-end .result) (omega arith) in
+    let next = encoded-here (turn .before .before .before .args .v .now) (found .plain-end .result) (omega arith) in
     (omega arith, omega arith, leads-on plain (c .before .before .fold-encoded-octet .ensures) next)
 
 pub fold-encoded-spec : {M : Type 1} → statement M

@@ -23,7 +23,7 @@ returns-2 c =
     let found = c .before .before .before .before .before in
     let test = found .before in
     let v = test .before .before .before .before .args .v .now in
-    let whole = encoded-whole v (run-found v 0 _ (omega arith) (sym (c .before .before .before .before .if2 .taken) ∙ found .run-end .ensures)) in
+    let whole = encoded-whole v (run-found v 0 _ (omega arith) (sym (c .before .before .before .before .if2 .taken) ∙ found .plain-end .ensures)) in
     rw (← (test .before .is-quoted .ensures), test .if1 .left, whole) (c .before .before .fold-all .ensures)
 
 returns-3 : tie.Need-returns-3

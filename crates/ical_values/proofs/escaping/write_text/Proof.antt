@@ -5,7 +5,7 @@ use mathlib.Core.List.{List}
 use native.Mathlib.Omega.{arith}
 use borrow.Author.Needs.{needs}
 use lib.ListN.{length, drop}
-use Rattle.octets.specs.Groups.{textAsIs}
+use Rattle.octets.specs.Groups.{textBare}
 use Rattle.octets.specs.Search.{ClassRun}
 use Rattle.octets.proofs.Pen.{kept, front-behind}
 use Rattle.octets.proofs.Runs.{run-found}
@@ -26,7 +26,7 @@ loop-holds : tie.Need-loop-holds Inv-loop μ-loop
 loop-holds c = (omega arith, (_, none), refl, leads-start)
 
 -- where the run ends
-run : (c : tie.After-long-run-end Inv-loop μ-loop) → ClassRun textAsIs (c .before .before .before .before .args .s .now) (c .before .loop .i) (c .long-run-end .result)
+run : (c : tie.After-long-run-end Inv-loop μ-loop) → ClassRun textBare (c .before .before .before .before .args .s .now) (c .before .loop .i) (c .long-run-end .result)
 run c = run-found _ _ _ (c .before .loop .inv .0) (c .long-run-end .ensures)
 
 returns : tie.Need-returns Inv-loop μ-loop

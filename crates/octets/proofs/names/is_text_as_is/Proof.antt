@@ -7,7 +7,7 @@ use Rattle.octets.proofs.names.is_text_as_is.Tie as tie
 
 returns : tie.Need-returns
 unfolding textAsIs
-returns c = rw (c .both5 .ensures, c .before .both4 .ensures, c .before .before .both3 .ensures, c .before .before .before .both2 .ensures, c .before .before .before .before .both .ensures) refl
+returns c = rw (c .both .ensures, c .before .is-text-bare .ensures) refl
 
 pub is-text-as-is-spec : {M : Type 1} → statement M
-is-text-as-is-spec = tie.close (tie.spec (λ c κs. search needs) (λ c κs. search needs) (λ c κs. search needs) (λ c κs. search needs) (λ c κs. search needs) returns)
+is-text-as-is-spec = tie.close (tie.spec (λ c κs. search needs) (λ c κs. search needs) returns)

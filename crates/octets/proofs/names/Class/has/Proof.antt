@@ -28,21 +28,26 @@ returns-8 : tie.Need-returns-8
 returns-8 c = rw (c .before .enum-told8 .given .1) (c .is-as-is .ensures)
 
 returns-9 : tie.Need-returns-9
-returns-9 c = rw (c .before .enum-told9 .given .1) (c .is-text-as-is .ensures)
+returns-9 c = rw (c .before .enum-told9 .given .1) (c .is-text-bare .ensures)
 
 returns-10 : tie.Need-returns-10
-returns-10 c = rw (c .before .enum-told10 .given .1) (c .is-safe .ensures)
+returns-10 c = rw (c .before .enum-told10 .given .1) (c .is-text-as-is .ensures)
 
 returns-11 : tie.Need-returns-11
-returns-11 c = rw (c .before .enum-told11 .given .1) (c .is-caret-free .ensures)
+returns-11 c = rw (c .before .enum-told11 .given .1) (c .is-safe .ensures)
 
 returns-12 : tie.Need-returns-12
-returns-12 c = rw (c .before .enum-told12 .given .1) (c .is-param-as-is .ensures)
+returns-12 c = rw (c .before .enum-told12 .given .1) (c .is-caret-free .ensures)
+
+returns-13 : tie.Need-returns-13
+returns-13 c = rw (c .before .enum-told13 .given .1) (c .is-param-as-is .ensures)
 
 pub has-spec : {M : Type 1} → statement M
 has-spec =
     tie.close
     (tie.spec
+    (λ c. search needs)
+    (λ c κs. search needs)
     (λ c. search needs)
     (λ c κs. search needs)
     (λ c. search needs)
@@ -78,4 +83,5 @@ has-spec =
     returns-9
     returns-10
     returns-11
-    returns-12)
+    returns-12
+    returns-13)
