@@ -25,7 +25,7 @@ use Rattle.content.specs.Kinds.{valueTypeSaid, TellsType}
 use Rattle.content.specs.declared.parts.ParamParts.{ParamParts}
 use Rattle.content.specs.declared.parts.Span.{Span}
 use Rattle.content.specs.declared.params.ValueType.{ValueType}
-use Rattle.content.specs.declared.params.ValueType.the-variants.{Absent, Named, Faulty}
+use Rattle.content.specs.declared.params.ValueType.the-variants.{Absent, Stated, Faulty}
 use Rattle.content.proofs.Names.{same-lower}
 use Rattle.content.proofs.Scanning.{bare-rest, bare-stop}
 use Rattle.content.proofs.Separators.{oneOf, twice-one, before-is, sep-before, pieces-first}
@@ -117,7 +117,7 @@ module _ (s : List ℕ) (v e : ℕ) where
       tells-unknown u = record { is = sym (token-is ∙ rw (sym (called-is (octets "unknown") _ (unfold lower lowerOctet isUpper between in refl)) ∙ u)); within = tt }
 
       pub tells-named : e ≤ length s → sameName (take (p .end - p .from) (drop (p .from) s)) (octets "unknown") ≡ false
-          → TellsType s (token (map paramValue (pieces (code ",") false (take (e - v) (drop v s))))) (Named (p .from) (p .end))
+          → TellsType s (token (map paramValue (pieces (code ",") false (take (e - v) (drop v s))))) (Stated (p .from) (p .end))
       unfolding valueTypeSaid
       tells-named l u = record {
         is = sym (token-is ∙ rw (sym (called-is (octets "unknown") _ (unfold lower lowerOctet isUpper between in refl)) ∙ u));

@@ -10,9 +10,9 @@ use Rattle.octets.specs.Classes.{lower}
 use Rattle.octets.specs.Groups.{cased}
 use Rattle.octets.specs.Slots.{Blank, nameIn, Enters}
 use Rattle.octets.specs.declared.names.Case.the-variants.{Lower}
-use Rattle.octets.specs.declared.tables.Entry.{Entry}
-use Rattle.octets.specs.declared.tables.Entry.the-variants.{Seen, Placed, Full}
-use Rattle.octets.proofs.Slots.{Noting, noting-start, noting-end, noting-twice, noting-seen, noting-full, noting-placed}
+use Rattle.octets.specs.declared.tables.Entering.{Entering}
+use Rattle.octets.specs.declared.tables.Entering.the-variants.{Seen, Stored, Full}
+use Rattle.octets.proofs.Slots.{Noting, noting-start, noting-end, noting-twice, noting-seen, noting-full, noting-stored}
 use Rattle.content.specs.Line.{nameOf}
 use Rattle.content.specs.Scan.{untilBare}
 use Rattle.content.specs.Parts.{paramsIn, paramAt, CutParam}
@@ -52,7 +52,7 @@ module _ {s table : List ℕ} {a e : ℕ} (w : Walk s table a e) where
     walk-twice t = noting-twice at-name t
 
     -- what became of the name that is entered
-    abbrev Entered : List ℕ → Entry → Type 0
+    abbrev Entered : List ℕ → Entering → Type 0
     Entered new r = Enters (nameIn Lower s) (map (cased Lower) (take (p .name - (e + 1)) (drop (e + 1) s))) table new r
 
     module _ {new : List ℕ} where
@@ -64,6 +64,6 @@ module _ {s table : List ℕ} {a e : ℕ} (w : Walk s table a e) where
       unfolding lower
       walk-full i t = record { stands = param-next s (e + 1) p k; noting = noting-full at-name i t }
 
-      pub walk-placed : Entered new Placed → Walk s new a (p .end)
+      pub walk-stored : Entered new Stored → Walk s new a (p .end)
       unfolding lower
-      walk-placed i = record { stands = param-next s (e + 1) p k; noting = noting-placed at-name i }
+      walk-stored i = record { stands = param-next s (e + 1) p k; noting = noting-stored at-name i }

@@ -7,20 +7,20 @@ use lib.ListN.{length, take, drop}
 use Rattle.octets.specs.Classes.{lower}
 use Rattle.octets.specs.Answers.{Answer, refused, accepted}
 use Rattle.content.specs.declared.params.ValueType.{ValueType}
-use Rattle.content.specs.declared.params.ValueType.the-variants.{Absent, Named, Faulty}
+use Rattle.content.specs.declared.params.ValueType.the-variants.{Absent, Stated, Faulty}
 
 unfoldable pub valueTypeSaid : List ℕ → ValueType → Answer (Option (List ℕ))
 valueTypeSaid s Absent = accepted none
-valueTypeSaid s (Named from end) = accepted (some (lower (take (end - from) (drop from s))))
+valueTypeSaid s (Stated from end) = accepted (some (lower (take (end - from) (drop from s))))
 valueTypeSaid s Faulty = refused 7
 
 -- the bounds lie within n octets
 abbrev pub Bounded : ℕ → ValueType → Type 0
 Bounded n Absent = Unit {0}
-Bounded n (Named from end) = (from ≤ end) × (end ≤ n)
+Bounded n (Stated from end) = (from ≤ end) × (end ≤ n)
 Bounded n Faulty = Unit {0}
 
--- `k` is the answer a. The type's name may stand in s at several places: at which of them the bounds of `Named` lie is the code's choice, and the octets
+-- `k` is the answer a. The type's name may stand in s at several places: at which of them the bounds of `Stated` lie is the code's choice, and the octets
 -- within them are the name.
 pub record TellsType (s : List ℕ) (a : Answer (Option (List ℕ))) (k : ValueType) : Type 0 where
   pub is : valueTypeSaid s k ≡ a

@@ -18,7 +18,7 @@ use octets::same_name;
 // The type that VALUE names, by its bounds in the parameters, if there is a VALUE that names one.
 pub enum ValueType {
     Absent,
-    Named(usize, usize),
+    Stated(usize, usize),
     Faulty,
 }
 
@@ -49,7 +49,7 @@ fn type_at(s: &[u8], from: usize, end: usize) -> ValueType
     if same_name(&s[a..e], b"unknown") {
         return ValueType::Faulty;
     }
-    ValueType::Named(a, e)
+    ValueType::Stated(a, e)
 }
 
 // The type that VALUE names. Of several places that hold its name any may be answered.

@@ -11,7 +11,7 @@ ghost use Rattle.content.specs.Parts.{paramsIn};
 use crate::parts::param_at;
 use crate::scan::next_bare;
 use octets::Case;
-use octets::Entry;
+use octets::Entering;
 use octets::SLOTS;
 use octets::enter;
 use octets::same_name;
@@ -48,11 +48,11 @@ fn twice_by(s: &[u8], from: usize, table: &mut [usize]) -> bool
         let n = p.name;
         let end = p.end;
         match enter(s, i, n, Case::Lower, table) {
-            Entry::Seen => return true,
-            Entry::Placed => {
+            Entering::Seen => return true,
+            Entering::Stored => {
                 e = end;
             }
-            Entry::Full => {
+            Entering::Full => {
                 if has_name(s, end, &s[i..n]) {
                     return true;
                 }

@@ -23,7 +23,7 @@ use Rattle.jcal.specs.Order.{mayStand, endsHere, orderedFrom}
 use Rattle.jcal.specs.Components.{propertyOr, isAccepted, reads, eventTested, eachTested, nextOf, leadingComma, propertiesText}
 use Rattle.jcal.specs.Placing.{ready, ItemStands, PlacesItem, Behind, EndNext, Finds, placeOf, PartPlaced}
 use Rattle.jcal.specs.declared.components.NextItem.{NextItem}
-use Rattle.jcal.specs.declared.components.NextItem.the-variants.{Sub, End, Refused}
+use Rattle.jcal.specs.declared.components.NextItem.the-variants.{Sub, Close, Refused}
 use Rattle.jcal.specs.declared.events.LineKind.{LineKind}
 use Rattle.jcal.specs.declared.events.LineKind.the-variants.{Opens, Closes, Plain, Broken}
 use Rattle.jcal.proofs.OpenComponents.{events-none, events-told}
@@ -41,14 +41,14 @@ item-placed t l first out (Failed why) w z = z .0
 -- what stands next is found from an earlier line on
 pub finds-from : (s : List ℕ) (i j : ℕ) (es fs : List (Event Line)) (r : NextItem) → i ≤ j → es ≡ fs → Finds s j es r → Finds s i fs r
 finds-from s i j es fs (Sub n e at) l v z = record { is = rw v at (z .is); named = z .named; further = omega (arith, z .further) }
-finds-from s i j es fs (End k at) l v z = record { is = rw v at (z .is); further = omega (arith, z .further) }
+finds-from s i j es fs (Close k at) l v z = record { is = rw v at (z .is); further = omega (arith, z .further) }
 finds-from s i j es fs (Refused why) l v z = z
 
 -- a part of a component is written, and what stands next is found
 pub places-found : (f : Line → Answer Property) (s : List ℕ) (i : ℕ) (es fs : List (Event Line)) (p : Pen) (text out : List ℕ) (r : NextItem)
     → Finds s i fs r → Wrote p text (pen out (placeOf r)) → eachTested f es ≡ eachTested f (nextOf fs) → PartPlaced f s i es fs p text out r
 places-found f s i es fs p text out (Sub n e at) z w t = record { finds = z; wrote = w; tested = t }
-places-found f s i es fs p text out (End k at) z w t = record { finds = z; wrote = w; tested = t }
+places-found f s i es fs p text out (Close k at) z w t = record { finds = z; wrote = w; tested = t }
 places-found f s i es fs p text out (Refused why) z w t = absurd z
 
 and-more : {x y : List ℕ} → x ≡ y → x ++ octets ",[" ≡ y ++ octets ",["

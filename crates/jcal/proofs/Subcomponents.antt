@@ -19,7 +19,7 @@ use Rattle.jcal.specs.Order.{mayStand, endsHere, orderedFrom}
 use Rattle.jcal.specs.Components.{reads, eventTested, eachTested, behindEnd, nextOf, levelAt, componentAt, leadingComma, propertiesText, subsText, nameText}
 use Rattle.jcal.specs.Placing.{ready, Finds, placeOf, NextFound, PartWritten, PartPlaced}
 use Rattle.jcal.specs.declared.components.NextItem.{NextItem}
-use Rattle.jcal.specs.declared.components.NextItem.the-variants.{Sub, End, Refused}
+use Rattle.jcal.specs.declared.components.NextItem.the-variants.{Sub, Close, Refused}
 use Rattle.jcal.proofs.Levels.{few-opens, behind-within, subs-ends, subs-begins, component-text}
 use Rattle.jcal.proofs.PropertyTests.{turn-passed}
 use Rattle.jcal.proofs.NextLines.{next-subs, next-text, next-behind, ready-next, ready-behind, next-tested}
@@ -28,13 +28,13 @@ use Rattle.jcal.proofs.Properties.{finds-from, places-found}
 -- no refusal
 abbrev Told : NextItem → Type 0
 Told (Sub n e at) = Unit {0}
-Told (End j at) = Unit {0}
+Told (Close j at) = Unit {0}
 Told (Refused why) = ⊥
 
 wrote-told : (f : Line → Answer Property) (s : List ℕ) (i : ℕ) (es fs : List (Event Line)) (p : Pen) (text out : List ℕ) (r : NextItem) → Told r → PartPlaced f s i es fs p text out r
     → Wrote p text (pen out (placeOf r))
 wrote-told f s i es fs p text out (Sub n e at) k z = z .wrote
-wrote-told f s i es fs p text out (End j at) k z = z .wrote
+wrote-told f s i es fs p text out (Close j at) k z = z .wrote
 wrote-told f s i es fs p text out (Refused why) k z = absurd k
 
 -- what is left of the sub-components from the events ns on, with so many levels left
@@ -49,13 +49,13 @@ pub record Subs (f : Line → Answer Property) (b : Bool) (es : List (Event Line
 -- by what stands next
 abbrev pub Going : (Line → Answer Property) → List ℕ → ℕ → Bool → List (Event Line) → NextItem → List ℕ → ℕ → Bool → List ℕ → NextItem → Type 0
 Going f s from b es r₀ out₀ left first out (Sub n e at) = Named s n e × (from ≤ e) × Subs f b es r₀ out₀ left first (begins (nameFrom s n) ∷ eventsIn (drop (e + 1) s)) (pen out at)
-Going f s from b es r₀ out₀ left first out (End j at) = (from ≤ j) × Subs f b es r₀ out₀ left first (ends [] ∷ eventsIn (drop j s)) (pen out at)
+Going f s from b es r₀ out₀ left first out (Close j at) = (from ≤ j) × Subs f b es r₀ out₀ left first (ends [] ∷ eventsIn (drop j s)) (pen out at)
 Going f s from b es r₀ out₀ left first out (Refused why) = eachTested f es ≡ refused (number why)
 
 -- how much stands behind it: nothing where the walk ends
 abbrev pub behindIt : List ℕ → NextItem → ℕ
 behindIt s (Sub n e at) = suc (length s - e)
-behindIt s (End j at) = 0
+behindIt s (Close j at) = 0
 behindIt s (Refused why) = 0
 
 module _ (f : Line → Answer Property) (s : List ℕ) (from : ℕ) (b : Bool) (es : List (Event Line)) (r₀ : NextItem) (out₀ : List ℕ) (left : ℕ) where
@@ -75,7 +75,7 @@ module _ (f : Line → Answer Property) (s : List ℕ) (from : ℕ) (b : Bool) (
   going-next : (i : ℕ) (fs : List (Event Line)) (first : Bool) (out : List ℕ) (r : NextItem) → from ≤ i → Finds s i fs r → Subs f b es r₀ out₀ left first (nextOf fs) (pen out (placeOf r))
       → Going f s from b es r₀ out₀ left first out r
   going-next i fs first out (Sub n e at) l x g = (x .named, omega (arith, x .further), rw (x .is) g)
-  going-next i fs first out (End j at) l x g = (omega (arith, x .further), rw (x .is) g)
+  going-next i fs first out (Close j at) l x g = (omega (arith, x .further), rw (x .is) g)
   going-next i fs first out (Refused why) l x g = absurd x
 
 -- the first one
@@ -87,7 +87,7 @@ module _ (f : Line → Answer Property) (s : List ℕ) (from : ℕ) (b : Bool) (
 
   pub going-start : (r : NextItem) → PartPlaced f s from es es p text out r → ready f b false es ≡ true → levels (componentAt f n es) ≤ left → Going f s from b es r out left true out r
   going-start (Sub m e at) z h k = start-stands (Sub m e at) tt z h k
-  going-start (End j at) z h k = start-stands (End j at) tt z h k
+  going-start (Close j at) z h k = start-stands (Close j at) tt z h k
   going-start (Refused why) z h k = z
 
 module _ (f : Line → Answer Property) (s : List ℕ) (from : ℕ) (b : Bool) (es : List (Event Line)) (r₀ : NextItem) (out₀ : List ℕ) (left : ℕ) (first : Bool) (out : List ℕ) where
@@ -132,17 +132,17 @@ module _ (f : Line → Answer Property) (s : List ℕ) (from : ℕ) (b : Bool) (
 
     pub sub-less : (m : Pen) (o : List ℕ) (r : NextItem) → PartPlaced f s (e + 1) next (behindEnd 0 next) m (print (jcalOf sub)) o r → behindIt s r < suc (length s - e)
     sub-less m o (Sub k j a) z = omega (arith, z .finds .named .high, z .finds .further)
-    sub-less m o (End j a) z = omega arith
+    sub-less m o (Close j a) z = omega arith
     sub-less m o (Refused why) z = omega arith
 
     pub sub-goes : (m : Pen) (o : List ℕ) (r : NextItem) → Wrote (pen out at) (leadingComma first) m → PartPlaced f s (e + 1) next (behindEnd 0 next) m (print (jcalOf sub)) o r
         → Going f s from b es r₀ out₀ left false o r
     sub-goes m o (Sub k j a) w z = sub-stands m o (Sub k j a) w z
-    sub-goes m o (End j a) w z = sub-stands m o (End j a) w z
+    sub-goes m o (Close j a) w z = sub-stands m o (Close j a) w z
     sub-goes m o (Refused why) w z = sub-tested ∙ z
 
   -- the END of the component
-  pub sub-ends : (j at : ℕ) → Going f s from b es r₀ out₀ left first out (End j at) → (n : List ℕ) (p m : Pen) → Wrote p (nameText n) m → PartPlaced f s from es es m (propertiesText f true es ++ octets ",[") out₀ r₀
+  pub sub-ends : (j at : ℕ) → Going f s from b es r₀ out₀ left first out (Close j at) → (n : List ℕ) (p m : Pen) → Wrote p (nameText n) m → PartPlaced f s from es es m (propertiesText f true es ++ octets ",[") out₀ r₀
       → (o : List ℕ) (a : ℕ) → Wrote (pen out at) (octets "]]") (pen o a) → (r : NextItem) → NextFound s j a r → PartPlaced f s from es (behindEnd 0 es) p (print (jcalOf (componentAt f n es))) o r
   unfolding ready orderedFrom mayStand endsHere all reads eventTested behindEnd
   sub-ends j at g n p m v w o a x r z =

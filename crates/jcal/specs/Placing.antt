@@ -18,7 +18,7 @@ use Rattle.jcal.specs.Events.{eventsIn, nameFrom, Named}
 use Rattle.jcal.specs.Order.{orderedFrom}
 use Rattle.jcal.specs.Components.{propertyOr, isAccepted, reads, eachTested, behindEnd, nextOf, leadingComma}
 use Rattle.jcal.specs.declared.components.NextItem.{NextItem}
-use Rattle.jcal.specs.declared.components.NextItem.the-variants.{Sub, End, Refused}
+use Rattle.jcal.specs.declared.components.NextItem.the-variants.{Sub, Close, Refused}
 
 -- lines that can be written: in order, directly behind an END line or not; or not in order, with no property in fault
 unfoldable pub ready : (Line → Answer Property) → Bool → Bool → List (Event Line) → Bool
@@ -51,13 +51,13 @@ pub record EndNext (s : List ℕ) (i : ℕ) (es : List (Event Line)) (j : ℕ) :
 -- by what is answered of what stands next in es; it is no refusal
 abbrev pub Finds : List ℕ → ℕ → List (Event Line) → NextItem → Type 0
 Finds s i es (Sub n e at) = SubNext s i es n e
-Finds s i es (End j at) = EndNext s i es j
+Finds s i es (Close j at) = EndNext s i es j
 Finds s i es (Refused why) = ⊥
 
 -- the place of the next octet to write
 abbrev pub placeOf : NextItem → ℕ
 placeOf (Sub n e at) = at
-placeOf (End j at) = at
+placeOf (Close j at) = at
 placeOf (Refused why) = 0
 
 -- what stands next from the line at i on, and the place handed on
@@ -79,5 +79,5 @@ pub record PartWritten (f : Line → Answer Property) (s : List ℕ) (i : ℕ) (
 -- by what is answered of a part of a component: it is written, or the first property in fault
 abbrev pub PartPlaced : (Line → Answer Property) → List ℕ → ℕ → List (Event Line) → List (Event Line) → Pen → List ℕ → List ℕ → NextItem → Type 0
 PartPlaced f s i es fs p text out (Sub n e at) = PartWritten f s i es fs p text out (Sub n e at)
-PartPlaced f s i es fs p text out (End j at) = PartWritten f s i es fs p text out (End j at)
+PartPlaced f s i es fs p text out (Close j at) = PartWritten f s i es fs p text out (Close j at)
 PartPlaced f s i es fs p text out (Refused why) = eachTested f es ≡ refused (number why)

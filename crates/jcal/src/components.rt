@@ -36,7 +36,7 @@ use octets::refuse;
 // or the END of the component, by the line behind it. Or why a property is refused.
 pub(crate) enum NextItem {
     Sub(usize, usize, usize),
-    End(usize, usize),
+    Close(usize, usize),
     Refused(Refusal),
 }
 
@@ -93,11 +93,11 @@ fn next_at(buf: &[u8], from: usize, at: usize) -> NextItem
         let e = end_at(buf, i);
         match kind_at(buf, i, e) {
             LineKind::Opens(name) => return NextItem::Sub(name, e, at),
-            LineKind::Closes(_) => return NextItem::End(e + 1, at),
+            LineKind::Closes(_) => return NextItem::Close(e + 1, at),
             LineKind::Plain | LineKind::Broken => i = e + 1,
         }
     }
-    NextItem::End(i, at)
+    NextItem::Close(i, at)
 }
 
 // Writes a component up to its properties.
@@ -125,7 +125,7 @@ fn end_properties(
 {
     let to = put_all(out, at, b"],[");
     if in_order {
-        return NextItem::End(end, to);
+        return NextItem::Close(end, to);
     }
     next_at(buf, from, to)
 }
@@ -197,7 +197,7 @@ fn place_component(
                 next = place_component(&*buf, &*rows, inner, f, in_order, left - 1, out, item);
                 first = false;
             }
-            NextItem::End(i, to) => {
+            NextItem::Close(i, to) => {
                 let end = put_all(out, to, b"]]");
                 return next_at(&*buf, i, end);
             }
@@ -228,7 +228,7 @@ pub(crate) fn place_calendar(lines: &[u8], rows: &[u8], in_order: bool, out: &mu
     let name = outermost_name(lines, e);
     match place_component(lines, rows, name, e, in_order, MOST_LEVELS, out, 0) {
         NextItem::Sub(_, _, at) => finish(out, at),
-        NextItem::End(_, at) => finish(out, at),
+        NextItem::Close(_, at) => finish(out, at),
         NextItem::Refused(why) => refuse(out, why),
     }
 }

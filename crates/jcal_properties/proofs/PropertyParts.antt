@@ -30,7 +30,7 @@ use Rattle.content.specs.Parts.{otherPieces, paramsIn, lineAt, Cut}
 use Rattle.content.specs.Kinds.{valueTypeSaid, Bounded}
 use Rattle.content.specs.declared.parts.Parts.{Parts}
 use Rattle.content.specs.declared.params.ValueType.{ValueType}
-use Rattle.content.specs.declared.params.ValueType.the-variants.{Absent, Named, Faulty}
+use Rattle.content.specs.declared.params.ValueType.the-variants.{Absent, Stated, Faulty}
 use Rattle.content.specs.Parameters.{called, nameTwice, valueType, withoutValue, encodes, isEncoded, membersOf}
 use Rattle.values.specs.Read.{valuesOf}
 use Rattle.values.proofs.Arrays.{items-json}
@@ -120,7 +120,7 @@ module _ (s : List ℕ) (t : Bool) (k : ValueType) (h : t ≡ false) where
   unfolding paramsTested unless then valueTypeSaid
   params-absent q = rw (h, q)
 
-  pub params-named : (a e : ℕ) → k ≡ Named a e → accepted tt ≡ paramsTested t (valueTypeSaid s k)
+  pub params-named : (a e : ℕ) → k ≡ Stated a e → accepted tt ≡ paramsTested t (valueTypeSaid s k)
   unfolding paramsTested unless then valueTypeSaid
   params-named a e q = rw (h, q)
 

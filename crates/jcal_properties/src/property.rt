@@ -62,7 +62,7 @@ fn code_of(found: Lookup, params: &[u8], kind: ValueType) -> u8
 {
     match kind {
         ValueType::Absent => default_code(found),
-        ValueType::Named(from, end) => code_named(&params[from..end]),
+        ValueType::Stated(from, end) => code_named(&params[from..end]),
         ValueType::Faulty => default_code(found),
     }
 }
@@ -97,7 +97,7 @@ fn params_fit(params: &[u8], kind: ValueType) -> bool
     }
     match kind {
         ValueType::Absent => true,
-        ValueType::Named(_, _) => true,
+        ValueType::Stated(_, _) => true,
         ValueType::Faulty => false,
     }
 }
@@ -134,7 +134,7 @@ fn put_type(found: Lookup, params: &[u8], kind: ValueType, out: &mut [u8], at: u
 {
     match kind {
         ValueType::Absent => put_default(found, out, at),
-        ValueType::Named(from, end) => put_name(out, at, &params[from..end]),
+        ValueType::Stated(from, end) => put_name(out, at, &params[from..end]),
         ValueType::Faulty => put_default(found, out, at),
     }
 }

@@ -12,7 +12,7 @@ use Rattle.octets.specs.Basics.{_and_, _or_, any, same, among, twice}
 use Rattle.octets.specs.Groups.{cased}
 use Rattle.octets.specs.Slots.{slotFrom, slotOf, passed, slotIn, stands, inTable, Blank, slotFor, nameIn, Enters}
 use Rattle.octets.specs.declared.names.Case.{Case}
-use Rattle.octets.specs.declared.tables.Entry.the-variants.{Seen, Placed, Full}
+use Rattle.octets.specs.declared.tables.Entering.the-variants.{Seen, Stored, Full}
 use Rattle.octets.proofs.Cases.{cases, same?, never, both, or-first, or-second, or-false, either, neither}
 use Rattle.octets.proofs.Classes.{same-itself, same-is}
 use Rattle.octets.proofs.Positions.{here, ended, from}
@@ -152,8 +152,8 @@ module _ (name : ℕ → List ℕ) (n old : List ℕ) (q : ℕ) (e : q ≡ slotI
   pub enters-seen : ((getD old q 0 ≡ 0) → ⊥) → Enters name n old old Seen
   enters-seen z = rw (sym e) (refl, z)
 
-  pub enters-placed : (p : ℕ) → ((p ≡ 0) → ⊥) → name p ≡ n → q < length old → getD old q 0 ≡ 0 → Enters name n old (set old q p) Placed
-  enters-placed p o k h z = rw (sym e) (p, o, k, h, z, refl)
+  pub enters-stored : (p : ℕ) → ((p ≡ 0) → ⊥) → name p ≡ n → q < length old → getD old q 0 ≡ 0 → Enters name n old (set old q p) Stored
+  enters-stored p o k h z = rw (sym e) (p, o, k, h, z, refl)
 
 -- a name that stands in a table stands there after a free slot is filled
 stands-set : (name : ℕ → List ℕ) (n ps : List ℕ) (m p : ℕ) → getD ps m 0 ≡ 0 → stands name n ps ≡ true → stands name n (set ps m p) ≡ true
@@ -246,8 +246,8 @@ module _ {name : ℕ → List ℕ} {table n : List ℕ} {all left : List (List �
       whole = λ w d. g .whole (slot-absent name n table (slotIn name n table) refl z, w) (joined h d);
     })
 
-    pub noting-placed : Enters name n table new Placed → Noting name new all left
-    noting-placed (p, o, k, h, z, c) =
+    pub noting-stored : Enters name n table new Stored → Noting name new all left
+    noting-stored (p, o, k, h, z, c) =
         let r = slotIn name n table in
         let i : inTable name n (set table r p) ≡ true = slot-filled name n table r refl h p o k in
         rw c (record {

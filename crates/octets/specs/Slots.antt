@@ -9,8 +9,8 @@ use lib.ListN.{length, take, drop, getD, set}
 use Rattle.octets.specs.Basics.{pick, _and_, _or_, same}
 use Rattle.octets.specs.Groups.{cased}
 use Rattle.octets.specs.declared.names.Case.{Case}
-use Rattle.octets.specs.declared.tables.Entry.{Entry}
-use Rattle.octets.specs.declared.tables.Entry.the-variants.{Seen, Placed, Full}
+use Rattle.octets.specs.declared.tables.Entering.{Entering}
+use Rattle.octets.specs.declared.tables.Entering.the-variants.{Seen, Stored, Full}
 
 unfoldable pub slotFrom : ℕ → List ℕ → ℕ
 slotFrom h [] = h
@@ -50,8 +50,8 @@ nameIn case s p = map (cased case) (take (p % 4294967296 - p / 4294967296) (drop
 
 -- n is entered into a table: the slot at which its search ends holds it, and nothing changes; or that slot was free and holds it now; or it is free
 -- or there is none, and nothing changes
-abbrev pub Enters : (ℕ → List ℕ) → List ℕ → List ℕ → List ℕ → Entry → Type 0
+abbrev pub Enters : (ℕ → List ℕ) → List ℕ → List ℕ → List ℕ → Entering → Type 0
 Enters name n old new Seen = (new ≡ old) × ((getD old (slotIn name n old) 0 ≡ 0) → ⊥)
-Enters name n old new Placed =
+Enters name n old new Stored =
     (p : ℕ) × ((p ≡ 0) → ⊥) × (name p ≡ n) × (slotIn name n old < length old) × (getD old (slotIn name n old) 0 ≡ 0) × (new ≡ set old (slotIn name n old) p)
 Enters name n old new Full = (new ≡ old) × (getD old (slotIn name n old) 0 ≡ 0)

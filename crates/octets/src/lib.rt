@@ -42,7 +42,7 @@ pub use searching::long_run_end;
 pub use searching::run_end;
 pub use settling::finish;
 pub use settling::refuse;
-pub use tables::Entry;
+pub use tables::Entering;
 pub use tables::SLOTS;
 pub use tables::enter;
 pub use writing::put;

@@ -16,9 +16,9 @@ pub const SLOTS: usize = 16640;
 const WIDE: usize = 4294967296;
 
 // What became of a name that is entered into a table: it stood there, a free slot holds it now, or no slot can.
-pub enum Entry {
+pub enum Entering {
     Seen,
-    Placed,
+    Stored,
     Full,
 }
 
@@ -81,22 +81,22 @@ fn slot_in(s: &[u8], table: &[usize], name: &[u8], case: Case) -> usize
 }
 
 // Enters the name that stands in s from a place up to another; names compare in one case.
-pub fn enter(s: &[u8], from: usize, end: usize, case: Case, table: &mut [usize]) -> Entry
+pub fn enter(s: &[u8], from: usize, end: usize, case: Case, table: &mut [usize]) -> Entering
     ensures { λ r. ⌜ Enters (nameIn case (now (s .entry))) (map (cased case) (take (end - from) (drop from (now (s .entry))))) (now (table .entry)) (now (table .exit)) r ⌝ }
 {
     let to = at_most(end, s.len());
     let at = at_most(from, to);
     let q = slot_in(&*s, &*table, &s[at..to], case);
     if table.len() <= q {
-        return Entry::Full;
+        return Entering::Full;
     }
     if table[q] != 0 {
-        return Entry::Seen;
+        return Entering::Seen;
     }
     let p = slot_for(at, to);
     if p == 0 {
-        return Entry::Full;
+        return Entering::Full;
     }
     table[q] = p;
-    Entry::Placed
+    Entering::Stored
 }

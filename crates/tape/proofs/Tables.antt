@@ -7,10 +7,10 @@ use Rattle.octets.specs.Basics.{_and_, _or_, any, among, twice}
 use Rattle.octets.specs.Groups.{cased}
 use Rattle.octets.specs.Slots.{Blank, nameIn, Enters}
 use Rattle.octets.specs.declared.names.Case.the-variants.{Exact}
-use Rattle.octets.specs.declared.tables.Entry.{Entry}
-use Rattle.octets.specs.declared.tables.Entry.the-variants.{Seen, Placed, Full}
+use Rattle.octets.specs.declared.tables.Entering.{Entering}
+use Rattle.octets.specs.declared.tables.Entering.the-variants.{Seen, Stored, Full}
 use Rattle.octets.proofs.Classes.{exact}
-use Rattle.octets.proofs.Slots.{Noting, noting-start, noting-end, noting-twice, noting-seen, noting-full, noting-placed}
+use Rattle.octets.proofs.Slots.{Noting, noting-start, noting-end, noting-twice, noting-seen, noting-full, noting-stored}
 use Rattle.json.specs.Tree.{Members, noMembers, member}
 use Rattle.json.specs.Tape.{tagEnd}
 use Rattle.tape.specs.Sound.{hasKey, distinctKeys}
@@ -60,7 +60,7 @@ module _ {t table : List ℕ} {a i : ℕ} (g : Telling t table a i) where
     telling-twice h = repeated (noting-twice at-key (sym (key-among (part t r) (membersAt t e)) ∙ h))
 
     -- what became of the key that is entered
-    abbrev Entered : List ℕ → Entry → Type 0
+    abbrev Entered : List ℕ → Entering → Type 0
     Entered new s = Enters (nameIn Exact t) (map (cased Exact) (part t r)) table new s
 
     module _ {new : List ℕ} where
@@ -70,5 +70,5 @@ module _ {t table : List ℕ} {a i : ℕ} (g : Telling t table a i) where
       pub telling-full : Entered new Full → hasKey (part t r) (membersAt t e) ≡ false → Telling t new a e
       telling-full s h = record { is = noting-full at-key (rw (exact (part t r)) at s) (sym (key-among (part t r) (membersAt t e)) ∙ h) }
 
-      pub telling-placed : Entered new Placed → Telling t new a e
-      telling-placed s = record { is = noting-placed at-key (rw (exact (part t r)) at s) }
+      pub telling-stored : Entered new Stored → Telling t new a e
+      telling-stored s = record { is = noting-stored at-key (rw (exact (part t r)) at s) }

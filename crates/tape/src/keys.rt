@@ -4,7 +4,7 @@ use super::walking::behind;
 use super::walking::tag;
 use super::walking::text_at;
 use octets::Case;
-use octets::Entry;
+use octets::Entering;
 use octets::SLOTS;
 use octets::enter;
 use octets::same;
@@ -53,11 +53,11 @@ fn all_new(t: &[u8], at: usize, table: &mut [usize]) -> bool
         let from = k.from;
         let to = k.to;
         match enter(t, from, to, Case::Exact, table) {
-            Entry::Seen => return false,
-            Entry::Placed => {
+            Entering::Seen => return false,
+            Entering::Stored => {
                 i = e;
             }
-            Entry::Full => {
+            Entering::Full => {
                 if has_key(t, e, &t[from..to]) {
                     return false;
                 }

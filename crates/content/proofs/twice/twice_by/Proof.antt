@@ -4,7 +4,7 @@ use mathlib.Core.Path.{_≡_, refl, sym, _∙_}
 use native.Mathlib.Omega.{arith}
 use borrow.Author.Needs.{needs}
 use lib.ListN.{length}
-use Rattle.content.proofs.Tables.{Walk, walk-start, walk-end, walk-twice, walk-seen, walk-full, walk-placed}
+use Rattle.content.proofs.Tables.{Walk, walk-start, walk-end, walk-twice, walk-seen, walk-full, walk-stored}
 use Rattle.content.proofs.twice.twice_by.Statement.{statement}
 use Rattle.content.proofs.twice.twice_by.Tie as tie
 
@@ -27,7 +27,7 @@ loop-again : tie.Need-loop-again Inv-loop μ-loop
 loop-again c =
     let entered = c .before .before .before .before in
     let param = entered .before .before in
-    (omega arith, walk-placed (param .before .before .loop .inv .1) (param .before .loop-test .taken) (param .param-at .ensures) (rw (c .enum-told2 .given .1) at (entered .enter .ensures)))
+    (omega arith, walk-stored (param .before .before .loop .inv .1) (param .before .loop-test .taken) (param .param-at .ensures) (rw (c .enum-told2 .given .1) at (entered .enter .ensures)))
 
 returns-2 : tie.Need-returns-2 Inv-loop μ-loop
 returns-2 c =

@@ -5,7 +5,7 @@ use borrow.Author.Needs.{needs}
 use Rattle.octets.proofs.Limits.{most-levels}
 use Rattle.types.specs.Laid.{tableIn}
 use Rattle.conversion_theory.specs.Property.{readProperty}
-use Rattle.jcal.specs.declared.components.NextItem.the-variants.{Sub, End}
+use Rattle.jcal.specs.declared.components.NextItem.the-variants.{Sub, Close}
 use Rattle.jcal.proofs.Stages.{some-line, calendar-few, calendar-ready, calendar-refused, calendar-placed}
 use Rattle.jcal.proofs.components.place_calendar.Statement.{statement}
 use Rattle.jcal.proofs.components.place_calendar.Tie as tie
@@ -35,7 +35,7 @@ returns-2 c =
     let at-place-component = at-at2 .before .before .before .before in
     let at-outermost-name = at-place-component .before .before in
     let at-end-at = at-outermost-name .before in
-    at-finish2 .finish2 .ensures ∙ calendar-placed _ _ _ (at-end-at .end-at .ensures) (at-end-at .before .before .before .before .pre .0) _ (at-outermost-name .outermost-name .ensures) _ _ (End _ _) (rw (at-at2 .at2 .given .1) at (at-place-component .place-component .ensures))
+    at-finish2 .finish2 .ensures ∙ calendar-placed _ _ _ (at-end-at .end-at .ensures) (at-end-at .before .before .before .before .pre .0) _ (at-outermost-name .outermost-name .ensures) _ _ (Close _ _) (rw (at-at2 .at2 .given .1) at (at-place-component .place-component .ensures))
 
 returns-3 : tie.Need-returns-3
 returns-3 c =

@@ -7,7 +7,7 @@ use lib.ListN.{take, drop}
 use Rattle.octets.specs.Groups.{cased}
 use Rattle.octets.specs.Slots.{slotFor, slotIn, nameIn}
 use Rattle.octets.proofs.Positions.{past-end}
-use Rattle.octets.proofs.Slots.{cut-to, slot-holds, enters-full, enters-seen, enters-placed}
+use Rattle.octets.proofs.Slots.{cut-to, slot-holds, enters-full, enters-seen, enters-stored}
 use Rattle.octets.proofs.tables.enter.Statement.{statement}
 use Rattle.octets.proofs.tables.enter.Tie as tie
 
@@ -32,7 +32,7 @@ returns-4 c =
     let b = c .before .before .before .before .before in
     let a = b .before .before .before .before .before .before .before .args in
     let z : (slotFor (b .before .before .before .at-most2 .result) (b .before .before .before .before .at-most .result) ≡ 0) → ⊥ = λ y. c .if3 .left (c .before .slot-for .ensures ∙ y) in
-    enters-placed _ _ _ _ (sought b) _ (c .if3 .left) (ap (nameIn (a .case) (a .s .now)) (c .before .slot-for .ensures) ∙ slot-holds (a .case) (a .s .now) _ _ z ∙ ap (map (cased (a .case))) (cut-to _ _ _ _ _ (b .before .before .before .before .at-most .ensures) (b .before .before .before .at-most2 .ensures))) (c .before .before .before .before .if1 .left) (c .before .before .if2 .left)
+    enters-stored _ _ _ _ (sought b) _ (c .if3 .left) (ap (nameIn (a .case) (a .s .now)) (c .before .slot-for .ensures) ∙ slot-holds (a .case) (a .s .now) _ _ z ∙ ap (map (cased (a .case))) (cut-to _ _ _ _ _ (b .before .before .before .before .at-most .ensures) (b .before .before .before .at-most2 .ensures))) (c .before .before .before .before .if1 .left) (c .before .before .if2 .left)
 
 pub enter-spec : {M : Type 1} → statement M
 enter-spec =

@@ -5,7 +5,7 @@ use native.Mathlib.Omega.{arith}
 use borrow.Author.Needs.{needs}
 use lib.ListN.{length}
 use Rattle.tape.proofs.Scans.{Keyed, member-on}
-use Rattle.tape.proofs.Tables.{Telling, telling-start, telling-end, telling-twice, telling-seen, telling-full, telling-placed}
+use Rattle.tape.proofs.Tables.{Telling, telling-start, telling-end, telling-twice, telling-seen, telling-full, telling-stored}
 use Rattle.tape.proofs.keys.all_new.Statement.{statement}
 use Rattle.tape.proofs.keys.all_new.Tie as tie
 
@@ -40,7 +40,7 @@ loop-again : tie.Need-loop-again Inv-loop μ-loop
 loop-again c =
     let entered = c .before .before .before .before in
     let b = entered .before .before in
-    (omega arith, telling-placed (b .before .before .before .before .loop .inv .1) (keyed b) (rw (c .enum-told2 .given .1) at (entered .enter .ensures)))
+    (omega arith, telling-stored (b .before .before .before .before .loop .inv .1) (keyed b) (rw (c .enum-told2 .given .1) at (entered .enter .ensures)))
 
 returns-3 : tie.Need-returns-3 Inv-loop μ-loop
 returns-3 c =
