@@ -88,7 +88,7 @@ fn put_type(out: &mut [u8], at: usize, params: &[u8]) -> usize {
     }
     match content::value_type(params) {
         ValueType::Absent => put(out, at, b'-'),
-        ValueType::Named(from, end) => put_named(out, at, params, from, end),
+        ValueType::Stated(from, end) => put_named(out, at, params, from, end),
         ValueType::Faulty => put(out, at, b'7'),
     }
 }
