@@ -20,10 +20,6 @@ is-reached-spec =
     (λ c. too-far _ _ _ (c .if3 .taken))
     (λ c. search needs)
     (λ c. let p = product-fits (c .before .before .before .args .n - 1) (c .before .before .before .args .hours) (omega arith) (omega arith) in omega (arith, p))
-    (λ c κs. search needs)
-    (λ c. search needs)
-    (λ c. search needs)
-    (λ c. search needs)
-    returns-4
+    (λ c κs. search needs) (λ c. search needs) (λ c. search needs) (λ c. search needs) returns-4
     (λ c. is-past _ _ _ _ (sym (c .enum-told2 .given .1) ∙ c .before .before .moved .ensures) refl)
     (λ c. is-past _ _ _ _ (sym (c .enum-told3 .given .1) ∙ c .before .before .moved .ensures) refl))

@@ -32,8 +32,4 @@ most-of-spec =
     (tie.spec
     (λ c κs. search needs)
     (λ c. no-digits _ (sym (c .before .all-digits .ensures) ∙ not-true _ (c .if1 .taken)))
-    (λ c κs. search needs)
-    returns-2
-    (λ c κs. search needs)
-    returns-3
-    returns-4)
+    (λ c κs. search needs) returns-2 (λ c κs. search needs) returns-3 returns-4)

@@ -17,12 +17,6 @@ pub print-for-spec : {M : Type 1} → statement M
 print-for-spec =
     tie.close
     (tie.spec
-    (λ c κs. search needs)
-    (λ c. search needs)
-    (λ c. search needs)
-    (λ c κs. search needs)
-    (λ c. search needs)
-    returns
+    (λ c κs. search needs) (λ c. search needs) (λ c. search needs) (λ c κs. search needs) (λ c. search needs) returns
     (λ c κs. most-bound _ _ (ap mostSaid (sym (c .before .before .n .given .1)) ∙ c .before .before .before .before .most-of .ensures))
-    (λ c. search needs)
-    returns-2)
+    (λ c. search needs) returns-2)

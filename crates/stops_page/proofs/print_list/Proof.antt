@@ -15,18 +15,9 @@ pub print-list-spec : {M : Type 1} → statement M
 print-list-spec =
     tie.close
     (tie.spec
-    (λ c κs. search needs)
-    (λ c. search needs)
-    (λ c. search needs)
+    (λ c κs. search needs) (λ c. search needs) (λ c. search needs)
     (λ c κs. begins _ _ _ _ (c .before .before .before .before .before .make-plan .ensures))
     (λ c κs. search needs)
     (λ c κs. begins _ _ _ _ (c .before .before .before .before .before .before .before .before .before .before .make-plan .ensures) .sound)
-    (λ c. search needs)
-    (λ c. search needs)
-    (λ c κs. search needs)
-    (λ c. search needs)
-    (λ c κs. search needs)
-    (λ c. search needs)
-    returns
-    (λ c. search needs)
-    returns-2)
+    (λ c. search needs) (λ c. search needs) (λ c κs. search needs) (λ c. search needs) (λ c κs. search needs) (λ c. search needs) returns
+    (λ c. search needs) returns-2)

@@ -32,13 +32,8 @@ pub put-stops-spec : {M : Type 1} → statement M
 put-stops-spec =
     tie.close
     (tie.spec
-    Inv-loop
-    μ-loop
+    Inv-loop μ-loop
     (λ c. (c .before .pre, refl, leads-start))
     (λ c. let f = c .before .before .before .loop .inv .0 .fits (c .before .before .loop-test .taken) in omega arith)
-    (λ c κs. search needs)
-    (λ c κs. search needs)
-    loop-less
-    loop-again
-    (λ c. search needs)
+    (λ c κs. search needs) (λ c κs. search needs) loop-less loop-again (λ c. search needs)
     (λ c. leads-end (c .before .loop .inv .2) (end-shown _ _ (c .loop-test .left))))

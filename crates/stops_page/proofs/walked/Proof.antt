@@ -22,8 +22,7 @@ pub walked-spec : {M : Type 1} → statement M
 walked-spec =
     tie.close
     (tie.spec
-    Inv-loop
-    μ-loop
+    Inv-loop μ-loop
     (λ c. (c .pre, refl))
     (λ c κs. search needs)
     (λ c. let l = on-length _ _ (c .before .before .loop .inv .0) (c .before .loop-test .taken) (c .advance .ensures) in omega arith)

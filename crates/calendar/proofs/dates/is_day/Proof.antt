@@ -32,6 +32,4 @@ is-day-spec =
     (λ c. unfold isDay between in simp (last-year, lt-leb _ _ (c .if1 .taken)))
     (λ c. unfold isDay between in simp (last-year, le-leb _ _ (c .before .if1 .left), lt-leb _ _ (c .if2 .taken)))
     (λ c. unfold isDay between in simp (last-year, le-leb _ _ (c .before .before .if1 .left), le-leb _ _ (c .before .if2 .left), lt-leb _ _ (c .if3 .taken)))
-    returns-4
-    (λ c κs. search needs)
-    returns-5)
+    returns-4 (λ c κs. search needs) returns-5)

@@ -12,6 +12,5 @@ month-days-spec =
     (λ c κs. search needs)
     (λ c. omega (arith, leap-small (c .before .before .args .y), c .leap-day .ensures))
     (λ c. rw (c .leap-day .ensures, c .before .if1 .taken) (february (c .before .before .args .y)))
-    (λ c. search needs)
-    (λ c. search needs)
+    (λ c. search needs) (λ c. search needs)
     (λ c. other-month (c .before .args .y) (c .before .args .m) (c .before .pre .0) (c .before .pre .1) (c .if1 .left)))

@@ -16,5 +16,4 @@ is-forward-spec =
     (tie.spec
     (λ c κs. search needs)
     (λ c. unfold forwardIs in rw (minus-upper (c .before .before .before .args .s .now), ← (c .before .peek .ensures), eq-eqb _ _ (c .if1 .taken)))
-    (λ c κs. search needs)
-    returns-2)
+    (λ c κs. search needs) returns-2)

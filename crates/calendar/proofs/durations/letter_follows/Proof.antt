@@ -15,8 +15,7 @@ pub letter-follows-spec : {M : Type 1} → statement M
 letter-follows-spec =
     tie.close
     (tie.spec
-    (λ c κs. search needs)
-    (λ c κs. search needs)
+    (λ c κs. search needs) (λ c κs. search needs)
     (λ c. unfold letterFollows in rw (c .match .keys1))
     (λ c. unfold letterFollows in rw (c .before .match .keys2) (c .is-one-of .ensures))
     (λ c. unfold letterFollows in rw (c .match .keys3))

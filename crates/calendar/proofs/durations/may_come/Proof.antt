@@ -36,10 +36,4 @@ may-come-spec =
     (tie.spec
     (λ c κs. search needs)
     (λ c. unfold mayCome in rw (sym (c .before .is-digit .ensures) ∙ c .if1 .taken))
-    (λ c κs. search needs)
-    returns-2
-    (λ c κs. search needs)
-    (λ c κs. search needs)
-    returns-3
-    (λ c κs. search needs)
-    returns-4)
+    (λ c κs. search needs) returns-2 (λ c κs. search needs) (λ c κs. search needs) returns-3 (λ c κs. search needs) returns-4)

@@ -13,8 +13,7 @@ pub are-weekday-spec : {M : Type 1} → statement M
 are-weekday-spec =
     tie.close
     (tie.spec
-    (λ c κs. search needs)
-    (λ c κs. search needs)
+    (λ c κs. search needs) (λ c κs. search needs)
     (λ c. rw (c .before .match .keys1) (c .is-either .ensures ∙ sym (behind-s _)))
     (λ c. rw (c .match .keys2) (sym (behind-m _)))
     (λ c. rw (c .before .match .keys3) (c .is-either2 .ensures ∙ sym (behind-t _)))

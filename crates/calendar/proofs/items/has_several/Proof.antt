@@ -9,12 +9,7 @@ pub has-several-spec : {M : Type 1} → statement M
 has-several-spec =
     tie.close
     (tie.spec
-    (λ c. search needs)
-    (λ c. search needs)
-    (λ c. search needs)
-    (λ c. search needs)
-    (λ c. search needs)
-    (λ c. search needs)
+    (λ c. search needs) (λ c. search needs) (λ c. search needs) (λ c. search needs) (λ c. search needs) (λ c. search needs)
     (λ c. unfold partSortSaid several in rw (c .enum-told .given .1))
     (λ c. unfold partSortSaid several in rw (c .enum-told2 .given .1))
     (λ c. unfold partSortSaid several in rw (c .enum-told3 .given .1))

@@ -20,6 +20,4 @@ is-within-spec =
     (tie.spec
     (λ c κs. search needs)
     (λ c. rw (sym (c .before .all-digits .ensures) ∙ not-true (c .before .all-digits .result) (c .if1 .taken)))
-    (λ c κs. search needs)
-    returns-2
-    returns-3)
+    (λ c κs. search needs) returns-2 returns-3)

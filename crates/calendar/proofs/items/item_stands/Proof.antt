@@ -9,18 +9,8 @@ pub item-stands-spec : {M : Type 1} → statement M
 item-stands-spec =
     tie.close
     (tie.spec
-    (λ c. search needs)
-    (λ c κs. search needs)
-    (λ c. search needs)
-    (λ c κs. search needs)
-    (λ c. search needs)
-    (λ c κs. search needs)
-    (λ c. search needs)
-    (λ c κs. search needs)
-    (λ c. search needs)
-    (λ c κs. search needs)
-    (λ c. search needs)
-    (λ c κs. search needs)
+    (λ c. search needs) (λ c κs. search needs) (λ c. search needs) (λ c κs. search needs) (λ c. search needs) (λ c κs. search needs)
+    (λ c. search needs) (λ c κs. search needs) (λ c. search needs) (λ c κs. search needs) (λ c. search needs) (λ c κs. search needs)
     (λ c. unfold partSortSaid itemOf in rw (c .before .enum-told .given .1) (c .is-frequency .ensures))
     (λ c. unfold partSortSaid itemOf in rw (c .before .enum-told2 .given .1) (c .is-until .ensures))
     (λ c. unfold partSortSaid itemOf in rw (c .before .enum-told3 .given .1) (c .is-count .ensures))

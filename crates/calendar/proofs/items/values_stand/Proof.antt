@@ -63,22 +63,7 @@ pub values-stand-spec : {M : Type 1} → statement M
 values-stand-spec =
     tie.close
     (tie.spec
-    Inv-loop
-    μ-loop
-    (λ c κs. search needs)
+    Inv-loop μ-loop (λ c κs. search needs)
     (λ c. (omega arith, refl))
-    (λ c. search needs)
-    (λ c. search needs)
-    (λ c. search needs)
-    (λ c κs. search needs)
-    (λ c. search needs)
-    (λ c. search needs)
-    part-item-stands-end
-    (λ c κs. search needs)
-    returns
-    returns-2
-    returns-3
-    add-at
-    add-at-2
-    loop-less
-    loop-again)
+    (λ c. search needs) (λ c. search needs) (λ c. search needs) (λ c κs. search needs) (λ c. search needs) (λ c. search needs) part-item-stands-end
+    (λ c κs. search needs) returns returns-2 returns-3 add-at add-at-2 loop-less loop-again)

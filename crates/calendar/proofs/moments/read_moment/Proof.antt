@@ -25,8 +25,6 @@ read-moment-spec =
     (tie.spec
     (λ c κs. search needs)
     (λ c. unfold readMoment map? in rw (sym (c .before .before .extended-moment .ensures .text) ∙ says-none _ (c .if1 .taken)))
-    (λ c. search needs)
-    (λ c. search needs)
+    (λ c. search needs) (λ c. search needs)
     (λ c. c .before .before .before .extended-moment .ensures .room)
-    moment-from-requires
-    returns-2)
+    moment-from-requires returns-2)

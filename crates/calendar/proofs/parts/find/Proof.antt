@@ -25,12 +25,7 @@ pub find-spec : {M : Type 1} → statement M
 find-spec =
     tie.close
     (tie.spec
-    Inv-loop
-    μ-loop
+    Inv-loop μ-loop
     (λ c. (omega arith, omega arith))
-    (λ c. search needs)
-    returns
-    (λ c. search needs)
-    (λ c. search needs)
-    loop-again
+    (λ c. search needs) returns (λ c. search needs) (λ c. search needs) loop-again
     (λ c. omega (arith, before-end (c .before .before .args .sep) (c .before .before .args .s .now) (c .before .loop .i) (c .loop-test .left), c .before .loop .inv .1)))

@@ -16,15 +16,10 @@ pub first-part-spec : {M : Type 1} → statement M
 first-part-spec =
     tie.close
     (tie.spec
-    (λ c κs. search needs)
-    (λ c. search needs)
-    (λ c. search needs)
+    (λ c κs. search needs) (λ c. search needs) (λ c. search needs)
     (λ c. omega (arith, c .find .ensures, before-le 59 (c .before .before .args .s .now)))
-    (λ c κs. search needs)
-    (λ c. search needs)
-    (λ c. search needs)
+    (λ c κs. search needs) (λ c. search needs) (λ c. search needs)
     (λ c. omega (arith, c .before .before .before .find .ensures, before-le 59 (c .before .before .before .before .before .args .s .now)))
     (λ c κs. search needs)
     (λ c. omega (arith, c .before .before .before .before .before .find .ensures, before-le 59 (c .before .before .before .before .before .before .before .args .s .now)))
-    returns
-    returns-2)
+    returns returns-2)

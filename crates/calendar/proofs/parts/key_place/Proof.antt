@@ -51,11 +51,6 @@ key-place-spec =
     (λ c κs. search needs)
     (λ c. search needs) (λ c κs. search needs)
     (λ c. search needs) (λ c κs. search needs)
-    returns
-    returns-2
-    returns-3
-    returns-4
+    returns returns-2 returns-3 returns-4
     (λ c. c .long-key-place .ensures ∙ place-by 8 _ (c .before .match .keys5))
-    returns-6
-    returns-7
-    returns-8)
+    returns-6 returns-7 returns-8)

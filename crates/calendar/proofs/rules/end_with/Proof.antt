@@ -8,8 +8,7 @@ pub end-with-spec : {M : Type 1} → statement M
 end-with-spec =
     tie.close
     (tie.spec
-    (λ c κs. search needs)
-    (λ c κs. search needs)
+    (λ c κs. search needs) (λ c κs. search needs)
     (λ c. rw (c .before .match .keys1, c .until-of .ensures))
     (λ c. rw (c .before .match .keys2, c .count-of .ensures))
     (λ c. let k = c .before .before .args .key in rw (ne-eqb k 1 (c .match .rest .0 .1), ne-eqb k 2 (c .match .rest .1))))

@@ -17,6 +17,4 @@ may-follow-spec =
     (λ c. follow-unknown _ _ _ (c .if1 .taken))
     (λ c κs. c .if1 .left)
     (λ c. follow-barred _ _ _ (c .before .before .if1 .left) (sym (c .before .is-barred .ensures) ∙ c .if2 .taken))
-    (λ c κs. search needs)
-    (λ c κs. search needs)
-    returns-3)
+    (λ c κs. search needs) (λ c κs. search needs) returns-3)

@@ -71,26 +71,12 @@ pub read-rule-spec : {M : Type 1} → statement M
 read-rule-spec =
     tie.close
     (tie.spec
-    Inv-loop
-    μ-loop
+    Inv-loop μ-loop
     (λ c. (omega arith, gathered-none (readParts (upper (c .before .args .s .now)))))
-    (λ c. search needs)
-    (λ c. search needs)
-    (λ c. search needs)
-    (λ c κs. search needs)
+    (λ c. search needs) (λ c. search needs) (λ c. search needs) (λ c κs. search needs)
     (λ c. part-begins (c .before .before .before .before .args .s .now) (c .before .before .loop .at) (c .first-part .result) (c .first-part .ensures))
     (λ c. part-begins (c .before .before .before .before .args .s .now) (c .before .before .loop .at) (c .first-part .result) (c .first-part .ensures))
-    part-may-follow-end
-    (λ c κs. search needs)
-    returns
+    part-may-follow-end (λ c κs. search needs) returns
     (λ c. follows _ _ _ (sym (c .before .may-follow .ensures) ∙ not-false (c .before .may-follow .result) (c .if1 .left)) .0)
-    sub-with-value
-    part-with-value-start
-    part-with-value-end
-    (λ c κs. search needs)
-    (λ c κs. search needs)
-    returns-2
-    add-at
-    add-at-2
-    loop-less
+    sub-with-value part-with-value-start part-with-value-end (λ c κs. search needs) (λ c κs. search needs) returns-2 add-at add-at-2 loop-less
     loop-again)

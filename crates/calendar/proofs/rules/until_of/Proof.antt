@@ -12,8 +12,6 @@ pub until-of-spec : {M : Type 1} → statement M
 until-of-spec =
     tie.close
     (tie.spec
-    (λ c κs. search needs)
-    (λ c. search needs)
-    (λ c. search needs)
+    (λ c κs. search needs) (λ c. search needs) (λ c. search needs)
     (λ c. unfold lastOf given in ap (given Open Until) (ap momentSaid (sym (c .before .m .given .1)) ∙ c .before .before .before .read-moment .ensures))
     (λ c. unfold lastOf given in ap (given Open Until) (ap momentSaid (sym (c .enum-told .given .1)) ∙ c .before .before .read-moment .ensures)))

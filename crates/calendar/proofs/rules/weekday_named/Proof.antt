@@ -12,12 +12,7 @@ pub weekday-named-spec : {M : Type 1} → statement M
 weekday-named-spec =
     tie.close
     (tie.spec
-    (λ c κs. search needs)
-    (λ c κs. search needs)
-    (λ c κs. search needs)
-    (λ c κs. search needs)
-    (λ c κs. search needs)
-    (λ c κs. search needs)
+    (λ c κs. search needs) (λ c κs. search needs) (λ c κs. search needs) (λ c κs. search needs) (λ c κs. search needs) (λ c κs. search needs)
     (λ c. rw (c .before .match .keys1, c .weekday-if .ensures) (day-s _))
     (λ c. rw (c .before .match .keys2, c .weekday-if2 .ensures) (day-m _))
     (λ c. rw (c .before .before .match .keys3, c .weekday-if4 .ensures, c .before .weekday-if3 .ensures) (day-t _))

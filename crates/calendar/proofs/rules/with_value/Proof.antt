@@ -16,10 +16,7 @@ pub with-value-spec : {M : Type 1} → statement M
 with-value-spec =
     tie.close
     (tie.spec
-    (λ c κs. search needs)
-    (λ c κs. search needs)
-    (λ c κs. search needs)
-    (λ c κs. search needs)
+    (λ c κs. search needs) (λ c κs. search needs) (λ c κs. search needs) (λ c κs. search needs)
     (λ c. unfold withPart in rw (c .before .match .keys1, c .frequency-of .ensures))
     (λ c. unfold withPart in rw (c .before .match .keys2, c .count-of .ensures))
     (λ c. unfold withPart in rw (c .before .match .keys3, c .weekday-of .ensures))

@@ -9,18 +9,8 @@ pub basic-spec : {M : Type 1} → statement M
 basic-spec =
     tie.close
     (tie.spec
-    (λ c. search needs)
-    (λ c. search needs)
-    (λ c κs. search needs)
-    (λ c. search needs)
-    (λ c. search needs)
-    (λ c κs. search needs)
-    (λ c. search needs)
-    (λ c. search needs)
-    (λ c κs. search needs)
-    (λ c. search needs)
-    (λ c. search needs)
-    (λ c κs. search needs)
+    (λ c. search needs) (λ c. search needs) (λ c κs. search needs) (λ c. search needs) (λ c. search needs) (λ c κs. search needs) (λ c. search needs)
+    (λ c. search needs) (λ c κs. search needs) (λ c. search needs) (λ c. search needs) (λ c κs. search needs)
     (λ c. written-by Date (c .before .before .before .before .before .args .t .now) (c .before .before .enum-told .given .1) (c .strip .ensures))
     (λ c. written-by Time (c .before .before .before .before .before .args .t .now) (c .before .before .enum-told2 .given .1) (c .strip2 .ensures))
     (λ c. written-by DateTime (c .before .before .before .before .before .args .t .now) (c .before .before .enum-told3 .given .1) (c .strip3 .ensures))

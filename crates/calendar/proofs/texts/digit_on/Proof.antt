@@ -23,10 +23,7 @@ digit-on-spec =
     tie.close
     (tie.spec
     (λ c. (no-digit (c .before .args .t .now) (c .before .args .at) (c .before .args .a) (c .if1 .taken), omega arith))
-    (λ c. search needs)
-    (λ c. search needs)
-    returns-2
-    (λ c. search needs)
+    (λ c. search needs) (λ c. search needs) returns-2 (λ c. search needs)
     (λ c. omega (arith, c .before .shared-slice-known .given (c .before .before .before .args .at)))
     (λ c. omega (arith, c .before .shared-slice-known .given (c .before .before .before .args .at)))
     returns-3)

@@ -15,7 +15,5 @@ pub extended-moment-spec : {M : Type 1} → statement M
 extended-moment-spec =
     tie.close
     (tie.spec
-    (λ c κs. search needs)
-    returns
-    (λ c κs. search needs)
+    (λ c κs. search needs) returns (λ c κs. search needs)
     (λ c. unfold momentOf or? in rw (sym (c .before .before .before .extended .ensures .text) ∙ says-none _ (c .before .if1 .left)) (c .extended2 .ensures)))

@@ -15,16 +15,9 @@ pub numbers-in-spec : {M : Type 1} → statement M
 numbers-in-spec =
     tie.close
     (tie.spec
-    (λ c. search needs)
-    (λ c κs. search needs)
-    (λ c. search needs)
-    (λ c κs. search needs)
-    (λ c. search needs)
-    (λ c κs. search needs)
+    (λ c. search needs) (λ c κs. search needs) (λ c. search needs) (λ c κs. search needs) (λ c. search needs) (λ c κs. search needs)
     (λ c. unfold numbersIn momentIn in rw (c .before .before .enum-told3 .given .1, sym (c .before .day-in2 .ensures) ∙ not-true _ (c .if1 .taken)))
-    (λ c κs. search needs)
-    (λ c. search needs)
-    (λ c κs. search needs)
+    (λ c κs. search needs) (λ c. search needs) (λ c κs. search needs)
     (λ c. unfold numbersIn in rw (c .before .enum-told .given .1) (c .day-in .ensures))
     (λ c. unfold numbersIn in rw (c .before .enum-told2 .given .1) (c .clock-in .ensures))
     returns-4

@@ -29,11 +29,4 @@ offset-in-spec =
     (tie.spec
     (λ c κs. search needs)
     (λ c. unfold offsetIn in rw (sym (c .before .clock-in .ensures) ∙ not-true _ (c .if1 .taken)))
-    (λ c κs. search needs)
-    returns-2
-    (λ c κs. search needs)
-    returns-3
-    (λ c κs. search needs)
-    returns-4
-    (λ c κs. search needs)
-    returns-5)
+    (λ c κs. search needs) returns-2 (λ c κs. search needs) returns-3 (λ c κs. search needs) returns-4 (λ c κs. search needs) returns-5)

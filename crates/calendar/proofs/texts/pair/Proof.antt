@@ -18,7 +18,4 @@ pair-spec =
     tie.close
     (tie.spec
     (λ c. unfold numberAt valueOf valueFrom in (rw (ended (c .before .before .args .t .now) (c .before .before .args .at) (c .if1 .taken)), omega arith))
-    (λ c. search needs)
-    (λ c κs. search needs)
-    (λ c κs. search needs)
-    returns-2)
+    (λ c. search needs) (λ c κs. search needs) (λ c κs. search needs) returns-2)

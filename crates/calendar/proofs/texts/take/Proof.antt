@@ -18,9 +18,6 @@ take-spec =
     (tie.spec
     (λ c κs. search needs)
     (λ c. passes _ _ _ _ (c .before .before .shape .ensures) (λ n. absurd (n (c .if1 .taken))))
-    (λ c. search needs)
-    (λ c. search needs)
+    (λ c. search needs) (λ c. search needs)
     (λ c. c .before .before .before .shape .ensures .room)
-    (λ c κs. search needs)
-    returns-2
-    returns-3)
+    (λ c κs. search needs) returns-2 returns-3)

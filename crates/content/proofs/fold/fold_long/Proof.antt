@@ -41,20 +41,8 @@ pub fold-long-spec : {M : Type 1} → statement M
 fold-long-spec =
     tie.close
     (tie.spec
-    Inv-loop
-    μ-loop
+    Inv-loop μ-loop
     (λ c. (omega arith, refl, leads-start))
     (λ c κs. omega (arith, most-columns))
-    (λ c. search needs)
-    (λ c. search needs)
-    (λ c. search needs)
-    fold-run-requires
-    (λ c. search needs)
-    loop-again
-    (λ c. search needs)
-    (λ c κs. search needs)
-    (λ c. search needs)
-    (λ c. search needs)
-    loop-again-2
-    (λ c. search needs)
-    returns)
+    (λ c. search needs) (λ c. search needs) (λ c. search needs) fold-run-requires (λ c. search needs) loop-again (λ c. search needs)
+    (λ c κs. search needs) (λ c. search needs) (λ c. search needs) loop-again-2 (λ c. search needs) returns)

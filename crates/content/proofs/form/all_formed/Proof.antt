@@ -41,16 +41,5 @@ pub all-formed-spec : {M : Type 1} → statement M
 all-formed-spec =
     tie.close
     (tie.spec
-    Inv-loop
-    μ-loop
-    (λ c. refl)
-    (λ c κs. search needs)
-    (λ c. search needs)
-    (λ c. search needs)
-    part-is-formed-end
-    (λ c κs. search needs)
-    returns
-    add-i
-    loop-less
-    loop-again
-    returns-2)
+    Inv-loop μ-loop (λ c. refl) (λ c κs. search needs) (λ c. search needs) (λ c. search needs) part-is-formed-end (λ c κs. search needs) returns add-i
+    loop-less loop-again returns-2)

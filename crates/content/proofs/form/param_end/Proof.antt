@@ -25,10 +25,4 @@ pub param-end-spec : {M : Type 1} → statement M
 param-end-spec =
     tie.close
     (tie.spec
-    (λ c κs. search needs)
-    returns
-    (λ c κs. search needs)
-    returns-2
-    add-value-end
-    value-end-requires
-    returns-3)
+    (λ c κs. search needs) returns (λ c κs. search needs) returns-2 add-value-end value-end-requires returns-3)

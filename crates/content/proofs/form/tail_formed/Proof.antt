@@ -34,18 +34,7 @@ pub tail-formed-spec : {M : Type 1} → statement M
 tail-formed-spec =
     tie.close
     (tie.spec
-    Inv-loop
-    μ-loop
+    Inv-loop μ-loop
     (λ c. (omega arith, refl))
-    (λ c. search needs)
-    returns
-    (λ c. search needs)
-    (λ c κs. search needs)
-    (λ c. search needs)
-    loop-again
-    (λ c. search needs)
-    (λ c κs. search needs)
-    (λ c. search needs)
-    loop-again-2
-    returns-2
-    returns-3)
+    (λ c. search needs) returns (λ c. search needs) (λ c κs. search needs) (λ c. search needs) loop-again (λ c. search needs) (λ c κs. search needs)
+    (λ c. search needs) loop-again-2 returns-2 returns-3)

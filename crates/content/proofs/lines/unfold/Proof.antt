@@ -53,34 +53,9 @@ pub unfold-spec : {M : Type 1} → statement M
 unfold-spec =
     tie.close
     (tie.spec
-    Inv-loop
-    μ-loop
+    Inv-loop μ-loop
     (λ c. (refl, rw (laid-fresh (linesOf (c .before .before .args .text .now))) leads-start))
-    (λ c κs. search needs)
-    (λ c. search needs)
-    part-put-all-start
-    part-put-all-end
-    (λ c κs. search needs)
-    (λ c κs. search needs)
-    (λ c. search needs)
-    returns
-    (λ c κs. search needs)
-    sub-put-all-2
-    part-put-all-start-2
-    part-put-all-end-2
-    (λ c κs. search needs)
-    (λ c. search needs)
-    (λ c κs. search needs)
-    (λ c κs. search needs)
-    (λ c. search needs)
-    (λ c. search needs)
-    loop-again
-    (λ c κs. search needs)
-    (λ c. search needs)
-    (λ c. search needs)
-    loop-again-2
-    (λ c κs. search needs)
-    (λ c. search needs)
-    returns-2
-    (λ c. search needs)
-    returns-3)
+    (λ c κs. search needs) (λ c. search needs) part-put-all-start part-put-all-end (λ c κs. search needs) (λ c κs. search needs) (λ c. search needs)
+    returns (λ c κs. search needs) sub-put-all-2 part-put-all-start-2 part-put-all-end-2 (λ c κs. search needs) (λ c. search needs)
+    (λ c κs. search needs) (λ c κs. search needs) (λ c. search needs) (λ c. search needs) loop-again (λ c κs. search needs) (λ c. search needs)
+    (λ c. search needs) loop-again-2 (λ c κs. search needs) (λ c. search needs) returns-2 (λ c. search needs) returns-3)

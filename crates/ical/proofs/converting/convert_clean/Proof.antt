@@ -23,12 +23,6 @@ pub convert-clean-spec : {M : Type 1} → statement M
 convert-clean-spec =
     tie.close
     (tie.spec
-    convert-long-requires
-    (λ c. search needs)
+    convert-long-requires (λ c. search needs)
     (λ c. c .before .before .convert-long .ensures)
-    convert-middle-requires
-    (λ c. search needs)
-    returns-2
-    convert-short-requires
-    (λ c. search needs)
-    returns-3)
+    convert-middle-requires (λ c. search needs) returns-2 convert-short-requires (λ c. search needs) returns-3)

@@ -17,8 +17,4 @@ pub convert-long-spec : {M : Type 1} → statement M
 convert-long-spec =
     tie.close
     (tie.spec
-    (λ c. search needs)
-    (λ c. search needs)
-    convert-text-requires
-    (λ c. search needs)
-    returns)
+    (λ c. search needs) (λ c. search needs) convert-text-requires (λ c. search needs) returns)

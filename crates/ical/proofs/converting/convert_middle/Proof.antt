@@ -17,8 +17,4 @@ pub convert-middle-spec : {M : Type 1} → statement M
 convert-middle-spec =
     tie.close
     (tie.spec
-    (λ c. search needs)
-    (λ c. search needs)
-    convert-text-requires
-    (λ c. search needs)
-    returns)
+    (λ c. search needs) (λ c. search needs) convert-text-requires (λ c. search needs) returns)

@@ -17,8 +17,4 @@ pub convert-short-spec : {M : Type 1} → statement M
 convert-short-spec =
     tie.close
     (tie.spec
-    (λ c. search needs)
-    (λ c. search needs)
-    convert-text-requires
-    (λ c. search needs)
-    returns)
+    (λ c. search needs) (λ c. search needs) convert-text-requires (λ c. search needs) returns)

@@ -32,14 +32,5 @@ pub convert-sound-spec : {M : Type 1} → statement M
 convert-sound-spec =
     tie.close
     (tie.spec
-    (λ c κs. search needs)
-    returns
-    (λ c κs. search needs)
-    (λ c. search needs)
-    (λ c. search needs)
-    returns-2
-    returns-3
-    convert-component-requires
-    (λ c. search needs)
-    (λ c. search needs)
-    returns-4)
+    (λ c κs. search needs) returns (λ c κs. search needs) (λ c. search needs) (λ c. search needs) returns-2 returns-3 convert-component-requires
+    (λ c. search needs) (λ c. search needs) returns-4)

@@ -22,10 +22,4 @@ pub to-ical-spec : {M : Type 1} → statement M
 to-ical-spec =
     tie.close
     (tie.spec
-    (λ c κs. search needs)
-    (λ c. search needs)
-    returns
-    (λ c. search needs)
-    convert-requires
-    (λ c. search needs)
-    returns-2)
+    (λ c κs. search needs) (λ c. search needs) returns (λ c. search needs) convert-requires (λ c. search needs) returns-2)

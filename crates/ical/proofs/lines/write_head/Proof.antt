@@ -15,9 +15,4 @@ pub write-head-spec : {M : Type 1} → statement M
 write-head-spec =
     tie.close
     (tie.spec
-    (λ c κs. search needs)
-    write-kind-requires
-    (λ c κs. search needs)
-    (λ c κs. search needs)
-    (λ c. search needs)
-    returns)
+    (λ c κs. search needs) write-kind-requires (λ c κs. search needs) (λ c κs. search needs) (λ c. search needs) returns)

@@ -20,11 +20,5 @@ pub write-mark-spec : {M : Type 1} → statement M
 write-mark-spec =
     tie.close
     (tie.spec
-    (λ c κs. search needs)
-    sub-fold-upper
-    part-fold-upper-start
-    part-fold-upper-end
-    (λ c κs. search needs)
-    (λ c κs. search needs)
-    (λ c. search needs)
+    (λ c κs. search needs) sub-fold-upper part-fold-upper-start part-fold-upper-end (λ c κs. search needs) (λ c κs. search needs) (λ c. search needs)
     returns)

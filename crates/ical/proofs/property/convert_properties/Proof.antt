@@ -77,20 +77,5 @@ pub convert-properties-spec : {M : Type 1} → statement M
 convert-properties-spec =
     tie.close
     (tie.spec
-    Inv-loop
-    μ-loop
-    (λ c κs. search needs)
-    loop-holds
-    (λ c κs. search needs)
-    (λ c κs. search needs)
-    same-length
-    same-length-2
-    returns
-    convert-property-requires
-    (λ c. search needs)
-    loop-less
-    loop-again
-    (λ c. search needs)
-    same-length-3
-    same-length-4
-    returns-2)
+    Inv-loop μ-loop (λ c κs. search needs) loop-holds (λ c κs. search needs) (λ c κs. search needs) same-length same-length-2 returns
+    convert-property-requires (λ c. search needs) loop-less loop-again (λ c. search needs) same-length-3 same-length-4 returns-2)

@@ -69,36 +69,8 @@ pub convert-property-spec : {M : Type 1} → statement M
 convert-property-spec =
     tie.close
     (tie.spec
-    (λ c κs. search needs)
-    (λ c κs. search needs)
-    returns
-    (λ c. search needs)
-    part-ruling-of-start
-    part-ruling-of-end
-    (λ c. search needs)
-    part-ruling-of-start-2
-    part-ruling-of-end-2
-    (λ c κs. search needs)
-    (λ c κs. search needs)
-    (λ c κs. search needs)
-    returns-2
-    (λ c. search needs)
-    part-write-head-start
-    part-write-head-end
-    (λ c. search needs)
-    part-write-head-start-2
-    part-write-head-end-2
-    write-head-requires
-    (λ c. search needs)
-    part-write-stood-start
-    part-write-stood-end
-    write-stood-requires
-    (λ c. search needs)
-    (λ c. search needs)
-    (λ c κs. search needs)
-    (λ c. search needs)
-    (λ c. search needs)
-    returns-3
-    (λ c. search needs)
-    (λ c. search needs)
-    returns-4)
+    (λ c κs. search needs) (λ c κs. search needs) returns (λ c. search needs) part-ruling-of-start part-ruling-of-end (λ c. search needs)
+    part-ruling-of-start-2 part-ruling-of-end-2 (λ c κs. search needs) (λ c κs. search needs) (λ c κs. search needs) returns-2 (λ c. search needs)
+    part-write-head-start part-write-head-end (λ c. search needs) part-write-head-start-2 part-write-head-end-2 write-head-requires
+    (λ c. search needs) part-write-stood-start part-write-stood-end write-stood-requires (λ c. search needs) (λ c. search needs)
+    (λ c κs. search needs) (λ c. search needs) (λ c. search needs) returns-3 (λ c. search needs) (λ c. search needs) returns-4)

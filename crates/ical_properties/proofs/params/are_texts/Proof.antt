@@ -36,17 +36,5 @@ pub are-texts-spec : {M : Type 1} → statement M
 are-texts-spec =
     tie.close
     (tie.spec
-    Inv-loop
-    μ-loop
-    (λ c κs. search needs)
-    (λ c. refl)
-    (λ c κs. search needs)
-    returns
-    (λ c κs. search needs)
-    (λ c. search needs)
-    (λ c. search needs)
-    (λ c. search needs)
-    (λ c κs. search needs)
-    returns-2
-    loop-less
-    loop-again)
+    Inv-loop μ-loop (λ c κs. search needs) (λ c. refl) (λ c κs. search needs) returns (λ c κs. search needs) (λ c. search needs) (λ c. search needs)
+    (λ c. search needs) (λ c κs. search needs) returns-2 loop-less loop-again)

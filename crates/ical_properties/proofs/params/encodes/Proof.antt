@@ -15,8 +15,4 @@ pub encodes-spec : {M : Type 1} → statement M
 encodes-spec =
     tie.close
     (tie.spec
-    (λ c. search needs)
-    (λ c κs. search needs)
-    returns
-    (λ c κs. search needs)
-    returns-2)
+    (λ c. search needs) (λ c κs. search needs) returns (λ c κs. search needs) returns-2)

@@ -15,7 +15,4 @@ pub into-array-spec : {M : Type 1} → statement M
 into-array-spec =
     tie.close
     (tie.spec
-    (λ c κs. search needs)
-    (λ c κs. search needs)
-    returns
-    returns-2)
+    (λ c κs. search needs) (λ c κs. search needs) returns returns-2)

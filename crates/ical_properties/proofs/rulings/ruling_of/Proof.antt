@@ -18,8 +18,5 @@ pub ruling-of-spec : {M : Type 1} → statement M
 ruling-of-spec =
     tie.close
     (tie.spec
-    (λ c κs. search needs)
-    (λ c κs. search needs)
-    returns
-    stated-ruling-requires
+    (λ c κs. search needs) (λ c κs. search needs) returns stated-ruling-requires
     (λ c. c .stated-ruling .ensures))

@@ -46,24 +46,6 @@ write-rule-spec =
     tie.close
     (tie.spec
     (λ c. (too-short _ _ _ (c .if1 .taken), front-same))
-    (λ c κs. search needs)
-    returns-2
-    (λ c κs. search needs)
-    (λ c κs. search needs)
-    (λ c. search needs)
-    (λ c. search needs)
-    (λ c. search needs)
-    (λ c. search needs)
-    part-is-rule-end
-    (λ c κs. search needs)
-    (λ c. search needs)
-    returns-3
-    (λ c. search needs)
-    (λ c. search needs)
-    part-fold-rule-end
-    (λ c κs. search needs)
-    (λ c. search needs)
-    returns-4
-    (λ c. search needs)
-    (λ c. search needs)
-    returns-5)
+    (λ c κs. search needs) returns-2 (λ c κs. search needs) (λ c κs. search needs) (λ c. search needs) (λ c. search needs) (λ c. search needs)
+    (λ c. search needs) part-is-rule-end (λ c κs. search needs) (λ c. search needs) returns-3 (λ c. search needs) (λ c. search needs)
+    part-fold-rule-end (λ c κs. search needs) (λ c. search needs) returns-4 (λ c. search needs) (λ c. search needs) returns-5)

@@ -73,20 +73,8 @@ pub lay-items-spec : {M : Type 1} → statement M
 lay-items-spec =
     tie.close
     (tie.spec
-    Inv-loop
-    μ-loop
-    (λ c κs. search needs)
-    returns
-    loop-holds
-    (λ c κs. search needs)
-    (λ c. search needs)
+    Inv-loop μ-loop (λ c κs. search needs) returns loop-holds (λ c κs. search needs) (λ c. search needs)
     (λ c. omega (arith, kept (c .before .before .before .before .before .before .loop .inv .1 .1)))
-    returns-2
-    (λ c. search needs)
-    (λ c κs. search needs)
-    (λ c κs. search needs)
+    returns-2 (λ c. search needs) (λ c κs. search needs) (λ c κs. search needs)
     (λ c. omega (arith, kept (c .before .before .before .before .before .before .before .before .before .before .loop .inv .1 .1)))
-    returns-3
-    (λ c κs. search needs)
-    loop-less
-    loop-again)
+    returns-3 (λ c κs. search needs) loop-less loop-again)

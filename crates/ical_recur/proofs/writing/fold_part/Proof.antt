@@ -21,15 +21,7 @@ pub fold-part-spec : {M : Type 1} → statement M
 fold-part-spec =
     tie.close
     (tie.spec
-    (λ c. search needs)
-    (λ c. search needs)
+    (λ c. search needs) (λ c. search needs)
     (λ c. c .before .before .before .pre .0)
-    (λ c κs. search needs)
-    (λ c κs. search needs)
-    (λ c κs. search needs)
-    sub-fold-values
-    part-fold-values-start
-    part-fold-values-end
-    (λ c κs. search needs)
-    (λ c. search needs)
-    returns)
+    (λ c κs. search needs) (λ c κs. search needs) (λ c κs. search needs) sub-fold-values part-fold-values-start part-fold-values-end
+    (λ c κs. search needs) (λ c. search needs) returns)

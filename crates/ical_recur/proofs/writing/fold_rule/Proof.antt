@@ -55,19 +55,5 @@ pub fold-rule-spec : {M : Type 1} → statement M
 fold-rule-spec =
     tie.close
     (tie.spec
-    Inv-loop
-    μ-loop
-    loop-holds
-    (λ c. search needs)
-    (λ c. search needs)
-    (λ c. search needs)
-    (λ c κs. search needs)
-    fold-part-requires
-    (λ c. search needs)
-    returns
-    fold-part-requires-2
-    (λ c κs. search needs)
-    add-from
-    add-from-2
-    loop-less
-    loop-again)
+    Inv-loop μ-loop loop-holds (λ c. search needs) (λ c. search needs) (λ c. search needs) (λ c κs. search needs) fold-part-requires
+    (λ c. search needs) returns fold-part-requires-2 (λ c κs. search needs) add-from add-from-2 loop-less loop-again)

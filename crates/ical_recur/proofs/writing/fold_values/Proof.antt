@@ -58,21 +58,7 @@ pub fold-values-spec : {M : Type 1} → statement M
 fold-values-spec =
     tie.close
     (tie.spec
-    Inv-loop
-    μ-loop
+    Inv-loop μ-loop
     (λ c. (omega arith, refl, leads-start))
-    (λ c. search needs)
-    (λ c. search needs)
-    (λ c. search needs)
-    (λ c κs. search needs)
-    (λ c. search needs)
-    (λ c. search needs)
-    part-fold-item-end
-    (λ c κs. search needs)
-    (λ c. search needs)
-    returns
-    (λ c κs. search needs)
-    add-from
-    add-from-2
-    loop-less
-    loop-again)
+    (λ c. search needs) (λ c. search needs) (λ c. search needs) (λ c κs. search needs) (λ c. search needs) (λ c. search needs) part-fold-item-end
+    (λ c κs. search needs) (λ c. search needs) returns (λ c κs. search needs) add-from add-from-2 loop-less loop-again)

@@ -54,22 +54,13 @@ pub write-text-spec : {M : Type 1} → statement M
 write-text-spec =
     tie.close
     (tie.spec
-    Inv-loop
-    μ-loop
-    loop-holds
-    (λ c κs. search needs)
-    (λ c. search needs)
+    Inv-loop μ-loop loop-holds (λ c κs. search needs) (λ c. search needs)
     (λ c. run (c .before) .above)
     (λ c. run (c .before) .below)
     (λ c κs. search needs)
     (λ c. omega (arith, kept (c .before .before .before .before .before .before .before .loop .inv .1 .1 .wrote)))
     returns
     (λ c. omega (arith, run (c .before .before .before .before .before .before .before .before) .below))
-    (λ c κs. search needs)
-    (λ c. search needs)
+    (λ c κs. search needs) (λ c. search needs)
     (λ c. omega (arith, run (c .before .before .before .before .before .before .before .before .before .before .before .before .before .before) .below))
-    loop-less
-    loop-again
-    (λ c. search needs)
-    same-length-2
-    returns-2)
+    loop-less loop-again (λ c. search needs) same-length-2 returns-2)

@@ -10,6 +10,4 @@ pub may-be-several-spec : {M : Type 1} → statement M
 may-be-several-spec =
     tie.close
     (tie.spec
-    (λ c κs. search needs)
-    returns
-    (λ c. search needs))
+    (λ c κs. search needs) returns (λ c. search needs))

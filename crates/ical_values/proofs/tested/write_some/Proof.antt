@@ -99,20 +99,5 @@ pub write-some-spec : {M : Type 1} → statement M
 write-some-spec =
     tie.close
     (tie.spec
-    Inv-loop
-    μ-loop
-    loop-holds
-    write-one-requires
-    (λ c. search needs)
-    (λ c. search needs)
-    same-length
-    returns
-    (λ c κs. search needs)
-    (λ c κs. search needs)
-    same-length-2
-    returns-2
-    same-length-3
-    returns-3
-    (λ c κs. search needs)
-    loop-less
-    loop-again)
+    Inv-loop μ-loop loop-holds write-one-requires (λ c. search needs) (λ c. search needs) same-length returns (λ c κs. search needs)
+    (λ c κs. search needs) same-length-2 returns-2 same-length-3 returns-3 (λ c κs. search needs) loop-less loop-again)

@@ -44,15 +44,5 @@ write-values-spec =
     (λ c κs. unfold sortSaid simple in refl)
     (λ c. search needs)
     (λ c κs. unfold sortSaid simple in refl)
-    (λ c κs. search needs)
-    (λ c κs. search needs)
-    write-some-requires
-    (λ c. search needs)
-    returns
-    (λ c κs. search needs)
-    returns-2
-    (λ c. search needs)
-    returns-3
-    (λ c. search needs)
-    returns-4
-    returns-5)
+    (λ c κs. search needs) (λ c κs. search needs) write-some-requires (λ c. search needs) returns (λ c κs. search needs) returns-2 (λ c. search needs)
+    returns-3 (λ c. search needs) returns-4 returns-5)

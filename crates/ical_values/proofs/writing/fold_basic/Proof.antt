@@ -19,10 +19,4 @@ pub fold-basic-spec : {M : Type 1} → statement M
 fold-basic-spec =
     tie.close
     (tie.spec
-    (λ c κs. search needs)
-    (λ c. search needs)
-    (λ c. search needs)
-    part-fold-all-end
-    (λ c κs. search needs)
-    (λ c. search needs)
-    returns)
+    (λ c κs. search needs) (λ c. search needs) (λ c. search needs) part-fold-all-end (λ c κs. search needs) (λ c. search needs) returns)

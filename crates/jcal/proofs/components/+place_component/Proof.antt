@@ -95,24 +95,17 @@ pub +place-component-spec : {M : Type 1} → statement M
 +place-component-spec = close μ-place-component λ t. place-component-lts.spec (claims-place-component t)
     (place-component-at t)
     place-component.Post
-    place-component-Inv-loop
-    place-component-μ-loop
+    place-component-Inv-loop place-component-μ-loop
     (λ c κs. c .before .before .before .before .pre .1 .0)
     (λ c. omega (arith, c .before .before .before .before .before .before .before .pre .1 .0 .high))
     (λ c κs. c .before .before .before .before .before .before .before .before .pre .1 .1 .0)
     (place-component-loop-holds t)
-    (λ c. search needs)
-    (λ c κs. search needs)
+    (λ c. search needs) (λ c κs. search needs)
     (place-component-sub-place-component t)
     (place-component-place-component-requires t)
     (place-component-loop-less t)
     (place-component-loop-again t)
-    (λ c. search needs)
-    (λ c. search needs)
-    (λ c κs. search needs)
-    (λ c κs. search needs)
-    (λ c. search needs)
+    (λ c. search needs) (λ c. search needs) (λ c κs. search needs) (λ c κs. search needs) (λ c. search needs)
     (place-component-returns t)
-    (λ c. search needs)
-    (λ c. search needs)
+    (λ c. search needs) (λ c. search needs)
     (λ c. rw (c .before .next3 .given .1) at (c .before .before .before .loop .inv .1))

@@ -37,11 +37,4 @@ pub past-exponent-spec : {M : Type 1} → statement M
 past-exponent-spec =
     tie.close
     (tie.spec
-    (λ c κs. search needs)
-    add-past-power
-    past-power-requires
-    add-past-power-2
-    past-power-requires-2
-    returns
-    returns-2
-    returns-3)
+    (λ c κs. search needs) add-past-power past-power-requires add-past-power-2 past-power-requires-2 returns returns-2 returns-3)

@@ -33,12 +33,5 @@ pub past-power-spec : {M : Type 1} → statement M
 past-power-spec =
     tie.close
     (tie.spec
-    (λ c κs. search needs)
-    add-past-last-digits
-    past-last-digits-requires
-    add-past-last-digits-2
-    past-last-digits-requires-2
-    (λ c κs. search needs)
-    returns
-    returns-2
-    returns-3)
+    (λ c κs. search needs) add-past-last-digits past-last-digits-requires add-past-last-digits-2 past-last-digits-requires-2 (λ c κs. search needs)
+    returns returns-2 returns-3)

@@ -28,11 +28,4 @@ pub past-unsigned-spec : {M : Type 1} → statement M
 past-unsigned-spec =
     tie.close
     (tie.spec
-    (λ c κs. search needs)
-    add-past-whole
-    past-whole-requires
-    returns
-    (λ c κs. search needs)
-    returns-2
-    (λ c κs. search needs)
-    returns-3)
+    (λ c κs. search needs) add-past-whole past-whole-requires returns (λ c κs. search needs) returns-2 (λ c κs. search needs) returns-3)

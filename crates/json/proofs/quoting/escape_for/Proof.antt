@@ -28,8 +28,4 @@ pub escape-for-spec : {M : Type 1} → statement M
 escape-for-spec =
     tie.close
     (tie.spec
-    returns
-    returns-2
-    returns-3
-    returns-4
-    returns-5)
+    returns returns-2 returns-3 returns-4 returns-5)

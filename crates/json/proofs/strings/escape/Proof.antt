@@ -40,11 +40,4 @@ escape-spec =
     (λ c κs. search needs)
     (λ c. omega (arith, stands c))
     (λ c κs. omega (arith, stands (c .before)))
-    (λ c. search needs)
-    returns
-    (λ c κs. search needs)
-    returns-2
-    add-t11
-    (λ c κs. search needs)
-    (λ c. search needs)
-    returns-3)
+    (λ c. search needs) returns (λ c κs. search needs) returns-2 add-t11 (λ c κs. search needs) (λ c. search needs) returns-3)

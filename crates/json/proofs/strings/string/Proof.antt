@@ -55,26 +55,10 @@ pub string-spec : {M : Type 1} → statement M
 string-spec =
     tie.close
     (tie.spec
-    Inv-loop
-    μ-loop
-    (λ c κs. search needs)
+    Inv-loop μ-loop (λ c κs. search needs)
     (λ c. (omega arith, omega arith, refl, going-start))
-    (λ c κs. search needs)
-    (λ c. search needs)
-    (λ c. search needs)
-    (λ c. search needs)
-    (λ c κs. search needs)
-    (λ c κs. search needs)
-    add-t26
-    (λ c κs. search needs)
-    (λ c. search needs)
-    returns
-    (λ c. search needs)
-    returns-2
-    add-escape
-    escape-requires
-    (λ c. search needs)
-    (λ c. search needs)
-    returns-3
+    (λ c κs. search needs) (λ c. search needs) (λ c. search needs) (λ c. search needs) (λ c κs. search needs) (λ c κs. search needs) add-t26
+    (λ c κs. search needs) (λ c. search needs) returns (λ c. search needs) returns-2 add-escape escape-requires (λ c. search needs)
+    (λ c. search needs) returns-3
     (λ c. omega (arith, escaped c .above, escaped c .below))
     loop-again)

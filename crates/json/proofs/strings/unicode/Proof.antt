@@ -35,8 +35,7 @@ unicode-spec =
     (λ c κs. first c .1)
     (λ c. omega (arith, first (c .before .before)))
     (λ c κs. omega (arith, first (c .before .before .before)))
-    (λ c. search needs)
-    returns-2
+    (λ c. search needs) returns-2
     (λ c. omega (arith, second c))
     (λ c. omega (arith, second (c .before)))
     (λ c. omega (arith, second (c .before)))
@@ -44,5 +43,4 @@ unicode-spec =
     (λ c. omega (arith, second (c .before)))
     (λ c. omega (arith, second (c .before)))
     (λ c κs. omega (arith, second (c .before)))
-    (λ c. search needs)
-    returns-3)
+    (λ c. search needs) returns-3)

@@ -19,9 +19,4 @@ close-spec =
     tie.close
     (tie.spec
     (λ c. not-json (octet-short (now (c .before .before .before .args .text)) _ _ (c .if1 .taken)))
-    (λ c. search needs)
-    returns-2
-    (λ c. search needs)
-    (λ c κs. search needs)
-    (λ c. search needs)
-    returns-3)
+    (λ c. search needs) returns-2 (λ c. search needs) (λ c κs. search needs) (λ c. search needs) returns-3)

@@ -46,18 +46,9 @@ pub key-spec : {M : Type 1} → statement M
 key-spec =
     tie.close
     (tie.spec
-    (λ c κs. search needs)
-    returns
+    (λ c κs. search needs) returns
     (λ c. omega (arith, quote c))
     (λ c κs. omega (arith, quote (c .before)))
-    (λ c. search needs)
-    (λ c. search needs)
-    returns-2
+    (λ c. search needs) (λ c. search needs) returns-2
     (λ c κs. named (c .before) .below)
-    (λ c κs. search needs)
-    (λ c. search needs)
-    returns-3
-    add-past-space
-    past-space-requires-2
-    (λ c. search needs)
-    returns-4)
+    (λ c κs. search needs) (λ c. search needs) returns-3 add-past-space past-space-requires-2 (λ c. search needs) returns-4)

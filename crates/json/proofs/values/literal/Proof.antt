@@ -14,10 +14,5 @@ pub literal-spec : {M : Type 1} → statement M
 literal-spec =
     tie.close
     (tie.spec
-    (λ c κs. search needs)
-    (λ c. search needs)
-    (λ c κs. search needs)
-    (λ c. search needs)
-    (λ c. search needs)
-    returns
+    (λ c κs. search needs) (λ c. search needs) (λ c κs. search needs) (λ c. search needs) (λ c. search needs) returns
     (λ c. not-json (was-missing (c .before .before .past-word .ensures) (c .enum-told .given .1))))

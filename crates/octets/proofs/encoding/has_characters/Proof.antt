@@ -34,15 +34,6 @@ pub has-characters-spec : {M : Type 1} → statement M
 has-characters-spec =
     tie.close
     (tie.spec
-    Inv-loop
-    μ-loop
+    Inv-loop μ-loop
     (λ c. (omega arith, refl))
-    (λ c. search needs)
-    (λ c. search needs)
-    (λ c. search needs)
-    loop-again
-    (λ c κs. search needs)
-    returns
-    loop-less-2
-    loop-again-2
-    returns-2)
+    (λ c. search needs) (λ c. search needs) (λ c. search needs) loop-again (λ c κs. search needs) returns loop-less-2 loop-again-2 returns-2)

@@ -44,15 +44,5 @@ pub hex-digit-spec : {M : Type 1} → statement M
 hex-digit-spec =
     tie.close
     (tie.spec
-    (λ c κs. search needs)
-    sub-result
-    returns
-    (λ c κs. search needs)
-    sub-result-2
-    add-result
-    returns-2
-    (λ c κs. search needs)
-    sub-result-3
-    add-result-2
-    returns-3
-    returns-4)
+    (λ c κs. search needs) sub-result returns (λ c κs. search needs) sub-result-2 add-result returns-2 (λ c κs. search needs) sub-result-3
+    add-result-2 returns-3 returns-4)

@@ -38,16 +38,8 @@ pub same-in-spec : {M : Type 1} → statement M
 same-in-spec =
     tie.close
     (tie.spec
-    Inv-loop
-    μ-loop
+    Inv-loop μ-loop
     (λ c. let a = c .before .before .before .args in sym (cased-length (cased (a .case)) (a .a .now) (a .b .now) (c .if1 .taken)))
     (λ c. (omega arith, omega arith, refl))
-    (λ c. search needs)
-    (λ c κs. search needs)
-    (λ c. search needs)
-    (λ c κs. search needs)
-    returns-2
-    (λ c. search needs)
-    (λ c. search needs)
-    loop-again
+    (λ c. search needs) (λ c κs. search needs) (λ c. search needs) (λ c κs. search needs) returns-2 (λ c. search needs) (λ c. search needs) loop-again
     returns-3)

@@ -25,13 +25,8 @@ pub value-of-spec : {M : Type 1} → statement M
 value-of-spec =
     tie.close
     (tie.spec
-    Inv-loop
-    μ-loop
-    (λ c. search needs)
+    Inv-loop μ-loop (λ c. search needs)
     (λ c. unfold valueOf in (omega arith, omega arith, refl, refl))
     (λ c. search needs)
     (λ c κs. (omega arith, omega arith))
-    (λ c. search needs)
-    (λ c. search needs)
-    loop-again
-    returns)
+    (λ c. search needs) (λ c. search needs) loop-again returns)

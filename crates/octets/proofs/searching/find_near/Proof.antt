@@ -26,14 +26,8 @@ find-near-spec =
     (tie.spec
     (λ c κs. search needs)
     (λ c. c .find-last .ensures)
-    (λ c. search needs)
-    (λ c κs. search needs)
+    (λ c. search needs) (λ c κs. search needs)
     (λ c. c .find-last2 .ensures)
-    (λ c κs. search needs)
-    (λ c. search needs)
-    returns-3
-    in-eight-requires-2
+    (λ c κs. search needs) (λ c. search needs) returns-3 in-eight-requires-2
     (λ c. omega (arith, c .before .before .in-eight .ensures .high))
-    returns-4
-    (λ c κs. search needs)
-    returns-5)
+    returns-4 (λ c κs. search needs) returns-5)

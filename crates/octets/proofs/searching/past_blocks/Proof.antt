@@ -28,18 +28,8 @@ pub past-blocks-spec : {M : Type 1} → statement M
 past-blocks-spec =
     tie.close
     (tie.spec
-    Inv-loop
-    μ-loop
-    (λ c. refl)
-    (λ c. search needs)
+    Inv-loop μ-loop (λ c. refl) (λ c. search needs)
     (λ c. c .before .before .loop .inv)
-    (λ c. search needs)
-    (λ c. search needs)
-    (λ c. search needs)
-    (λ c. search needs)
-    (λ c κs. search needs)
-    (λ c. search needs)
-    (λ c. search needs)
-    loop-again
-    returns-2
+    (λ c. search needs) (λ c. search needs) (λ c. search needs) (λ c. search needs) (λ c κs. search needs) (λ c. search needs) (λ c. search needs)
+    loop-again returns-2
     (λ c. c .before .loop .inv))

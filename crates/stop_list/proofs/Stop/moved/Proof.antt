@@ -9,10 +9,7 @@ pub moved-spec : {M : Type 1} → statement M
 moved-spec =
     tie.close
     (tie.spec
-    (λ c κs. search needs)
-    (λ c. search needs)
-    (λ c. search needs)
-    (λ c. search needs)
+    (λ c κs. search needs) (λ c. search needs) (λ c. search needs) (λ c. search needs)
     (λ c. unfold stopAt stopOn in rw (sym (c .before .before .before .moved .ensures) ∙ c .before .m .given .1))
     (λ c. unfold stopAt stopOn in rw (sym (c .before .before .moved .ensures) ∙ c .enum-told .given .1))
     (λ c. unfold stopAt stopOn in rw (sym (c .before .before .moved .ensures) ∙ c .enum-told2 .given .1)))

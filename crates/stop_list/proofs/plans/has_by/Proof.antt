@@ -31,8 +31,4 @@ has-by-spec =
     (λ c. unfold hasBy in rw (c .before .if1 .left, c .if2 .taken))
     (λ c. unfold hasBy in rw (c .before .before .if1 .left, c .before .if2 .left, c .if3 .taken))
     (λ c. unfold hasBy in rw (c .before .before .before .if1 .left, c .before .before .if2 .left, c .before .if3 .left, c .if4 .taken))
-    returns-5
-    returns-6
-    returns-7
-    returns-8
-    returns-9)
+    returns-5 returns-6 returns-7 returns-8 returns-9)

@@ -8,13 +8,7 @@ pub hours-of-spec : {M : Type 1} → statement M
 hours-of-spec =
     tie.close
     (tie.spec
-    (λ c. search needs)
-    (λ c. search needs)
-    (λ c. search needs)
-    (λ c. search needs)
-    (λ c. search needs)
-    (λ c. search needs)
-    (λ c. search needs)
+    (λ c. search needs) (λ c. search needs) (λ c. search needs) (λ c. search needs) (λ c. search needs) (λ c. search needs) (λ c. search needs)
     (λ c. search needs)
     (λ c. unfold hoursOf in rw (c .enum-told .given .1))
     (λ c. unfold hoursOf in rw (c .enum-told2 .given .1))

@@ -10,9 +10,7 @@ pub is-end-served-spec : {M : Type 1} → statement M
 is-end-served-spec =
     tie.close
     (tie.spec
-    (λ c. search needs)
-    (λ c. search needs)
-    (λ c κs. search needs)
+    (λ c. search needs) (λ c. search needs) (λ c κs. search needs)
     (λ c. unfold endServed in rw (c .before .before .before .end .given .1, sym (c .before .same-kind .ensures) ∙ not-true _ (c .if1 .taken)))
     (λ c. search needs)
     (λ c. unfold endServed in rw (c .enum-told .given .1))

@@ -10,13 +10,7 @@ pub is-frequency-served-spec : {M : Type 1} → statement M
 is-frequency-served-spec =
     tie.close
     (tie.spec
-    (λ c. search needs)
-    (λ c. search needs)
-    (λ c. search needs)
-    (λ c κs. search needs)
-    (λ c. search needs)
-    (λ c. search needs)
-    (λ c. search needs)
+    (λ c. search needs) (λ c. search needs) (λ c. search needs) (λ c κs. search needs) (λ c. search needs) (λ c. search needs) (λ c. search needs)
     (λ c. search needs)
     (λ c. unfold frequencyServed in rw (c .enum-told .given .1))
     (λ c. unfold frequencyServed in rw (c .enum-told2 .given .1))

@@ -20,7 +20,4 @@ is-served-spec =
     (tie.spec
     (λ c κs. search needs)
     (λ c. unfold served in rw (sym (c .before .is-frequency-served .ensures) ∙ not-true _ (c .if1 .taken)))
-    (λ c κs. search needs)
-    returns-2
-    (λ c κs. search needs)
-    returns-3)
+    (λ c κs. search needs) returns-2 (λ c κs. search needs) returns-3)

@@ -11,9 +11,7 @@ one-less-spec =
     (tie.spec
     (λ c. search needs)
     (λ c. unfold oneLess in rw (c .before .before .end .given .1, c .if1 .taken))
-    (λ c. search needs)
-    (λ c. search needs)
-    (λ c. search needs)
+    (λ c. search needs) (λ c. search needs) (λ c. search needs)
     (λ c. rw (c .before .before .end .given .1) (count-less _ (c .if1 .left)))
     (λ c. unfold oneLess in rw (c .before .end2 .given .1))
     (λ c. unfold oneLess in rw (c .enum-told .given .1)))

@@ -34,19 +34,10 @@ pub all-distinct-spec : {M : Type 1} → statement M
 all-distinct-spec =
     tie.close
     (tie.spec
-    Inv-loop
-    μ-loop
-    (λ c κs. search needs)
-    loop-holds
+    Inv-loop μ-loop (λ c κs. search needs) loop-holds
     (λ c. λ e. absurd (false≢true e))
-    (λ c. search needs)
-    (λ c. search needs)
+    (λ c. search needs) (λ c. search needs)
     (λ c. λ e. absurd (false≢true e))
-    (λ c. search needs)
-    (λ c κs. search needs)
+    (λ c. search needs) (λ c κs. search needs)
     (λ c. λ e. absurd (false≢true e))
-    (λ c. search needs)
-    (λ c κs. search needs)
-    loop-less
-    loop-again
-    returns-4)
+    (λ c. search needs) (λ c κs. search needs) loop-less loop-again returns-4)

@@ -32,17 +32,7 @@ pub past-string-spec : {M : Type 1} → statement M
 past-string-spec =
     tie.close
     (tie.spec
-    Inv-loop
-    μ-loop
+    Inv-loop μ-loop
     (λ c. seek-start)
-    (λ c. search needs)
-    (λ c. search needs)
-    (λ c. search needs)
-    loop-again
-    (λ c. search needs)
-    returns
-    returns-2
-    (λ c. search needs)
-    (λ c. search needs)
-    loop-again-2
-    returns-3)
+    (λ c. search needs) (λ c. search needs) (λ c. search needs) loop-again (λ c. search needs) returns returns-2 (λ c. search needs)
+    (λ c. search needs) loop-again-2 returns-3)

@@ -18,16 +18,14 @@ pub find-type-spec : {M : Type 1} → statement M
 find-type-spec =
     tie.close
     (tie.spec
-    (λ c κs. search needs)
-    (λ c κs. search needs)
+    (λ c κs. search needs) (λ c κs. search needs)
     (λ c. search needs) (λ c κs. search needs)
     (λ c κs. search needs)
     (λ c. search needs) (λ c κs. search needs)
     (λ c. search needs) (λ c κs. search needs)
     (λ c. search needs) (λ c κs. search needs)
     (λ c. search needs) (λ c κs. search needs)
-    (λ c κs. search needs)
-    (λ c κs. search needs)
+    (λ c κs. search needs) (λ c κs. search needs)
     (λ c. unfold led types numbered typeNames upper upperOctet isLower between in in-letter 66 types _ (c .before .before .initial .ensures) (c .before .match .keys1) (c .type-b .ensures))
     (λ c. unfold led types numbered typeNames upper upperOctet isLower between in in-letter 67 types _ (c .before .before .before .initial .ensures) (c .before .before .match .keys2) (c .named .ensures))
     (λ c. unfold led types numbered typeNames upper upperOctet isLower between in in-letter 68 types _ (c .before .before .initial .ensures) (c .before .match .keys3) (c .type-d .ensures))

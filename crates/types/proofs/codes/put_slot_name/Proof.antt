@@ -13,15 +13,10 @@ put-slot-name-spec =
     tie.close
     (tie.spec
     (λ c. as-text nothing (sym (nameless _ (c .if1 .taken))))
-    (λ c. search needs)
-    (λ c. search needs)
-    (λ c. search needs)
-    (λ c. search needs)
+    (λ c. search needs) (λ c. search needs) (λ c. search needs) (λ c. search needs)
     (λ c. unfold slots typeNames in omega (arith, slot-length _ (c .if1 .left)))
     (λ c. unfold slots typeNames in omega (arith, slot-length _ (c .if1 .left)))
-    (λ c. search needs)
-    (λ c. search needs)
+    (λ c. search needs) (λ c. search needs)
     (λ c. unfold slots typeNames in omega (arith, slot-length _ (c .before .before .if1 .left)))
-    (λ c κs. search needs)
-    (λ c. search needs)
+    (λ c κs. search needs) (λ c. search needs)
     (λ c. unfold slots typeNames in as-text (c .before .before .put-all .ensures) (slot-name _ (c .before .before .before .before .before .before .if1 .left))))

@@ -34,18 +34,10 @@ lay-frame-spec =
     (tie.spec
     (λ c κs. search needs)
     (λ c. no-row _ _ _ _ (no-frame _ (sym (c .before .is-row .ensures) ∙ not-true _ (c .if1 .taken))))
-    (λ c. search needs)
-    (λ c. search needs)
-    (λ c. search needs)
+    (λ c. search needs) (λ c. search needs) (λ c. search needs)
     (λ c. omega (arith, the-row (c .before .before) .low))
     (λ c. omega (arith, the-row (c .before .before) .low))
-    (λ c. search needs)
-    (λ c κs. search needs)
-    (λ c. search needs)
-    returns-2
+    (λ c. search needs) (λ c κs. search needs) (λ c. search needs) returns-2
     (λ c. omega (arith, the-row (c .before .before .before .before .before .before) .low))
     (λ c. omega (arith, the-row (c .before .before .before .before .before .before) .high))
-    (λ c κs. search needs)
-    (λ c κs. search needs)
-    (λ c. search needs)
-    returns-3)
+    (λ c κs. search needs) (λ c κs. search needs) (λ c. search needs) returns-3)

@@ -69,25 +69,18 @@ pub lay-rows-spec : {M : Type 1} → statement M
 lay-rows-spec =
     tie.close
     (tie.spec
-    Inv-loop
-    μ-loop
+    Inv-loop μ-loop
     (λ c. begun _ _ (c .before .before .pre))
     (λ c κs. search needs)
     (λ c. kept (c .before .before .before .loop .inv .written))
     returns
     (λ c. kept (c .before .before .before .before .loop .inv .written))
-    returns-2
-    (λ c. search needs)
-    (λ c. search needs)
+    returns-2 (λ c. search needs) (λ c. search needs)
     (λ c. omega (arith, a-line (c .before)))
     (λ c κs. in-room (c .before .before .before .before .before .before .loop .inv))
-    (λ c. search needs)
-    (λ c. search needs)
-    same-length-3
-    returns-3
+    (λ c. search needs) (λ c. search needs) same-length-3 returns-3
     (λ c. omega (arith, a-line (c .before .before .before .before .before .before .before .before .before)))
     (λ c. omega (arith, most-rows, c .before .before .before .before .before .before .before .before .before .before .before .before .loop .inv .few))
-    loop-less
-    loop-again
+    loop-less loop-again
     (λ c. kept (c .before .loop .inv .written))
     (λ c. all-read (c .before .loop .inv) (c .loop-test .left)))

@@ -19,12 +19,8 @@ pub line-end-spec : {M : Type 1} → statement M
 line-end-spec =
     tie.close
     (tie.spec
-    Inv-loop
-    μ-loop
-    (λ c. omega arith)
-    (λ c. search needs)
+    Inv-loop μ-loop (λ c. omega arith) (λ c. search needs)
     (λ c. omega (arith, line-stop (c .before .before .before .before .args .hex .now) (c .before .before .before .loop .i) (c .before .before .loop-test .taken) (c .if1 .taken)))
-    (λ c. search needs)
-    (λ c. search needs)
+    (λ c. search needs) (λ c. search needs)
     (λ c. omega (arith, line-on (c .before .before .before .before .args .hex .now) (c .before .before .before .loop .i) (c .before .before .loop-test .taken) (c .if1 .left)))
     (λ c. omega (arith, line-last (c .before .before .args .hex .now) (c .before .loop .i) (c .loop-test .left))))

@@ -25,15 +25,7 @@ read-apart-spec =
     (tie.spec
     (λ c. search needs)
     (λ c κs. omega (arith, room-is))
-    (λ c. search needs)
-    (λ c. search needs)
-    (λ c. search needs)
+    (λ c. search needs) (λ c. search needs) (λ c. search needs)
     (λ c. rows-within _ _ _ (omega (arith, room-is)) _ (sym (ap (λ r. penBehind r (c .before .before .before .before .before .before .lay-rows .last .1 .0)) (c .before .before .before .n .given .1)) ∙ c .before .before .before .before .before .before .lay-rows .ensures))
-    (λ c κs. search needs)
-    (λ c κs. search needs)
-    (λ c. search needs)
-    (λ c κs. search needs)
-    (λ c. search needs)
-    returns
-    (λ c. search needs)
+    (λ c κs. search needs) (λ c κs. search needs) (λ c. search needs) (λ c κs. search needs) (λ c. search needs) returns (λ c. search needs)
     returns-2)

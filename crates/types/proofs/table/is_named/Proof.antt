@@ -26,15 +26,8 @@ pub is-named-spec : {M : Type 1} → statement M
 is-named-spec =
     tie.close
     (tie.spec
-    Inv-loop
-    μ-loop
+    Inv-loop μ-loop
     (λ c. sym (same-length _ _ (λ e. c .if1 .taken (e ∙ upper-length _))))
     (λ c. (omega arith, omega arith, refl))
-    (λ c. search needs)
-    (λ c. search needs)
-    (λ c κs. search needs)
-    (λ c κs. search needs)
-    (λ c. search needs)
-    (λ c. search needs)
-    loop-again
+    (λ c. search needs) (λ c. search needs) (λ c κs. search needs) (λ c κs. search needs) (λ c. search needs) (λ c. search needs) loop-again
     (λ c. sym (named-end _ _ (c .before .loop .i) (c .before .loop .inv .1) (c .before .loop .so-far) (c .loop-test .left)) ∙ c .before .loop .inv .2))

@@ -15,20 +15,9 @@ pub is-float-spec : {M : Type 1} → statement M
 is-float-spec =
     tie.close
     (tie.spec
-    (λ c κs. search needs)
-    (λ c. search needs)
-    (λ c. search needs)
-    (λ c. search needs)
-    (λ c κs. search needs)
-    (λ c. search needs)
-    (λ c. search needs)
+    (λ c κs. search needs) (λ c. search needs) (λ c. search needs) (λ c. search needs) (λ c κs. search needs) (λ c. search needs) (λ c. search needs)
     (λ c. found-le _ _ _ (c .find .ensures))
     (λ c κs. search needs)
     (λ c. sym (float-wrong _ _ _ (from (c .before .before .before .before .before .before .before .args .s .now) (c .before .before .before .before .before .sign-length .result) ∙ sym (c .before .before .before .before .before .sign-length .ensures .1)) (c .before .before .before .find .ensures) (sym (c .before .all-digits .ensures) ∙ not-true _ (c .if1 .taken))))
     (λ c. sym (float-whole _ _ _ (from (c .before .before .before .before .before .before .before .before .args .s .now) (c .before .before .before .before .before .before .sign-length .result) ∙ sym (c .before .before .before .before .before .before .sign-length .ensures .1)) (c .before .before .before .before .find .ensures) (sym (c .before .before .all-digits .ensures) ∙ not-false _ (c .before .if1 .left)) (c .if2 .taken)))
-    (λ c. search needs)
-    (λ c. search needs)
-    (λ c. search needs)
-    (λ c. search needs)
-    (λ c κs. search needs)
-    returns-3)
+    (λ c. search needs) (λ c. search needs) (λ c. search needs) (λ c. search needs) (λ c κs. search needs) returns-3)

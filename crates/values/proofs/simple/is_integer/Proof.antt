@@ -14,13 +14,6 @@ pub is-integer-spec : {M : Type 1} → statement M
 is-integer-spec =
     tie.close
     (tie.spec
-    (λ c κs. search needs)
-    (λ c. search needs)
-    (λ c. search needs)
-    (λ c. search needs)
-    (λ c κs. search needs)
+    (λ c κs. search needs) (λ c. search needs) (λ c. search needs) (λ c. search needs) (λ c κs. search needs)
     (λ c. sym (integer-wrong _ _ (from (c .before .before .before .before .before .args .s .now) (c .before .before .before .sign-length .result) ∙ sym (c .before .before .before .sign-length .ensures .1)) (sym (c .before .all-digits .ensures) ∙ not-true _ (c .if1 .taken))))
-    (λ c κs. search needs)
-    (λ c κs. search needs)
-    (λ c. search needs)
-    returns-2)
+    (λ c κs. search needs) (λ c κs. search needs) (λ c. search needs) returns-2)

@@ -11,9 +11,5 @@ is-pair-spec =
     (tie.spec
     (λ c κs. search needs)
     (λ c. sym (no-pair _ _ _ (c .before .find .ensures) (c .if1 .taken)))
-    (λ c. search needs)
-    (λ c. search needs)
-    (λ c. search needs)
-    (λ c. search needs)
-    (λ c κs. search needs)
+    (λ c. search needs) (λ c. search needs) (λ c. search needs) (λ c. search needs) (λ c κs. search needs)
     (λ c. pair-more _ _ _ (c .before .before .before .find .ensures) (c .before .before .if1 .left) _ (c .find2 .ensures)))

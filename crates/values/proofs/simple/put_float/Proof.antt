@@ -13,22 +13,7 @@ pub put-float-spec : {M : Type 1} → statement M
 put-float-spec =
     tie.close
     (tie.spec
-    (λ c κs. search needs)
-    (λ c. search needs)
-    (λ c. search needs)
-    (λ c. search needs)
-    (λ c κs. search needs)
-    (λ c κs. search needs)
-    (λ c κs. search needs)
-    (λ c. search needs)
-    (λ c. search needs)
-    (λ c. search needs)
-    (λ c κs. search needs)
-    (λ c. search needs)
-    returns
-    (λ c. search needs)
-    (λ c. search needs)
-    (λ c. search needs)
-    (λ c κs. search needs)
-    (λ c. search needs)
+    (λ c κs. search needs) (λ c. search needs) (λ c. search needs) (λ c. search needs) (λ c κs. search needs) (λ c κs. search needs)
+    (λ c κs. search needs) (λ c. search needs) (λ c. search needs) (λ c. search needs) (λ c κs. search needs) (λ c. search needs) returns
+    (λ c. search needs) (λ c. search needs) (λ c. search needs) (λ c κs. search needs) (λ c. search needs)
     (λ c. as-text (c .before .before .put-all2 .ensures) (shown-plus _ _ _ (c .before .before .before .before .before .before .before .before .before .sign-length .ensures .1) (c .before .before .before .before .before .before .before .leading-zeros .ensures .1) (λ e. c .before .before .before .before .before .if1 .left (c .before .before .before .before .before .before .peek .ensures ∙ e)))))

@@ -10,8 +10,6 @@ unpadded-spec =
     tie.close
     (tie.spec
     (λ c. (omega arith, unpadded-none _ (c .if1 .taken)))
-    (λ c. search needs)
-    (λ c. search needs)
-    (λ c. search needs)
+    (λ c. search needs) (λ c. search needs) (λ c. search needs)
     (λ c. (omega arith, unpadded-last _ (c .if2 .taken)))
     (λ c. (omega arith, unpadded-all _ (c .if2 .left))))

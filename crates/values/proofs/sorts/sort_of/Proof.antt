@@ -11,8 +11,7 @@ pub sort-of-spec : {M : Type 1} → statement M
 sort-of-spec =
     tie.close
     (tie.spec
-    (λ c κs. search needs)
-    (λ c κs. search needs)
+    (λ c κs. search needs) (λ c κs. search needs)
     (λ c. unfold sortSaid sortOf in rw (c .match .keys1))
     (λ c. unfold sortSaid sortOf in rw (c .match .keys2))
     (λ c. unfold sortSaid sortOf in rw (c .match .keys3))

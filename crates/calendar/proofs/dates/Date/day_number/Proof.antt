@@ -43,10 +43,7 @@ day-number-spec =
     (λ c. omega (arith, within (c .before .before .before)))
     (λ c. omega (arith, within (c .before .before .before)))
     (λ c. omega (arith, within (c .before .before .before)))
-    (λ c. search needs)
-    (λ c. search needs)
-    (λ c. search needs)
+    (λ c. search needs) (λ c. search needs) (λ c. search needs)
     (λ c. omega (arith, within (c .before .before .before)))
     (λ c. omega (arith, within (c .before .before .before .before)))
-    sub-t18
-    returns-2)
+    sub-t18 returns-2)
