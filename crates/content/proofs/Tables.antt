@@ -8,7 +8,7 @@ use lib.ListN.{length, take, drop}
 use Rattle.octets.specs.Basics.{among}
 use Rattle.octets.specs.Classes.{lower}
 use Rattle.octets.specs.Groups.{cased}
-use Rattle.octets.specs.Slots.{Blank, nameIn, Enters}
+use Rattle.octets.specs.Slots.{Blank, nameIn, Enters, slotBetween}
 use Rattle.octets.specs.declared.names.Case.the-variants.{Lower}
 use Rattle.octets.specs.declared.tables.Entering.{Entering}
 use Rattle.octets.specs.declared.tables.Entering.the-variants.{Seen, Stored, Full}
@@ -53,12 +53,12 @@ module _ {s table : List ℕ} {a e : ℕ} (w : Walk s table a e) where
 
     -- what became of the name that is entered
     abbrev Entered : List ℕ → Entering → Type 0
-    Entered new r = Enters (nameIn Lower s) (map (cased Lower) (take (p .name - (e + 1)) (drop (e + 1) s))) table new r
+    Entered new r = Enters (nameIn Lower s) (map (cased Lower) (take (p .name - (e + 1)) (drop (e + 1) s))) (slotBetween s (e + 1) (p .name)) table new r
 
     module _ {new : List ℕ} where
       pub walk-seen : Entered new Seen → nameTwice (paramsIn (drop a s)) ≡ true
       unfolding nameTwice lower
-      walk-seen i = noting-seen at-name i
+      walk-seen i = noting-seen at-name (i .1)
 
       pub walk-full : Entered new Full → among next (names s (p .end)) ≡ false → Walk s new a (p .end)
       unfolding lower

@@ -2,6 +2,7 @@
 use Prim.Native.Nat.{ℕ, zero, suc, _+_, _-_, _*_, _/_, _%_, _≤_, _<_, min}
 use mathlib.Core.Path.{_≡_, refl, sym, ap, _∙_}
 use mathlib.Core.Bool.{Bool, true, false}
+use mathlib.Core.Logic.{inl, inr}
 use mathlib.Core.List.{List, [], _∷_, map}
 use native.Mathlib.Omega.{arith}
 use borrow.Author.Tests.{ne-eqb, eqb-true, eqb-false, ltb-true, ltb-false, leb-true, leb-false}
@@ -10,12 +11,12 @@ use lib.ListN.{length, take, drop, getD, set, replicate, length-drop}
 use lib.Seq.{take-all, drop-set-lt, drop-set-add, getD-drop, getD-set-same, getD-set-other}
 use Rattle.octets.specs.Basics.{_and_, _or_, any, same, among, twice}
 use Rattle.octets.specs.Groups.{cased}
-use Rattle.octets.specs.Slots.{slotFrom, slotOf, passed, slotIn, stands, inTable, Blank, slotFor, nameIn, Enters}
+use Rattle.octets.specs.Slots.{slotFrom, slotOf, passed, slotIn, stands, inTable, Blank, wide, slotFor, nameIn, Enters}
 use Rattle.octets.specs.declared.names.Case.{Case}
 use Rattle.octets.specs.declared.tables.Entering.the-variants.{Seen, Stored, Full}
 use Rattle.octets.proofs.Cases.{cases, same?, never, both, or-first, or-second, or-false, either, neither}
 use Rattle.octets.proofs.Classes.{same-itself, same-is}
-use Rattle.octets.proofs.Positions.{here, ended, from}
+use Rattle.octets.proofs.Positions.{here, ended, from, past-end}
 
 -- the slot of a name, octet by octet; f turns its octets into one case
 module _ (f : ℕ → ℕ) (n : List ℕ) where
@@ -67,11 +68,11 @@ cut-to s a b i j e f = rw (f, e) (between-places s a b)
 module _ (case : Case) (s : List ℕ) (a b : ℕ) (z : (slotFor a b ≡ 0) → ⊥) where
   pub slot-holds : nameIn case s (slotFor a b) ≡ map (cased case) (take (b - a) (drop a s))
   unfolding slotFor nameIn
-  slot-holds = cases (leb a b and ltb b 4294967296)
+  slot-holds = cases (leb a b and ltb b wide)
       (λ e.
-      let l : b < 4294967296 = ltb-true b 4294967296 (both (leb a b) (ltb b 4294967296) e .1) in
-      let q : (a * 4294967296 + b) / 4294967296 ≡ a = omega arith in
-      let r : (a * 4294967296 + b) % 4294967296 ≡ b = omega arith in
+      let l : b < wide = ltb-true b wide (both (leb a b) (ltb b wide) e .1) in
+      let q : (a * wide + b) / wide ≡ a = omega arith in
+      let r : (a * wide + b) % wide ≡ b = omega arith in
       rw (e, q, r))
       (λ e. absurd (z (rw e)))
 
@@ -146,14 +147,18 @@ module _ (name : ℕ → List ℕ) (n : List ℕ) where
 
 -- the search for n ended at the slot q
 module _ (name : ℕ → List ℕ) (n old : List ℕ) (q : ℕ) (e : q ≡ slotIn name n old) where
-  pub enters-full : getD old q 0 ≡ 0 → Enters name n old old Full
-  enters-full z = rw (sym e) (refl, z)
-
-  pub enters-seen : ((getD old q 0 ≡ 0) → ⊥) → Enters name n old old Seen
+  -- where n is seen, what a slot would hold for it plays no part
+  pub enters-seen : ((getD old q 0 ≡ 0) → ⊥) → Enters name n 0 old old Seen
   enters-seen z = rw (sym e) (refl, z)
 
-  pub enters-stored : (p : ℕ) → ((p ≡ 0) → ⊥) → name p ≡ n → q < length old → getD old q 0 ≡ 0 → Enters name n old (set old q p) Stored
-  enters-stored p o k h z = rw (sym e) (p, o, k, h, z, refl)
+  pub enters-none : (p : ℕ) → length old ≤ q → Enters name n p old old Full
+  enters-none p l = rw (sym e) (refl, past-end old q l, inl l)
+
+  pub enters-not : (p : ℕ) → getD old q 0 ≡ 0 → p ≡ 0 → Enters name n p old old Full
+  enters-not p z o = rw (sym e) (refl, z, inr o)
+
+  pub enters-stored : (p : ℕ) → ((p ≡ 0) → ⊥) → name p ≡ n → q < length old → getD old q 0 ≡ 0 → Enters name n p old (set old q p) Stored
+  enters-stored p o k h z = rw (sym e) (o, k, h, z, refl)
 
 -- a name that stands in a table stands there after a free slot is filled
 stands-set : (name : ℕ → List ℕ) (n ps : List ℕ) (m p : ℕ) → getD ps m 0 ≡ 0 → stands name n ps ≡ true → stands name n (set ps m p) ≡ true
@@ -230,24 +235,24 @@ module _ {name : ℕ → List ℕ} {table n : List ℕ} {all left : List (List �
   noting-twice h = passes _ (λ d. never h (once d .0))
 
   -- what became of the name that is entered
-  module _ {new : List ℕ} where
-    pub noting-seen : Enters name n table new Seen → twice all ≡ true
-    unfolding among any
-    noting-seen (c, z) = passes _ (λ d.
-        let q = slotIn name n table in
-        let e : same n (name (getD table q 0)) ≡ true = slot-there name n table q refl z in
-        let f : among n (n ∷ left) ≡ false = ap (λ (x : List ℕ). among x (n ∷ left)) (same-is n _ e) ∙ g .noted q z d in
-        never (same-itself n) (neither (same n n) (any (same n) left) f .0))
+  pub noting-seen : ((getD table (slotIn name n table) 0 ≡ 0) → ⊥) → twice all ≡ true
+  unfolding among any
+  noting-seen z = passes _ (λ d.
+      let q = slotIn name n table in
+      let e : same n (name (getD table q 0)) ≡ true = slot-there name n table q refl z in
+      let f : among n (n ∷ left) ≡ false = ap (λ (x : List ℕ). among x (n ∷ left)) (same-is n _ e) ∙ g .noted q z d in
+      never (same-itself n) (neither (same n n) (any (same n) left) f .0))
 
-    pub noting-full : Enters name n table new Full → among n left ≡ false → Noting name new all left
-    noting-full (c, z) h = rw c (record {
+  module _ {p : ℕ} {new : List ℕ} where
+    pub noting-full : Enters name n p table new Full → among n left ≡ false → Noting name new all left
+    noting-full (c, z, o) h = rw c (record {
       rest = λ d. once d .1;
       noted = λ q y d. later _ (g .noted q y d);
       whole = λ w d. g .whole (slot-absent name n table (slotIn name n table) refl z, w) (joined h d);
     })
 
-    pub noting-stored : Enters name n table new Stored → Noting name new all left
-    noting-stored (p, o, k, h, z, c) =
+    pub noting-stored : Enters name n p table new Stored → Noting name new all left
+    noting-stored (o, k, h, z, c) =
         let r = slotIn name n table in
         let i : inTable name n (set table r p) ≡ true = slot-filled name n table r refl h p o k in
         rw c (record {

@@ -1,8 +1,9 @@
 -- A table that finds names again: each slot holds both ends of a name, or 0. A name is looked for from its slot on, up to the first slot that is free.
 -- `name` says which name a slot holds.
-use Prim.Native.Nat.{ℕ, suc, _+_, _-_, _*_, _/_, _%_, _<_}
+use Prim.Native.Nat.{ℕ, suc, _+_, _-_, _*_, _/_, _%_, _≤_, _<_, min}
 use mathlib.Core.Path.{_≡_}
 use mathlib.Core.Bool.{Bool, false}
+use mathlib.Core.Logic.{_⊎_}
 use mathlib.Core.List.{List, [], _∷_, map}
 use lib.Dec.{eqb, ltb, leb}
 use lib.ListN.{length, take, drop, getD, set}
@@ -40,18 +41,25 @@ inTable name n table = stands name n (drop (slotOf n) table)
 abbrev pub Blank : List ℕ → Type 0
 Blank table = (q : ℕ) → getD table q 0 ≡ 0
 
+-- an end below this fits into a slot
+abbrev pub wide : ℕ
+wide = 4294967296
+
 -- what a slot holds for a name with these ends; 0 where they do not fit
 unfoldable pub slotFor : ℕ → ℕ → ℕ
-slotFor from end = pick (leb from end and ltb end 4294967296) (from * 4294967296 + end) 0
+slotFor from end = pick (leb from end and ltb end wide) (from * wide + end) 0
+
+-- the same for what stands in s from a place up to another
+abbrev pub slotBetween : List ℕ → ℕ → ℕ → ℕ
+slotBetween s from end = slotFor (min from (min end (length s))) (min end (length s))
 
 -- the name in s that a slot holds, in the case that names compare in
 unfoldable pub nameIn : Case → List ℕ → ℕ → List ℕ
-nameIn case s p = map (cased case) (take (p % 4294967296 - p / 4294967296) (drop (p / 4294967296) s))
+nameIn case s p = map (cased case) (take (p % wide - p / wide) (drop (p / wide) s))
 
--- n is entered into a table: the slot at which its search ends holds it, and nothing changes; or that slot was free and holds it now; or it is free
--- or there is none, and nothing changes
-abbrev pub Enters : (ℕ → List ℕ) → List ℕ → List ℕ → List ℕ → Entering → Type 0
-Enters name n old new Seen = (new ≡ old) × ((getD old (slotIn name n old) 0 ≡ 0) → ⊥)
-Enters name n old new Stored =
-    (p : ℕ) × ((p ≡ 0) → ⊥) × (name p ≡ n) × (slotIn name n old < length old) × (getD old (slotIn name n old) 0 ≡ 0) × (new ≡ set old (slotIn name n old) p)
-Enters name n old new Full = (new ≡ old) × (getD old (slotIn name n old) 0 ≡ 0)
+-- n, for which a slot holds p, is entered into a table: the slot at which its search ends holds n, and nothing changes; or that slot was free and
+-- holds p now; or nothing changes, since there is no slot, or none can hold n
+abbrev pub Enters : (ℕ → List ℕ) → List ℕ → ℕ → List ℕ → List ℕ → Entering → Type 0
+Enters name n p old new Seen = (new ≡ old) × ((getD old (slotIn name n old) 0 ≡ 0) → ⊥)
+Enters name n p old new Stored = ((p ≡ 0) → ⊥) × (name p ≡ n) × (slotIn name n old < length old) × (getD old (slotIn name n old) 0 ≡ 0) × (new ≡ set old (slotIn name n old) p)
+Enters name n p old new Full = (new ≡ old) × (getD old (slotIn name n old) 0 ≡ 0) × ((length old ≤ slotIn name n old) ⊎ (p ≡ 0))

@@ -5,7 +5,7 @@ ghost use Prim.Native.Nat.{_-_, min};
 ghost use lib.ListN.{take, drop};
 ghost use Rattle.octets.specs.Basics.{same};
 ghost use Rattle.octets.specs.Groups.{cased};
-ghost use Rattle.octets.specs.Slots.{slotOf, slotFor, nameIn, slotIn, Enters};
+ghost use Rattle.octets.specs.Slots.{slotOf, slotFor, slotBetween, nameIn, slotIn, Enters};
 use crate::names::Case;
 use crate::names::same_in;
 
@@ -82,7 +82,7 @@ fn slot_in(s: &[u8], table: &[usize], name: &[u8], case: Case) -> usize
 
 // Enters the name that stands in s from a place up to another; names compare in one case.
 pub fn enter(s: &[u8], from: usize, end: usize, case: Case, table: &mut [usize]) -> Entering
-    ensures { λ r. ⌜ Enters (nameIn case (now (s .entry))) (map (cased case) (take (end - from) (drop from (now (s .entry))))) (now (table .entry)) (now (table .exit)) r ⌝ }
+    ensures { λ r. ⌜ Enters (nameIn case (now (s .entry))) (map (cased case) (take (end - from) (drop from (now (s .entry))))) (slotBetween (now (s .entry)) from end) (now (table .entry)) (now (table .exit)) r ⌝ }
 {
     let to = at_most(end, s.len());
     let at = at_most(from, to);

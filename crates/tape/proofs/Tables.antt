@@ -5,7 +5,7 @@ use mathlib.Core.Bool.{Bool, true, false, not}
 use mathlib.Core.List.{List, [], _∷_, map}
 use Rattle.octets.specs.Basics.{_and_, _or_, any, among, twice}
 use Rattle.octets.specs.Groups.{cased}
-use Rattle.octets.specs.Slots.{Blank, nameIn, Enters}
+use Rattle.octets.specs.Slots.{Blank, nameIn, Enters, slotBetween}
 use Rattle.octets.specs.declared.names.Case.the-variants.{Exact}
 use Rattle.octets.specs.declared.tables.Entering.{Entering}
 use Rattle.octets.specs.declared.tables.Entering.the-variants.{Seen, Stored, Full}
@@ -61,11 +61,11 @@ module _ {t table : List ℕ} {a i : ℕ} (g : Telling t table a i) where
 
     -- what became of the key that is entered
     abbrev Entered : List ℕ → Entering → Type 0
-    Entered new s = Enters (nameIn Exact t) (map (cased Exact) (part t r)) table new s
+    Entered new s = Enters (nameIn Exact t) (map (cased Exact) (part t r)) (slotBetween t (r .from) (r .to)) table new s
 
     module _ {new : List ℕ} where
       pub telling-seen : Entered new Seen → distinctKeys (membersAt t a) ≡ false
-      telling-seen s = repeated (noting-seen at-key (rw (exact (part t r)) at s))
+      telling-seen s = let z = rw (exact (part t r)) at s in repeated (noting-seen at-key (z .1))
 
       pub telling-full : Entered new Full → hasKey (part t r) (membersAt t e) ≡ false → Telling t new a e
       telling-full s h = record { is = noting-full at-key (rw (exact (part t r)) at s) (sym (key-among (part t r) (membersAt t e)) ∙ h) }
