@@ -15,7 +15,7 @@ const ROOM: usize = 65_536;
 const TURNS: usize = 60;
 
 /// The level of the other implementation at which it answers as the library does.
-const LEVEL: u8 = 0;
+const LEVEL: u8 = 1;
 
 fn level() -> Level {
     Level::new(LEVEL).expect("the other implementation has the level")
@@ -146,21 +146,30 @@ fn stop_row(name: &str, count: usize, (ours, theirs): (f64, f64)) {
 }
 
 const START: &[u8] = b"20240228T180000";
-const RULE: &[u8] = b"FREQ=HOURLY;INTERVAL=12";
+/// A rule of each kind, and how many of its stops make a long list.
+const RULES: [(&str, &[u8], usize); 4] = [
+    ("hourly", b"FREQ=HOURLY;INTERVAL=12", 10_000),
+    ("weekly", b"FREQ=WEEKLY;BYDAY=TU,FR", 10_000),
+    ("monthly by weekday", b"FREQ=MONTHLY;BYDAY=-1MO", 1_000),
+    ("monthly by day", b"FREQ=MONTHLY;BYMONTHDAY=31", 1_000),
+];
+/// Rules that no day meets up to the year 9999, the second because the start lies in a February.
+const EMPTY: [(&str, &[u8]); 2] = [("no 53rd Monday", b"FREQ=MONTHLY;BYDAY=53MO"), ("no 30 February", b"FREQ=MONTHLY;INTERVAL=12;BYMONTHDAY=30")];
 /// The most stops that a page has.
 const PAGE: usize = 64;
 
 /// The library's list of so many stops, as text.
-fn list(count: usize, out: &mut [u8]) -> usize {
-    unsafe { putrenski_list(START.as_ptr(), START.len(), RULE.as_ptr(), RULE.len(), count, out.as_mut_ptr(), out.len()) }
+fn list(rule: &[u8], count: usize, out: &mut [u8]) -> usize {
+    unsafe { putrenski_list(START.as_ptr(), START.len(), rule.as_ptr(), rule.len(), count, out.as_mut_ptr(), out.len()) }
 }
 
 /// Prints a page of stops by the library's page, then by its list, and by the other's program; sees that they agree, and prints their times.
-fn pages() {
-    let text = [START, RULE, format!("{PAGE}\n").as_bytes()].join(&b'\n');
+fn pages(kind: &str, rule: &[u8]) {
+    let text = [START, rule, format!("{PAGE}\n").as_bytes()].join(&b'\n');
     let theirs = || reference::stops_program(black_box(&text), level());
     let page = |out: &mut [u8]| unsafe { putrenski_stops(text.as_ptr(), text.len(), out.as_mut_ptr(), out.len()) };
-    let jobs: [(&str, &dyn Fn(&mut [u8]) -> usize); 2] = [("a page of 64", &page), ("a list of 64", &|out| list(PAGE, out))];
+    let names = [format!("{kind}: a page of 64"), format!("{kind}: a list of 64")];
+    let jobs: [(&str, &dyn Fn(&mut [u8]) -> usize); 2] = [(&names[0], &page), (&names[1], &|out| list(rule, PAGE, out))];
     for (name, ours) in jobs {
         let mut out = vec![0u8; 4096];
         let n = ours(&mut out);
@@ -177,18 +186,19 @@ fn pages() {
     }
 }
 
-/// Prints the times of a list of so many stops; the other lists no more than a page.
-fn long_list(name: &str, count: usize) {
-    let mut out = vec![0u8; 64 * (count + 1)];
-    let n = list(count, &mut out);
-    assert!(out[..n].starts_with(format!("stops {count}\n").as_bytes()), "{name}: stops are missing");
+/// Prints the times of a list of so many stops, of which there are `most`; the other lists no more than a page.
+fn long_list(name: &str, rule: &[u8], count: usize, most: usize) {
+    let mut out = vec![0u8; 64 * (most + 1)];
+    let n = list(rule, most, &mut out);
+    assert!(out[..n].starts_with(format!("stops {count}\n").as_bytes()), "{name}: another number of stops");
     let (ours, _) = medians(
         || {
-            black_box(list(count, &mut out));
+            black_box(list(rule, most, &mut out));
         },
         || (),
     );
-    println!("| {name} | {:.2} | | {:.0} | | |", ours / 1000.0, ours / count as f64);
+    let each = if count == 0 { String::new() } else { format!("{:.0}", ours / count as f64) };
+    println!("| {name} | {:.2} | | {each} | | |", ours / 1000.0);
 }
 
 /// The jCal of the longest calendar of a kind whose jCal has at most so many octets.
@@ -222,6 +232,13 @@ fn main() {
         }
     }
     println!("\n| stops | µs | other µs | ns a stop | other ns | ratio |\n|---|---|---|---|---|---|");
-    pages();
-    long_list("a list of 10,000", 10_000);
+    for (kind, rule, _) in RULES {
+        pages(kind, rule);
+    }
+    for (kind, rule, count) in RULES {
+        long_list(&format!("{kind}: a list of {count}"), rule, count, count);
+    }
+    for (name, rule) in EMPTY {
+        long_list(name, rule, 0, PAGE);
+    }
 }

@@ -3,9 +3,11 @@
 
 usage: tools/vectors.py [--jobs N] [--most OCTETS] FOLDER..
 
-A FOLDER has cases NAME.ics (to jCal), NAME.json (to iCalendar) or NAME.txt (a stop list: start, rule, most stops), each with NAME.out, what it
-must give, and perhaps NAME.rows, the content of rows.hex. Inputs longer than --most octets (default 6000) are left out and counted.
-The last line counts the equations that hold; the exit status is 1 where one does not.
+A FOLDER has cases NAME.ics (to jCal), NAME.json (to iCalendar) or NAME.txt (a stop list: start, rule, most stops), or the input of a program as
+tojcal_NAME.in, tocal_NAME.in or stops_NAME.in; each with NAME.out, what it must give, and perhaps NAME.rows, the content of rows.hex. Inputs longer
+than --most octets (default 6000) are left out and counted, and so are inputs of other programs.
+An equation that takes too many steps to compute, as a rule that nobody meets up to the year 9999, is named and counted apart.
+The last line counts the equations; the exit status is 1 where one does not hold.
 """
 import argparse
 import concurrent.futures
@@ -61,6 +63,15 @@ def names():
     return out
 
 
+JOBS = {".ics": "tojcal", ".json": "tocal", ".txt": "stops"}
+
+
+def job(path):
+    """The program that a case is for; None where it is none of the three."""
+    stem, kind = os.path.splitext(path)
+    return JOBS.get(kind) or next((j for j in JOBS.values() if kind == ".in" and os.path.basename(stem).startswith(j + "_")), None)
+
+
 def octets(data):
     return "(%s)" % " ∷ ".join([str(b) for b in data] + ["[]"])
 
@@ -82,19 +93,19 @@ def stops_wanted(out):
 
 def equation(path):
     """The equation of a case, and how many octets it holds; None where there is none to state."""
-    stem, kind = os.path.splitext(path)
+    stem = os.path.splitext(path)[0]
     data = open(path, "rb").read()
     rows = open(stem + ".rows", "rb").read() if os.path.exists(stem + ".rows") else b""
     out = open(stem + ".out", "rb").read()
     refusal = re.match(rb"refused (\d+)\n$", out)
     want = "refused %d" % int(refusal.group(1)) if refusal else "accepted %s" % octets(out)
-    if kind == ".txt":
+    if job(path) == "stops":
         lines = re.split(rb"\r?\n", data)
         want = stops_wanted(out)
         if want is None:
             return None
         return "listed (listOf %s %s %d) ≡ %s" % (octets(lines[0]), octets(lines[1]), int(lines[2]), want), len(data)
-    run = "toJcal" if kind == ".ics" else "toIcal"
+    run = "toJcal" if job(path) == "tojcal" else "toIcal"
     return "%s %s %s ≡ %s" % (run, octets(rows), octets(data), want), len(data) + len(out)
 
 
@@ -120,7 +131,7 @@ def scratch():
 
 
 def check(top, cases, opened):
-    """Checks one batch in the scratch repository; the names of the cases that fail."""
+    """Checks one batch in the scratch repository; the names of the cases that fail, and of those that take too many steps."""
     text = [HEAD]
     for i, (name, claim) in enumerate(cases):
         text.append("-- %s\ncase%d : %s\nunfolding %s\ncase%d = refl\n" % (name, i, claim, " ".join(opened), i))
@@ -128,20 +139,26 @@ def check(top, cases, opened):
         f.write("\n".join(text))
     run = subprocess.run(["rt", "dev", "vectors"], cwd=top, stdout=subprocess.PIPE, stderr=subprocess.STDOUT)
     log = run.stdout.decode("utf-8", "replace")
-    bad = sorted({cases[int(n)][0] for n in re.findall(r"error: `case(\d+)`", log)})
-    return bad or (["a batch from %s on: %s" % (cases[0][0], log[-800:])] if run.returncode else [])
+    errors = re.findall(r"error: `case(\d+)`(.*)", log)
+    bad = sorted({cases[int(n)][0] for n, why in errors if "step limit" not in why})
+    long = sorted({cases[int(n)][0] for n, why in errors if "step limit" in why})
+    if run.returncode and not errors:
+        bad = ["a batch from %s on: %s" % (cases[0][0], log[-800:])]
+    return bad, long
 
 
 def worker(jobs, opened):
     """Takes batches until none is left."""
-    top, failed = scratch(), []
+    top, failed, long = scratch(), [], []
     try:
         while True:
             try:
                 batch = jobs.pop()
             except IndexError:
-                return failed
-            failed += check(top, batch, opened)
+                return failed, long
+            found = check(top, batch, opened)
+            failed += found[0]
+            long += found[1]
     finally:
         shutil.rmtree(top, ignore_errors=True)
 
@@ -176,10 +193,10 @@ def main():
     args = args.parse_args()
     jobs, batch, size, left_out, total = [], [], 0, 0, 0
     for folder in args.folders:
-        for path in sorted(p for k in ("ics", "json", "txt") for p in glob.glob(os.path.join(folder, "*." + k))):
+        for path in sorted(p for k in ("ics", "json", "txt", "in") for p in glob.glob(os.path.join(folder, "*." + k))):
             if not os.path.exists(os.path.splitext(path)[0] + ".out"):
                 continue
-            if os.path.getsize(path) > args.most:
+            if job(path) is None or os.path.getsize(path) > args.most:
                 left_out += 1
                 continue
             found = equation(path)
@@ -194,10 +211,12 @@ def main():
     jobs += [batch] if batch else []
     opened = names()
     with concurrent.futures.ThreadPoolExecutor(args.jobs) as pool:
-        failed = sum((w.result() for w in [pool.submit(worker, jobs, opened) for _ in range(args.jobs)]), [])
-    for name in failed:
-        print("DIFFERS", name)
-    print("%d equations, %d differ, %d inputs over %d octets left out" % (total, len(failed), left_out, args.most))
+        found = [w.result() for w in [pool.submit(worker, jobs, opened) for _ in range(args.jobs)]]
+    failed, long = (sum((f[i] for f in found), []) for i in (0, 1))
+    for word, names_of in (("DIFFERS", failed), ("TOO LONG", long)):
+        for name in names_of:
+            print(word, name)
+    print("%d equations, %d differ, %d too long to compute, %d inputs left out" % (total, len(failed), len(long), left_out))
     sys.exit(1 if failed else 0)
 
 

@@ -1,5 +1,5 @@
 -- Dates and day numbers are each other's inverse, over all days that can be named; and how many these are.
-use Prim.Native.Nat.{ℕ, zero, suc, _+_, _-_, _≤_, _<_}
+use Prim.Native.Nat.{ℕ, zero, suc, _+_, _-_, _*_, _/_, _%_, _≤_, _<_}
 use mathlib.Core.Path.{_≡_, refl, ap, sym, _∙_}
 use mathlib.Core.Bool.{true}
 use mathlib.Core.List.{List, [], _∷_}
@@ -59,7 +59,7 @@ year-at (suc k) y (suc j) r h l =
     let f : y + suc j ≡ suc y + j = omega arith in
     rw (le-ltb (yearDays y + yearsFrom (suc y) j + r) (yearDays y) (omega arith), e, f) (year-at k (suc y) j r (omega arith) (rw f at l))
 
-sum-step : (xs : List ℕ) (i j : ℕ) → i < j → sum (take i xs) + getD xs i 0 ≤ sum (take j xs)
+pub sum-step : (xs : List ℕ) (i j : ℕ) → i < j → sum (take i xs) + getD xs i 0 ≤ sum (take j xs)
 unfolding sum
 sum-step xs i zero h = absurd (omega arith)
 sum-step [] zero (suc j) h = omega arith
@@ -67,7 +67,7 @@ sum-step [] (suc i) (suc j) h = omega arith
 sum-step (x ∷ xs) zero (suc j) h = omega arith
 sum-step (x ∷ xs) (suc i) (suc j) h = omega (arith, sum-step xs i j (omega arith))
 
-all-months : (l : ℕ) → sum (take 12 (months l)) ≡ 365 + l
+pub all-months : (l : ℕ) → sum (take 12 (months l)) ≡ 365 + l
 unfolding sum months
 all-months l = omega arith
 
@@ -100,18 +100,85 @@ day-at y m d h =
     down : (d : ℕ) → 1 ≤ d → suc (d - 1) ≡ d
     down d p = omega arith
 
-year-among : (y r : ℕ) → y ≤ lastYear → r < yearDays y → dateAt (beforeYear y + r) ≡ inMonths y 1 (months (leapDay y)) r
-unfolding dateAt beforeYear
-year-among y r h l =
-    let b : yearsFrom 0 y ≡ beforeYear y = sym (zero-add _) ∙ years-before 0 y ∙ ap beforeYear (zero-add y) in
-    let at = year-at lastYear 0 y r h (rw (zero-add y) l) in
-    rw (b, zero-add y) at at
+-- whole cycles of 400 years, of 146097 days each, before the j years of another
+by-100 : (c j : ℕ) → (c * 400 + j + 399) / 100 ≡ c * 4 + (j + 399) / 100
+by-100 c j = omega arith
+
+by-4 : (c j : ℕ) → (c * 400 + j + 399) / 4 ≡ c * 100 + (j + 399) / 4
+by-4 c j = omega arith
+
+by-400 : (c j : ℕ) → (c * 400 + j + 399) / 400 ≡ c + (j + 399) / 400
+by-400 c j = omega arith
+
+cycles : (c j : ℕ) → beforeYear (c * 400 + j) ≡ c * 146097 + beforeYear j
+cycles c j =
+    let a = rw (by-100 c j, by-4 c j, by-400 c j) at (before-year (c * 400 + j)) in
+    sums c j _ _ _ _ _ a (before-year j)
+  where
+    sums : (c j b d x y z : ℕ) → b + (c * 4 + x) + 145731 ≡ 365 * (c * 400 + j + 399) + (c * 100 + y) + (c + z) → d + x + 145731 ≡ 365 * (j + 399) + y + z → b ≡ c * 146097 + d
+    sums c j b d x y z p q = omega arith
+
+-- later years begin later
+pub year-order : (y z : ℕ) → y ≤ z → beforeYear y ≤ beforeYear z
+year-order y z h = let e : y + (z - y) ≡ z = omega arith in rw e at (more _ _ _ (years-before y (z - y)))
+  where
+    more : (a b c : ℕ) → a + b ≡ c → a ≤ c
+    more a b c e = omega arith
+
+-- a day of a cycle's year lies within the cycle
+in-cycle : (j r : ℕ) → j < 400 → r < yearDays j → beforeYear j + r < 146097
+unfolding beforeYear
+in-cycle j r h l = less (beforeYear j) (yearDays j) r (beforeYear 400) (year-order (suc j) 400 h) (cycles 1 0) l
+  where
+    less : (b w r n : ℕ) → b + w ≤ n → n ≡ 146097 → r < w → b + r < 146097
+    less b w r n p q l = omega arith
+
+-- a cycle's years are as long as those of the first
+leap-cycle : (c j : ℕ) → leapDay (c * 400 + j) ≡ leapDay j
+unfolding leapDay
+leap-cycle c j = rw (m400 c j, m100 c j, m4 c j)
+  where
+    m400 : (c j : ℕ) → (c * 400 + j) % 400 ≡ j % 400
+    m400 c j = omega arith
+
+    m100 : (c j : ℕ) → (c * 400 + j) % 100 ≡ j % 100
+    m100 c j = omega arith
+
+    m4 : (c j : ℕ) → (c * 400 + j) % 4 ≡ j % 4
+    m4 c j = omega arith
+
+year-in : (c j r : ℕ) → j < 400 → r < yearDays j → r < yearDays (c * 400 + j) → dateAt (beforeYear (c * 400 + j) + r) ≡ inMonths (c * 400 + j) 1 (months (leapDay (c * 400 + j))) r
+unfolding dateAt
+year-in c j r h l k =
+    let b = in-cycle j r h l in
+    let e : beforeYear (c * 400 + j) + r ≡ c * 146097 + (beforeYear j + r) = rw (cycles c j) (omega arith) in
+    let f : yearsFrom (c * 400) j ≡ beforeYear j = rest c _ _ _ _ (start c) (years-before (c * 400) j) (cycles c j) in
+    rw (e, quotient c _ b, remainder c _ b) (rw f at (year-at 399 (c * 400) j r (omega arith) k))
+  where
+    start : (c : ℕ) → beforeYear (c * 400) ≡ c * 146097
+    start c = let z : c * 400 + 0 ≡ c * 400 = omega arith in rw z at (cycles c 0) ∙ (unfold beforeYear in omega arith)
+
+    rest : (c a y b d : ℕ) → a ≡ c * 146097 → a + y ≡ b → b ≡ c * 146097 + d → y ≡ d
+    rest c a y b d p q s = omega arith
+
+    quotient : (c n : ℕ) → n < 146097 → (c * 146097 + n) / 146097 ≡ c
+    quotient c n h = omega arith
+
+    remainder : (c n : ℕ) → n < 146097 → (c * 146097 + n) % 146097 ≡ n
+    remainder c n h = omega arith
+
+year-among : (y r : ℕ) → r < yearDays y → dateAt (beforeYear y + r) ≡ inMonths y 1 (months (leapDay y)) r
+unfolding yearDays
+year-among y r l =
+    let e : y / 400 * 400 + y % 400 ≡ y = omega arith in
+    let k : r < 365 + leapDay (y / 400 * 400 + y % 400) = rw e l in
+    rw e at (year-in (y / 400) (y % 400) r (omega arith) (rw (leap-cycle (y / 400) (y % 400)) at k) k)
 
 pub date-back : (d : Date) → isDay (d .year) (d .month) (d .day) ≡ true → dateAt (dayNumber d) ≡ d
 unfolding dayNumber
 date-back d h =
     let f = day-tells (d .year) (d .month) (d .day) h in
-    year-among (d .year) _ (f .year) (within (d .year) (d .month) (d .day) f) ∙ day-at (d .year) (d .month) (d .day) f
+    year-among (d .year) _ (within (d .year) (d .month) (d .day) f) ∙ day-at (d .year) (d .month) (d .day) f
 
 -- the formula gives the date of a day number
 pub formula-date : (n y m d : ℕ) → DateFound n y m d → dateAt n ≡ dateOn y m d

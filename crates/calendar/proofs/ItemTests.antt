@@ -146,7 +146,7 @@ pub frequency-stands : (n : List ℕ) → isSome (wordOf frequencies n) ≡ ltb 
 frequency-stands n = word-stands frequencies n ∙ ap (ltb (wordPlace frequencies n)) (unfold frequencies in refl)
 
 -- a weekday's two letters
-weekday-length : (n : List ℕ) → (length n ≡ 2 → ⊥) → among n weekdays ≡ false
+pub weekday-length : (n : List ℕ) → (length n ≡ 2 → ⊥) → among n weekdays ≡ false
 unfolding among any weekdays
 weekday-length n h =
     rw (same-length n (octets "SU") h, same-length n (octets "MO") h, same-length n (octets "TU") h, same-length n (octets "WE") h, same-length n (octets "TH") h, same-length n (octets "FR") h, same-length n (octets "SA") h)

@@ -3,6 +3,9 @@ pub mod Ranges
 pub mod Days
 pub mod DateFormula
 pub mod Inverse
+pub mod Months
+pub mod SetLaws
+pub mod Gathering
 pub mod Extended
 pub mod Slots
 pub mod Numbers
@@ -20,7 +23,9 @@ pub mod RuleParts
 pub mod PartsRead
 pub mod PartValues
 pub mod WrittenItems
+pub mod DaysKept
 pub mod NamedMoments
 pub mod Choices
 pub mod RuleLoop
+pub mod RuleFacts
 pub mod WrittenRules

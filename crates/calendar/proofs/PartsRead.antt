@@ -6,7 +6,7 @@ use mathlib.Core.Bool.{Bool, true, false, not}
 use mathlib.Core.List.{List, [], _∷_, _++_, map, append-assoc, append-nil}
 use mathlib.Core.Option.{Option, none, some}
 use native.Mathlib.Omega.{arith}
-use borrow.Author.Tests.{eqb-true, eqb-false, ne-eqb}
+use borrow.Author.Tests.{eqb-true, eqb-false, eq-eqb, ne-eqb}
 use lib.Dec.{eqb}
 use lib.ListN.{length, getD, set, replicate}
 use Rattle.octets.specs.Basics.{octets, pick, _and_, _or_, any, filled, single, same, among, twice}
@@ -23,7 +23,7 @@ use Rattle.calendar.specs.Dates.{momentOf}
 use Rattle.calendar.specs.Moments.{momentFrom, readMoment}
 use Rattle.calendar.specs.Recurrence.{frequency, Key, key, keys, frequencies, weekdays, wordOf, untilOf, countOf, itemOf, several, Part, part, keyedPart, names, isRule}
 use Rattle.calendar.specs.Walk.{keyAt}
-use Rattle.calendar.specs.Rules.{firstOf, valueNamed, frequencyOf, weekdayOf, untilMoment, endOf, byParts, ruleFrom}
+use Rattle.calendar.specs.Rules.{firstOf, valueNamed, frequencyOf, weekdayOf, untilMoment, endOf, byParts, valuesNamed, noDays, withDay, withMonthDay, gathered, daysOf, ruleFrom}
 use Rattle.calendar.specs.Reading.{headFrom, counted, lastOf, withPart, barred, bySeen, ruleRead}
 use Rattle.calendar.specs.declared.rules.Frequency.the-variants.{Yearly}
 use Rattle.calendar.specs.declared.rules.Weekday.the-variants.{Monday}
@@ -36,6 +36,7 @@ use Rattle.calendar.proofs.Words.{same-turned}
 use Rattle.calendar.proofs.Keys.{key-count}
 use Rattle.calendar.proofs.ItemTests.{digits-raised, digits-upper}
 use Rattle.calendar.proofs.RuleParts.{both-is}
+use Rattle.calendar.proofs.DaysKept.{days-kept, month-days-kept, gathered-turned}
 
 -- names, with one more behind
 names-more : (ps : List Part) (p : Part) (qs : List Part) → names (ps ++ p ∷ qs) ≡ names ps ++ p .name ∷ names qs
@@ -187,6 +188,33 @@ module _ (ps : List Part) (p : Part) (i : ℕ) (h : i < 14) (named : p .name ≡
       by true = unfold given in refl
       by false = refl
 
+-- The values of a part with a name, with one part more.
+values-behind : (n : List ℕ) (ps : List Part) (p : Part) → among n (names ps) ≡ false → valuesNamed n (ps ++ p ∷ []) ≡ pick (same n (p .name)) (p .values) []
+unfolding valuesNamed
+values-behind n [] p h = refl
+values-behind n (q ∷ ps) p h =
+    let b = neither (same n (q .name)) (among n (names ps)) (sym (among-cons n (q .name) (names ps)) ∙ unfold names in h) in
+    rw (b .0) (values-behind n ps p (b .1))
+
+values-other : (n : List ℕ) (ps : List Part) (p : Part) → same n (p .name) ≡ false → valuesNamed n (ps ++ p ∷ []) ≡ valuesNamed n ps
+unfolding valuesNamed
+values-other n [] p h = rw h
+values-other n (q ∷ ps) p h = ap (λ (vs : List (List ℕ)). pick (same n (q .name)) (q .values) vs) (values-other n ps p h)
+
+values-none : (n : List ℕ) (ps : List Part) → among n (names ps) ≡ false → valuesNamed n ps ≡ []
+unfolding valuesNamed
+values-none n [] h = refl
+values-none n (p ∷ ps) h =
+    let b = neither (same n (p .name)) (among n (names ps)) (sym (among-cons n (p .name) (names ps)) ∙ unfold names in h) in
+    rw (b .0) (values-none n ps (b .1))
+
+values-of : (u : List ℕ) (k : Key) (p : Part) → keyedPart u k ≡ some p → each (itemOf (k .sort)) (split (code ",") u) ≡ some (p .values)
+unfolding keyedPart
+values-of u k p e =
+    let a = map-is (part k) _ p e in
+    let g = guard-is (λ vs. several (k .sort) or single vs) (each (itemOf (k .sort)) (split (code ",") u)) (a .0) (a .1) in
+    rw (← (a .2)) (g .0)
+
 -- The value of a part that has one only.
 one-value : (u : List ℕ) (k : Key) (p : Part) → several (k .sort) ≡ false → keyedPart u k ≡ some p → itemOf (k .sort) u ≡ some (firstOf (p .values))
 unfolding keyedPart
@@ -274,9 +302,27 @@ module _ (ps : List Part) (p : Part) (i : ℕ) (v : List ℕ) (h : i < 14) (name
       (λ d. rw d (ap Count (count-value v (firstOf (p .values)) (unfold itemOf in value-at 2 (unfold several in refl) d))))
       (λ d. rw d)))
 
+  values-step : (j : ℕ) → j < 14 → (i ≡ j → ⊥) → valuesNamed (nameAt j) (ps ++ p ∷ []) ≡ valuesNamed (nameAt j) ps
+  values-step j l n = values-other (nameAt j) ps p (rw (named, names-apart i j h l) (ne-eqb i j n))
+
+  values-here : (j : ℕ) → i ≡ j → (valuesNamed (nameAt j) ps ≡ []) × (valuesNamed (nameAt j) (ps ++ p ∷ []) ≡ p .values)
+  values-here j e = rw (← e) (values-none (nameAt i) ps unseen, values-behind (nameAt i) ps p unseen ∙ rw (named, same-itself (nameAt i)))
+
+  days-step : daysOf (ps ++ p ∷ []) ≡ pick (eqb i 7) (gathered withDay (daysOf ps) (split (code ",") v)) (pick (eqb i 8) (gathered withMonthDay (daysOf ps) (split (code ",") v)) (daysOf ps))
+  unfolding daysOf gathered keyAt keys
+  days-step = same? i 7
+      (λ e. let a = values-here 7 e in
+      rw (a .1, a .0, values-step 8 (omega arith) (λ z. omega arith), eq-eqb i 7 e)
+      (gathered-turned noDays (p .values) (valuesNamed (octets "BYMONTHDAY") ps) ∙ days-kept _ v (p .values) (values-of (upper v) (keyAt 7) p (rw e at read))))
+      (λ n. same? i 8
+      (λ e. let a = values-here 8 e in
+      rw (a .1, a .0, values-step 7 (omega arith) (eqb-false i 7 n), n, eq-eqb i 8 e)
+      (month-days-kept _ v (p .values) (values-of (upper v) (keyAt 8) p (rw e at read))))
+      (λ m. rw (n, m, values-step 7 (omega arith) (eqb-false i 7 n), values-step 8 (omega arith) (eqb-false i 8 m))))
+
   head-step : (eqb i 1 ≡ true → among (octets "COUNT") (names ps) ≡ false) → headFrom (ps ++ p ∷ []) ≡ withPart (headFrom ps) i v
   unfolding headFrom withPart
-  head-step clash = rw (frequency-step, interval-step, end-step clash, wkst-step)
+  head-step clash = rw (frequency-step, interval-step, end-step clash, wkst-step, days-step)
 
 -- The parts that were read of `all`, what is left of it, which keys there were, and what they say.
 pub record Gathered (all left : Option (List Part)) (seen : List Bool) (head : RuleHead) : Type 0 where
@@ -287,14 +333,14 @@ pub record Gathered (all left : Option (List Part)) (seen : List Bool) (head : R
   pub marks : seen ≡ present parts
   pub says : head ≡ headFrom parts
 
-pub gathered-none : (all : Option (List Part)) → Gathered all all (replicate 14 false) (record { frequency = Yearly; interval = 1; end = Open; wkst = Monday })
+pub gathered-none : (all : Option (List Part)) → Gathered all all (replicate 14 false) (record { frequency = Yearly; interval = 1; end = Open; wkst = Monday; days = noDays })
 gathered-none all = record {
   parts = [];
   whole = by all;
   once = unfold twice names in refl;
   alone = unfold among any names in refl;
   marks = unfold present among any names keys in refl;
-  says = unfold headFrom frequencyOf endOf given valueNamed same in refl;
+  says = unfold headFrom frequencyOf endOf given valueNamed same daysOf valuesNamed gathered in refl;
 }
   where
     by : (o : Option (List Part)) → o ≡ map? (λ qs. [] ++ qs) o
@@ -431,6 +477,7 @@ module _ {all : Option (List Part)} {seen : List Bool} {head : RuleHead} (g : Ga
         end = (headFrom (g .parts)) .end;
         wkst = (headFrom (g .parts)) .wkst;
         by = byParts (g .parts);
+        days = (headFrom (g .parts)) .days;
       })
       by true = unfold map? when headFrom ruleFrom in refl
       by false = unfold map? when in refl

@@ -38,7 +38,7 @@ unfolding itemShown
 ordinal-wrote s at is v w = then (rw (upto s at, is) at v) (rw (from s at, is) at w)
 
 -- a number is the same in uppercase
-number-raised : (s : List ℕ) → digits (unsigned (upper s)) ≡ true → upper s ≡ s
+pub number-raised : (s : List ℕ) → digits (unsigned (upper s)) ≡ true → upper s ≡ s
 number-raised s h = by s (sym (digits-upper (unsigned s)) ∙ rw (← (unsigned-upper s)) h)
   where
     by : (s : List ℕ) → digits (unsigned s) ≡ true → upper s ≡ s

@@ -1,5 +1,5 @@
 -- The Gregorian calendar from 0000-01-01 to 9999-12-31 (RFC 5545 3.3.4; 01, Values and The stop list).
-use Prim.Native.Nat.{ℕ, zero, suc, _+_, _-_, _%_}
+use Prim.Native.Nat.{ℕ, zero, suc, _+_, _-_, _*_, _/_, _%_}
 use mathlib.Core.Bool.{Bool}
 use mathlib.Core.List.{List, [], _∷_}
 use lib.Dec.{eqb, ltb, leb}
@@ -53,13 +53,25 @@ dayCount = beforeYear (suc lastYear)
 -- n days from the first of the month m of the year y on, whose length and those of the months behind it are given
 unfoldable pub inMonths : ℕ → ℕ → List ℕ → ℕ → Date
 inMonths y m [] n = dateOn y m (suc n)
-inMonths y m (l ∷ ls) n = pick (ltb n l) (dateOn y m (suc n)) (inMonths y (suc m) ls (n - l))
+inMonths y m (l ∷ ls) n = let later = inMonths y (suc m) ls (n - l) in pick (ltb n l) (dateOn y m (suc n)) later
 
 -- n days from the first day of the year y on, within the k years from y on
 unfoldable pub inYears : ℕ → ℕ → ℕ → Date
 inYears zero y n = inMonths y 1 (months (leapDay y)) n
-inYears (suc k) y n = pick (ltb n (yearDays y)) (inMonths y 1 (months (leapDay y)) n) (inYears k (suc y) (n - yearDays y))
+inYears (suc k) y n = let later = inYears k (suc y) (n - yearDays y) in pick (ltb n (yearDays y)) (inMonths y 1 (months (leapDay y)) n) later
 
--- the date of a day number
+-- the date of a day number; the calendar repeats itself every 400 years, which have 146097 days
 unfoldable pub dateAt : ℕ → Date
-dateAt n = inYears lastYear 0 n
+dateAt n = inYears 399 (n / 146097 * 400) (n % 146097)
+
+-- the months from 0000-01 to a date's month
+unfoldable pub monthNumber : Date → ℕ
+monthNumber d = d .year * 12 + (d .month - 1)
+
+-- the weekday of a day number, from Monday, 0, to Sunday, 6; 0000-01-01 is a Saturday
+unfoldable pub weekdayAt : ℕ → ℕ
+weekdayAt n = (n + 5) % 7
+
+-- the number of a day's week, where weeks begin on the weekday w; the first may begin before 0000-01-01
+unfoldable pub weekAt : ℕ → ℕ → ℕ
+weekAt w n = (n + 5 + (7 - w)) / 7

@@ -5,6 +5,7 @@ pub mod Dates
 pub mod Durations
 pub mod Recurrence
 pub mod Moments
+pub mod Sets
 pub mod Rules
 -- What functions of the code promise.
 pub mod Texts

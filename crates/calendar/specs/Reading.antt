@@ -1,7 +1,7 @@
 -- A recurrence rule while its parts are read, as the code has it: what the parts so far say, and which there were, in the order of `keys`.
 use Prim.Native.Nat.{ℕ, _+_, min}
 use Prim.Native.Char.{code}
-use mathlib.Core.Bool.{Bool, false, not}
+use mathlib.Core.Bool.{Bool, true, false, not}
 use mathlib.Core.List.{List, []}
 use mathlib.Core.Option.{Option}
 use lib.Dec.{eqb, ltb}
@@ -15,11 +15,12 @@ use Rattle.octets.specs.Pieces.{split}
 use Rattle.calendar.specs.Recurrence.{PartSort, keys, itemOf, several, Part}
 use Rattle.calendar.specs.Walk.{keyAt}
 use Rattle.calendar.specs.Moments.{readMoment}
-use Rattle.calendar.specs.Rules.{valueNamed, frequencyOf, weekdayOf, endOf}
+use Rattle.calendar.specs.Rules.{valueNamed, frequencyOf, weekdayOf, endOf, withDay, withMonthDay, gathered, daysOf}
 use Rattle.calendar.specs.declared.rules.Weekday.the-variants.{Monday}
 use Rattle.calendar.specs.declared.rules.End.{End}
 use Rattle.calendar.specs.declared.rules.End.the-variants.{Count, Until, Open}
 use Rattle.calendar.specs.declared.rules.ByParts.{ByParts}
+use Rattle.calendar.specs.declared.by_days.ByDays.{ByDays}
 use Rattle.calendar.specs.declared.rules.RuleHead.{RuleHead}
 use Rattle.calendar.specs.declared.rules.Rule.{Rule}
 
@@ -27,13 +28,14 @@ use Rattle.calendar.specs.declared.rules.Rule.{Rule}
 unfoldable pub valuesStand : PartSort → List ℕ → Bool
 valuesStand sort v = isSome (guard (λ vs. several sort or single vs) (each (itemOf sort) (split (code ",") (upper v))))
 
--- what parts say, but for the BY parts
+-- what parts say, but for which BY parts there are
 unfoldable pub headFrom : List Part → RuleHead
 headFrom ps = record {
   frequency = frequencyOf (given [] (λ v. v) (valueNamed (octets "FREQ") ps));
   interval = given 1 valueOf (valueNamed (octets "INTERVAL") ps);
   end = endOf ps;
   wkst = given Monday weekdayOf (valueNamed (octets "WKST") ps);
+  days = daysOf ps;
 }
 
 -- a count, no larger than one more than the largest integer
@@ -44,6 +46,11 @@ counted v = min (valueOf v) (mostInteger + 1)
 unfoldable pub lastOf : List ℕ → End
 lastOf v = given Open Until (readMoment v)
 
+-- with a value of BYDAY, or of BYMONTHDAY
+unfoldable pub withNamed : Bool → ByDays → List ℕ → ByDays
+withNamed true b v = withDay b v
+withNamed false b v = withMonthDay b v
+
 -- one part more, with the key at a place and the value v, letters in either case
 unfoldable pub withPart : RuleHead → ℕ → List ℕ → RuleHead
 withPart h k v = record {
@@ -51,6 +58,7 @@ withPart h k v = record {
   interval = pick (eqb k 3) (counted v) (h .interval);
   end = pick (eqb k 1) (lastOf v) (pick (eqb k 2) (Count (counted v)) (h .end));
   wkst = pick (eqb k 13) (weekdayOf (upper v)) (h .wkst);
+  days = pick (eqb k 7) (gathered withDay (h .days) (split (code ",") v)) (pick (eqb k 8) (gathered withMonthDay (h .days) (split (code ",") v)) (h .days));
 }
 
 -- a part with the key at a place may not follow: it was there, or it is one of COUNT and UNTIL, and the other was
@@ -82,4 +90,5 @@ ruleRead h seen = when (getD seen 0 false) (record {
   end = h .end;
   wkst = h .wkst;
   by = bySeen seen;
+  days = h .days;
 })

@@ -4,7 +4,7 @@ ghost use Prim.Native.Nat.{_≤_, _-_};
 ghost use lib.Dec.{ltb};
 ghost use Rattle.octets.specs.Optional.{when};
 ghost use Rattle.calendar.specs.Gregorian.{leapDay, monthDays, isDay, dateOn, dayNumber, dayCount, dateAt};
-ghost use Rattle.calendar.specs.Answers.{dayNumberSaid, dateSaid};
+ghost use Rattle.calendar.specs.Answers.{dayNumberSaid, dateSaid, monthCount, monthAt, monthSaid};
 use octets::LAST_YEAR;
 
 pub struct Date {
@@ -28,6 +28,18 @@ pub enum DayNumber {
 // The date of a day number, or that the number lies past the last day.
 pub enum DateAt {
     On(Date),
+    Past,
+}
+
+// A month: the number of its first day, and how many days it has.
+pub struct Month {
+    pub first: u32,
+    pub days: u32,
+}
+
+// A month by its number, or that the number lies past the last month.
+pub enum MonthAt {
+    Is(Month),
     Past,
 }
 
@@ -87,6 +99,31 @@ impl Date {
             year: 100 * c + e + k / 10 - 400,
             month: (k + 2) % 12 + 1,
             day: t - (153 * k + 2) / 5 + 1,
+        })
+    }
+}
+
+impl Month {
+    // The month so many months behind 0000-01.
+    pub fn at(n: u64) -> MonthAt
+        ensures { λ r. ⌜ monthSaid r ≡ when (ltb n monthCount) (monthAt n) ⌝ }
+    {
+        if (YEARS as u64) * 12 <= n {
+            return MonthAt::Past;
+        }
+        let year = (n / 12) as u32;
+        let month = (n % 12) as u32 + 1;
+        let date = Date {
+            year: year,
+            month: month,
+            day: 1,
+        };
+        let DayNumber::Day(first) = date.day_number() else {
+            return MonthAt::Past;
+        };
+        MonthAt::Is(Month {
+            first: first,
+            days: month_days(year, month),
         })
     }
 }

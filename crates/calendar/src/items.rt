@@ -74,7 +74,7 @@ fn is_number(s: &[u8], b: Bounds) -> bool
 }
 
 // Where a weekday's two letters begin.
-fn day_from(s: &[u8]) -> usize
+pub(crate) fn day_from(s: &[u8]) -> usize
     ensures { λ r. ⌜ r ≡ length (now (s .entry)) - 2 ⌝ }
 {
     if s.len() < 2 { 0 } else { s.len() - 2 }

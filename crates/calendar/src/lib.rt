@@ -1,4 +1,5 @@
 // Dates, moments, durations and recurrence rules.
+pub mod by_days;
 pub mod dates;
 pub mod durations;
 pub mod items;

@@ -6,10 +6,14 @@ ghost use lib.Dec.{eqb};
 ghost use Rattle.octets.specs.Basics.{pick};
 ghost use Rattle.octets.specs.Optional.{isSome};
 ghost use Rattle.octets.specs.Classes.{upper};
+ghost use Rattle.octets.specs.Pieces.{split};
 ghost use Rattle.calendar.specs.Recurrence.{partsOf};
-ghost use Rattle.calendar.specs.Rules.{frequencyOf, weekdayOf, readRule, ruleSaid};
+ghost use Rattle.calendar.specs.Rules.{frequencyOf, weekdayOf, withDay, withMonthDay, gathered, readRule, ruleSaid};
 ghost use Rattle.calendar.specs.declared.rules.End.the-variants.{Count};
 ghost use Rattle.calendar.specs.Reading.{counted, lastOf, withPart, barred, mayFollow, bySeen, ruleRead};
+use crate::by_days::ByDays;
+use crate::by_days::no_days;
+use crate::by_days::with_values;
 use crate::items::values_stand;
 use crate::moments::Moment;
 use crate::moments::MomentRead;
@@ -67,6 +71,7 @@ pub struct Rule {
     pub end: End,
     pub wkst: Weekday,
     pub by: ByParts,
+    pub days: ByDays,
 }
 
 pub enum RuleRead {
@@ -74,12 +79,13 @@ pub enum RuleRead {
     NoRule,
 }
 
-// A rule while its parts are read, but for the BY parts.
+// A rule while its parts are read, but for which BY parts there are.
 struct RuleHead {
     frequency: Frequency,
     interval: u32,
     end: End,
     wkst: Weekday,
+    days: ByDays,
 }
 
 // The frequency that a name says; a name that is none is read as YEARLY.
@@ -125,7 +131,7 @@ fn weekday_named(a: u8, b: u8) -> Weekday
 }
 
 // The weekday that a name says, letters in either case.
-fn weekday_of(s: &[u8]) -> Weekday
+pub(crate) fn weekday_of(s: &[u8]) -> Weekday
     ensures { λ r. ⌜ r ≡ weekdayOf (upper (now (s .entry))) ⌝ }
 {
     if s.len() != 2 {
@@ -160,6 +166,17 @@ fn end_with(end: End, key: usize, v: &[u8]) -> End
     }
 }
 
+// The days that a rule's BY parts name once the part with the key at a place and its values is read.
+fn days_with(days: ByDays, key: usize, v: &[u8]) -> ByDays
+    ensures { λ r. ⌜ r ≡ pick (eqb key 7) (gathered withDay days (split 44 (now (v .entry)))) (pick (eqb key 8) (gathered withMonthDay days (split 44 (now (v .entry)))) days) ⌝ }
+{
+    match key {
+        7 => with_values(days, true, v),
+        8 => with_values(days, false, v),
+        _ => days,
+    }
+}
+
 // One part more, with the key at a place and its value.
 fn with_value(head: RuleHead, key: usize, v: &[u8]) -> RuleHead
     ensures { λ r. ⌜ r ≡ withPart head key (now (v .entry)) ⌝ }
@@ -167,30 +184,35 @@ fn with_value(head: RuleHead, key: usize, v: &[u8]) -> RuleHead
     let frequency = head.frequency;
     let end = head.end;
     let wkst = head.wkst;
+    let days = head.days;
     match key {
         0 => RuleHead {
             frequency: frequency_of(v),
             interval: head.interval,
             end: end,
             wkst: wkst,
+            days: days,
         },
         3 => RuleHead {
             frequency: frequency,
             interval: count_of(v),
             end: end,
             wkst: wkst,
+            days: days,
         },
         13 => RuleHead {
             frequency: frequency,
             interval: head.interval,
             end: end,
             wkst: weekday_of(v),
+            days: days,
         },
         _ => RuleHead {
             frequency: frequency,
             interval: head.interval,
-            end: end_with(end, key, v),
+            end: end_with(end, key, &*v),
             wkst: wkst,
+            days: days_with(days, key, v),
         },
     }
 }
@@ -250,12 +272,14 @@ fn rule_of(head: RuleHead, seen: [bool; 14]) -> RuleRead
     let end = head.end;
     let wkst = head.wkst;
     let by = by_seen(seen);
+    let days = head.days;
     RuleRead::Is(Rule {
         frequency: frequency,
         interval: head.interval,
         end: end,
         wkst: wkst,
         by: by,
+        days: days,
     })
 }
 
@@ -268,6 +292,7 @@ pub fn read_rule(s: &[u8]) -> RuleRead
         interval: 1,
         end: End::Open,
         wkst: Weekday::Monday,
+        days: no_days(),
     };
     let mut seen = [false; 14];
     let mut at = 0;

@@ -66,4 +66,5 @@ fn main() {
     run_file(b"values/cases", Layer::Values);
     run_file(b"values/vectors", Layer::Values);
     run_file(b"stops/index", Layer::Stops);
+    run_file(b"weekly_monthly/index", Layer::Stops);
 }

@@ -1,5 +1,5 @@
 -- A list that is filled from the front: of `all` that is to be stored `rest` is left, and i places are done.
-use Prim.Native.Nat.{ℕ, _+_, _≤_, _<_}
+use Prim.Native.Nat.{ℕ, _+_, _-_, _≤_, _<_}
 use mathlib.Core.Path.{_≡_, refl, sym, ap, subst, _∙_}
 use mathlib.Core.Bool.{true, false}
 use mathlib.Core.List.{List, [], _∷_, _++_, append-assoc, append-nil}
@@ -9,8 +9,8 @@ use lib.ListN.{length, take, drop, set, length-set, take-append-drop}
 use lib.Seq.{take-suc-set, drop-set-lt, length-take-le, drop-drop}
 use Rattle.stop_list.specs.declared.Stop.{Stop}
 use Rattle.stop_list.specs.declared.runs.Run.{Run}
-use Rattle.stop_list.specs.Runs.{nextRun, stopsOf, Sound, Begins, StopsLaid}
-use Rattle.stop_list.proofs.RunStops.{next-at, next-sound, next-stops, ended-stops}
+use Rattle.stop_list.specs.Runs.{stopsOf, Sound, Advances, Begins, StopsLaid}
+use Rattle.stop_list.proofs.RunStops.{ended-stops}
 
 pub record Filling {A : Type 0} (all rest old new : List A) (i : ℕ) : Type 0 where
   pub within : i ≤ length old
@@ -43,31 +43,33 @@ module _ {A : Type 0} (all old : List A) where
 -- The loop that lists a run: it is at `run`, and the list is `new`.
 pub record Going (first : Run) (old : List Stop) (run : Run) (new : List Stop) : Type 0 where
   pub sound : Sound run
-  pub room : run .room ≡ length old
+  pub room : run .room ≤ length old
   pub long : length new ≡ length old
   pub filling : Filling (stopsOf first) (stopsOf run) old new (run .at)
 
 module _ (first : Run) (old : List Stop) where
   pub starts : Begins first (length old) → Going first old first old
-  starts b = record { sound = b .sound; room = b .whole; long = refl; filling = subst (λ n. Filling (stopsOf first) (stopsOf first) old old n) (sym (b .front)) (begins (stopsOf first) old) }
+  starts b = record { sound = b .sound; room = b .fits; long = refl; filling = subst (λ n. Filling (stopsOf first) (stopsOf first) old old n) (sym (b .front)) (begins (stopsOf first) old) }
 
   module _ (run : Run) (new : List Stop) (g : Going first old run new) where
     pub at-place : run .more ≡ true → run .at < length new
-    at-place b = let l = g .sound .fits b in let r = g .room in let n = g .long in omega arith
+    at-place b = let l = g .sound b .fits in let r = g .room in let n = g .long in omega arith
 
-    pub goes-on : run .more ≡ true → Going first old (nextRun run) (set new (run .at) (run .stop))
-    goes-on b =
-        let a = next-at run (g .sound) b in
-        let l = g .sound .fits b in
+    pub goes-on : (next : Run) → run .more ≡ true → Advances run next → Going first old next (set new (run .at) (run .stop))
+    goes-on next b a =
+        let l = g .sound b .fits in
         let r = g .room in
         record {
-          sound = next-sound run (g .sound) b;
-          room = a .1 ∙ g .room;
+          sound = a .sound;
+          room = rw (a .room) r;
           long = length-set new (run .at) (run .stop) ∙ g .long;
           filling =
-              subst (λ n. Filling (stopsOf first) (stopsOf (nextRun run)) old (set new (run .at) (run .stop)) n) (sym (a .0))
-              (turns (stopsOf first) old (stopsOf (nextRun run)) new (run .stop) (run .at) (omega arith) (rw (next-stops run (g .sound) b) at (g .filling)));
+              subst (λ n. Filling (stopsOf first) (stopsOf next) old (set new (run .at) (run .stop)) n) (sym (a .number))
+              (turns (stopsOf first) old (stopsOf next) new (run .stop) (run .at) (omega arith) (rw (a .stops) at (g .filling)));
         }
+
+    pub nearer : (next : Run) → run .more ≡ true → Advances run next → length old - next .at < length old - run .at
+    nearer next b a = rw (a .number) (let l = at-place b in let n = g .long in omega arith)
 
     pub stops : run .more ≡ false → StopsLaid (stopsOf first) old new (run .at)
     stops b =

@@ -1,4 +1,3 @@
-pub mod Seconds
 pub mod RunStops
 pub mod Filling
 pub mod Ends

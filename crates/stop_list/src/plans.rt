@@ -1,12 +1,17 @@
 // What a start and a rule come to: why they are refused, or a run of stops.
 ghost use mathlib.Core.Path.{_≡_};
+ghost use mathlib.Core.Bool.{not};
+ghost use lib.Dec.{eqb};
+ghost use Rattle.octets.specs.Basics.{_and_, _or_};
 ghost use Rattle.calendar.specs.Moments.{kindPlace, sameKind};
-ghost use Rattle.stop_list.specs.Stops.{hoursOf, frequencyServed, hasBy, endServed, served};
-ghost use Rattle.stop_list.specs.Plans.{refusedFor, planOf, concluded};
+ghost use Rattle.stop_list.specs.Stops.{frequencyServed, otherBy, daysServed, endServed, served};
+ghost use Rattle.recurrence_set.specs.Searches.{roomOf};
+ghost use Rattle.stop_list.specs.Plans.{concluded, RefusedFor, Plans};
 use crate::Listed;
-use crate::Stop;
 use crate::runs::Run;
-use crate::runs::run_at;
+use crate::runs::run_ended;
+use crate::runs::run_from;
+use calendar::by_days::ByDays;
 use calendar::moments::Kind;
 use calendar::moments::MomentRead;
 use calendar::moments::read_moment;
@@ -17,6 +22,8 @@ use calendar::rules::Rule;
 use calendar::rules::RuleRead;
 use calendar::rules::read_rule;
 use octets::Refusal;
+use recurrence_set::Series;
+use recurrence_set::series_of;
 
 pub struct Plan {
     pub listed: Listed,
@@ -39,22 +46,7 @@ fn same_kind(a: Kind, b: Kind) -> bool
     kind_place(a) == kind_place(b)
 }
 
-// The hours from one moment to the next.
-fn hours_of(f: Frequency, interval: u32) -> u64
-    ensures { λ r. ⌜ r ≡ hoursOf f interval ⌝ }
-{
-    match f {
-        Frequency::Secondly => 0,
-        Frequency::Minutely => 0,
-        Frequency::Hourly => interval as u64,
-        Frequency::Daily => (interval as u64) * 24,
-        Frequency::Weekly => 0,
-        Frequency::Monthly => 0,
-        Frequency::Yearly => 0,
-    }
-}
-
-// The frequency is HOURLY or DAILY, and not HOURLY from a date.
+// The frequency is HOURLY, DAILY, WEEKLY or MONTHLY, and not HOURLY from a date.
 fn is_frequency_served(f: Frequency, k: Kind) -> bool
     ensures { λ r. ⌜ r ≡ frequencyServed f k ⌝ }
 {
@@ -63,15 +55,15 @@ fn is_frequency_served(f: Frequency, k: Kind) -> bool
         Frequency::Minutely => false,
         Frequency::Hourly => !same_kind(k, Kind::Day),
         Frequency::Daily => true,
-        Frequency::Weekly => false,
-        Frequency::Monthly => false,
+        Frequency::Weekly => true,
+        Frequency::Monthly => true,
         Frequency::Yearly => false,
     }
 }
 
-// There is a BY part.
-fn has_by(by: ByParts) -> bool
-    ensures { λ r. ⌜ r ≡ hasBy by ⌝ }
+// There is a BY part other than BYDAY and BYMONTHDAY.
+fn has_other_by(by: ByParts) -> bool
+    ensures { λ r. ⌜ r ≡ otherBy by ⌝ }
 {
     if by.second {
         return true;
@@ -80,12 +72,6 @@ fn has_by(by: ByParts) -> bool
         return true;
     }
     if by.hour {
-        return true;
-    }
-    if by.day {
-        return true;
-    }
-    if by.monthday {
         return true;
     }
     if by.yearday {
@@ -98,6 +84,54 @@ fn has_by(by: ByParts) -> bool
         return true;
     }
     by.setpos
+}
+
+// There is neither a BYDAY nor a BYMONTHDAY.
+fn has_no_days(by: ByParts) -> bool
+    ensures { λ r. ⌜ r ≡ not (by .day or by .monthday) ⌝ }
+{
+    if by.day {
+        return false;
+    }
+    !by.monthday
+}
+
+// There is no BYMONTHDAY, and no number in BYDAY.
+fn has_weekdays_only(by: ByParts, days: ByDays) -> bool
+    ensures { λ r. ⌜ r ≡ (not (by .monthday) and eqb (days .ordinals) 0 and eqb (days .lastordinals) 0) ⌝ }
+{
+    if by.monthday {
+        return false;
+    }
+    if days.ordinals != 0 {
+        return false;
+    }
+    days.lastordinals == 0
+}
+
+// There are not both a BYDAY and a BYMONTHDAY.
+fn has_one_of_days(by: ByParts) -> bool
+    ensures { λ r. ⌜ r ≡ not (by .day and by .monthday) ⌝ }
+{
+    if by.day {
+        return !by.monthday;
+    }
+    true
+}
+
+// The BYDAY and BYMONTHDAY that there are, or none, are served.
+fn are_days_served(f: Frequency, by: ByParts, days: ByDays) -> bool
+    ensures { λ r. ⌜ r ≡ daysServed f by days ⌝ }
+{
+    match f {
+        Frequency::Secondly => false,
+        Frequency::Minutely => false,
+        Frequency::Hourly => has_no_days(by),
+        Frequency::Daily => has_no_days(by),
+        Frequency::Weekly => has_weekdays_only(by, days),
+        Frequency::Monthly => has_one_of_days(by),
+        Frequency::Yearly => false,
+    }
 }
 
 // An UNTIL is of the start's kind, and its second is not 60.
@@ -123,29 +157,41 @@ fn is_served(rule: Rule, k: Kind) -> bool
 {
     let f = rule.frequency;
     let by = rule.by;
+    let days = rule.days;
     let end = rule.end;
     if !is_frequency_served(f, k) {
         return false;
     }
-    if has_by(by) {
+    if has_other_by(by) {
+        return false;
+    }
+    if !are_days_served(f, by, days) {
         return false;
     }
     is_end_served(end, k)
 }
 
-// A refusal: a run with no stop.
-fn refused(why: Refusal, room: usize) -> Plan
-    ensures { λ r. ⌜ r ≡ refusedFor why room ⌝ }
+// How many moments a rule's COUNT and the room leave.
+fn room_of(end: End, room: usize) -> usize
+    ensures { λ r. ⌜ r ≡ roomOf end room ⌝ }
 {
-    let stop = Stop::FIRST;
-    let run = Run {
-        more: false,
-        at: 0,
-        room: room,
-        stop: stop,
-        hours: 0,
-        end: End::Open,
-    };
+    match end {
+        End::Count(n) => {
+            if (n as usize) < room {
+                return n as usize;
+            }
+            room
+        }
+        End::Until(_) => room,
+        End::Open => room,
+    }
+}
+
+// A refusal: a run with no stop.
+fn refused(why: Refusal) -> Plan
+    ensures { λ r. ⌜ RefusedFor why r ⌝ }
+{
+    let run = run_ended(Series::EMPTY, 0, 0);
     Plan {
         listed: Listed::Refused(why),
         run: run,
@@ -154,25 +200,24 @@ fn refused(why: Refusal, room: usize) -> Plan
 
 // The plan of a start and a rule, for a list of so many records.
 pub fn make_plan(start: &[u8], rule: &[u8], room: usize) -> Plan
-    ensures { λ r. ⌜ r ≡ planOf (now (start .entry)) (now (rule .entry)) room ⌝ }
+    ensures { λ r. ⌜ Plans (now (start .entry)) (now (rule .entry)) room r ⌝ }
 {
     let MomentRead::Is(m) = read_moment(start) else {
-        return refused(Refusal::BadStart, room);
+        return refused(Refusal::BadStart);
     };
     if m.second == 60 {
-        return refused(Refusal::BadStart, room);
+        return refused(Refusal::BadStart);
     }
     let RuleRead::Is(r) = read_rule(rule) else {
-        return refused(Refusal::BadRule, room);
+        return refused(Refusal::BadRule);
     };
     let kind = m.kind;
     if !is_served(r, kind) {
-        return refused(Refusal::NotServed, room);
+        return refused(Refusal::NotServed);
     }
-    let f = r.frequency;
     let end = r.end;
-    let stop = Stop { moment: m };
-    let run = run_at(0, room, stop, hours_of(f, r.interval), end);
+    let series = series_of(m, r);
+    let run = run_from(series, 0, room_of(end, room), series.place);
     Plan {
         listed: Listed::Stops(0),
         run: run,

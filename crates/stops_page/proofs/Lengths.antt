@@ -7,7 +7,7 @@ use mathlib.Core.List.{List, [], _∷_, map}
 use mathlib.Core.Option.{Option, none, some}
 use native.Mathlib.Omega.{arith}
 use lib.Dec.{eqb, leb}
-use lib.ListN.{length, length-append, length-map}
+use lib.ListN.{length, take, length-append, length-map, length-take}
 use Rattle.octets.specs.Basics.{octets}
 use Rattle.octets.specs.Pieces.{split}
 use Rattle.octets.specs.Optional.{given, guard}
@@ -18,15 +18,15 @@ use Rattle.octets.specs.Answers.{Answer, refused, accepted, then, orElse, unles
 use Rattle.octets.proofs.Cases.{cases}
 use Rattle.octets.proofs.Decimal.{figures-length, trim-length}
 use Rattle.octets.proofs.Pen.{landed}
-use Rattle.calendar.specs.Moments.{readMoment, moved}
+use Rattle.calendar.specs.Moments.{readMoment}
 use Rattle.calendar.specs.Rules.{readRule}
 use Rattle.calendar.specs.declared.moments.Kind.{Kind}
 use Rattle.calendar.specs.declared.moments.Kind.the-variants.{Day, Local, Utc}
 use Rattle.calendar.specs.declared.moments.Moment.{Moment}
-use Rattle.calendar.specs.declared.rules.End.{End}
 use Rattle.calendar.specs.declared.rules.Rule.{Rule}
+use Rattle.recurrence_set.specs.Meets.{listed}
 use Rattle.stop_list.specs.declared.Stop.{Stop}
-use Rattle.stop_list.specs.Stops.{startOf, hoursOf, served, allows, oneLess, momentsFrom, stop, listOf}
+use Rattle.stop_list.specs.Stops.{startOf, served, stop, listOf}
 use Rattle.stops_page.specs.Printing.{threeShown, dateShown, clockShown, timeShown, momentShown, stopShown, stopsShown, headShown, answerShown, badInput, mostOf, shownFor, inputLines, linesShown, printed}
 use Rattle.stops_page.proofs.Answers.{most-bound}
 
@@ -63,13 +63,9 @@ unfolding headShown
 head-short word n = rw (length-append, length-append) (let d = decimal-short n in omega arith)
 
 -- not more moments than there is room for
-moments-short : (n h : ℕ) (e : End) (o : Option Moment) → length (momentsFrom n h e o) ≤ n
-unfolding momentsFrom
-moments-short zero h e o = omega arith
-moments-short (suc n) h e none = omega arith
-moments-short (suc n) h e (some m) = cases (allows e m)
-    (λ b. rw b (let k = moments-short n h (oneLess e) (moved m h) in omega arith))
-    (λ b. rw b (omega arith))
+listed-short : (r : Rule) (m : Moment) (n : ℕ) → length (listed r m n) ≤ n
+unfolding listed
+listed-short r m n = rw length-take (omega arith)
 
 abbrev short : Answer (List Stop) → Type 0
 short a = length (answerShown a) ≤ 2715
@@ -86,11 +82,11 @@ list-short : (start rule : List ℕ) (n : ℕ) → n ≤ 64 → short (listOf st
 unfolding listOf startOf
 list-short start rule n k = by (guard (λ (m : Moment). not (eqb (m .second) 60)) (readMoment start)) (readRule rule)
   where
-    served-short : (b : Bool) (m : Moment) (r : Rule) → short (unless 15 b (λ u. accepted (map stop (momentsFrom n (hoursOf (r .frequency) (r .interval)) (r .end) (some m)))))
-    served-short true m r = unfold unless in accepted-short _ (let h = moments-short n (hoursOf (r .frequency) (r .interval)) (r .end) (some m) in rw length-map (omega arith))
+    served-short : (b : Bool) (m : Moment) (r : Rule) → short (unless 15 b (λ u. accepted (map stop (listed r m n))))
+    served-short true m r = unfold unless in accepted-short _ (let h = listed-short r m n in rw length-map (omega arith))
     served-short false m r = unfold unless in refused-short 15
 
-    by : (o : Option Moment) (q : Option Rule) → short (then (orElse 13 o) (λ m. then (orElse 14 q) (λ r. unless 15 (served r (m .kind)) (λ u. accepted (map stop (momentsFrom n (hoursOf (r .frequency) (r .interval)) (r .end) (some m)))))))
+    by : (o : Option Moment) (q : Option Rule) → short (then (orElse 13 o) (λ m. then (orElse 14 q) (λ r. unless 15 (served r (m .kind)) (λ u. accepted (map stop (listed r m n))))))
     by none q = unfold then orElse in refused-short 13
     by (some m) none = unfold then orElse in refused-short 14
     by (some m) (some r) = unfold then orElse in served-short (served r (m .kind)) m r

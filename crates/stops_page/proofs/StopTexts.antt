@@ -1,7 +1,7 @@
 -- Stops as they are printed, one after the other as a run has them, and a moment by the front of its text.
 use Prim.Native.Nat.{ℕ, suc, _+_, _-_, _≤_, _<_}
 use mathlib.Core.Path.{_≡_, refl, sym, ap, _∙_}
-use mathlib.Core.Bool.{true, false}
+use mathlib.Core.Bool.{false}
 use mathlib.Core.List.{List, [], _++_}
 use native.Mathlib.Omega.{arith}
 use native.Mathlib.Nat.{sub-zero}
@@ -14,8 +14,8 @@ use Rattle.calendar.specs.declared.moments.Kind.the-variants.{Day, Local, Utc}
 use Rattle.calendar.specs.declared.moments.Moment.{Moment}
 use Rattle.stop_list.specs.declared.Stop.{Stop}
 use Rattle.stop_list.specs.declared.runs.Run.{Run}
-use Rattle.stop_list.specs.Runs.{nextRun, advanced, stopsOf, Sound}
-use Rattle.stop_list.proofs.RunStops.{next-at, next-sound, next-stops, advances, ended-stops}
+use Rattle.stop_list.specs.Runs.{stopsOf, Advances}
+use Rattle.stop_list.proofs.RunStops.{ended-stops}
 use Rattle.stops_page.specs.Printing.{threeShown, dateShown, clockShown, timeShown, stopShown, stopsShown}
 use Rattle.stops_page.specs.Pages.{shownLength}
 
@@ -37,36 +37,18 @@ shown-short Local n e = omega arith
 shown-short Utc n e = omega arith
 
 -- for a turn: a run with a stop, and the run behind it
-module _ (r n : Run) (s : Sound r) (b : r .more ≡ true) (e : n ≡ advanced r) where
-  is-next : n ≡ nextRun r
-  is-next = e ∙ advances r s b
-
-  pub on-sound : Sound n
-  on-sound = rw is-next (next-sound r s b)
-
+module _ (r n : Run) (a : Advances r n) where
   pub on-length : length (stopsOf r) ≡ length (stopsOf n) + 1
-  on-length = rw (next-stops r s b, ← is-next) (sym (add-one (length (stopsOf n))))
-
-  on-at : n .at ≡ r .at + 1
-  on-at = ap (λ (x : Run). x .at) is-next ∙ next-at r s b .0
-
-  pub on-end : n .at + length (stopsOf n) ≡ r .at + length (stopsOf r)
-  on-end = let a = on-at in let l = on-length in omega arith
+  on-length = rw (a .stops) (sym (add-one (length (stopsOf n))))
 
   pub on-shown : stopsShown (r .at + 1) (stopsOf r) ≡ stopShown (r .at + 1) (r .stop) ++ stopsShown (n .at + 1) (stopsOf n)
   unfolding stopsShown
-  on-shown =
-      ap (stopsShown (r .at + 1)) (next-stops r s b)
-      ∙ ap (λ (x : Run). stopShown (r .at + 1) (r .stop) ++ stopsShown (suc (r .at + 1)) (stopsOf x)) (sym is-next)
-      ∙ ap (λ (i : ℕ). stopShown (r .at + 1) (r .stop) ++ stopsShown i (stopsOf n)) (sym (ap (λ (i : ℕ). i + 1) on-at ∙ add-one (r .at + 1)))
+  on-shown = rw (a .stops, a .number, add-one (r .at + 1))
 
 -- a run that has no stop
 pub end-shown : (r : Run) (i : ℕ) → r .more ≡ false → stopsShown i (stopsOf r) ≡ []
 unfolding stopsShown
 end-shown r i b = rw (ended-stops r b)
-
-pub end-at : (r : Run) → r .more ≡ false → r .at ≡ r .at + length (stopsOf r)
-end-at r b = rw (ended-stops r b) (omega arith)
 
 -- for a turn over a list: the next of its first n stops, and their end
 pub stops-on : (d : Stop) (l : List Stop) (n i : ℕ) → i < n → n ≤ length l

@@ -1,23 +1,15 @@
 -- The pieces of what is printed, as the code has them: a moment's front, the last line's number, and the lines.
-use Prim.Native.Nat.{ℕ, _-_, _*_, min}
+use Prim.Native.Nat.{ℕ}
 use Prim.Native.Char.{code}
 use mathlib.Core.Path.{_≡_}
-use mathlib.Core.Bool.{Bool, true, false}
 use mathlib.Core.List.{List, _∷_}
 use mathlib.Core.Option.{Option, none, some}
-use lib.Dec.{leb}
 use lib.ListN.{take, drop}
-use Rattle.octets.specs.Basics.{_and_}
 use Rattle.octets.specs.Pieces.{split}
-use Rattle.calendar.specs.declared.rules.End.{End}
-use Rattle.calendar.specs.declared.rules.End.the-variants.{Count, Until, Open}
 use Rattle.calendar.specs.declared.moments.Kind.{Kind}
 use Rattle.calendar.specs.declared.moments.Kind.the-variants.{Day, Local, Utc}
 use Rattle.stop_list.specs.declared.Stop.{Stop}
-use Rattle.stop_list.specs.declared.StopMoved.{StopMoved}
-use Rattle.stop_list.specs.declared.StopMoved.the-variants.{At, Past, NoMoment}
 use Rattle.stop_list.specs.Stops.{listOf, listAnswer, listOutcome}
-use Rattle.stop_list.specs.Runs.{stopOn}
 use Rattle.stops_page.specs.declared.Most.{Most}
 use Rattle.stops_page.specs.declared.Most.the-variants.{Is, NoNumber}
 use Rattle.stops_page.specs.declared.Page.{Page}
@@ -28,22 +20,6 @@ unfoldable pub shownLength : Kind → ℕ
 shownLength Day = 10
 shownLength Local = 19
 shownLength Utc = 20
-
--- how many stops a COUNT and the room leave; 0 where UNTIL ends them
-unfoldable pub allowedBy : End → ℕ → ℕ
-allowedBy (Count n) room = min n room
-allowedBy (Until u) room = 0
-allowedBy Open room = room
-
--- a stop that is moved on is there
-abbrev pub isThere : StopMoved → Bool
-isThere (At s) = true
-isThere Past = false
-isThere NoMoment = false
-
--- the last of n stops, h hours apart, is not past the last day; asked of numbers whose product is a word
-unfoldable pub reached : Stop → ℕ → ℕ → Bool
-reached s h n = leb 1 n and leb n 100000000 and leb h 100000000 and isThere (stopOn s ((n - 1) * h))
 
 -- what a read number says
 abbrev pub mostSaid : Most → Option ℕ

@@ -1,18 +1,21 @@
 // What `stops` prints: its three lines of input, and the stops that they ask for.
 ghost use mathlib.Core.Path.{_≡_};
 ghost use mathlib.Core.List.{_++_};
-ghost use Prim.Native.Nat.{_+_, _%_, _≤_};
+ghost use Prim.Native.Nat.{_+_, _-_, _/_, _%_, _≤_, _<_, min};
 ghost use lib.ListN.{length, take};
 ghost use Rattle.octets.specs.Pen.{pen, Wrote};
 ghost use Rattle.calendar.specs.declared.moments.Kind.the-variants.{Utc};
 ghost use Rattle.stop_list.specs.Stops.{listOf};
-ghost use Rattle.stop_list.specs.Runs.{stopsOf, Sound, Begins};
+ghost use Rattle.recurrence_set.specs.Lists.{due};
+ghost use Rattle.recurrence_set.specs.Searches.{meetsAt, Founded};
+ghost use Rattle.stop_list.specs.Runs.{stopsOf, Sound};
 ghost use Rattle.stops_page.specs.Printing.{dateShown, timeShown, stopShown, stopsShown, badInput, headShown, answerShown, mostOf, shownFor, chop, printed};
-ghost use Rattle.stops_page.specs.Pages.{shownLength, allowedBy, reached, mostSaid, Lists, thirdShown};
+ghost use Rattle.stops_page.specs.Pages.{shownLength, mostSaid, Lists, thirdShown};
 use calendar::moments::Kind;
 use calendar::moments::Moment;
 use calendar::parts::find;
-use calendar::rules::End;
+use calendar::rules::Frequency;
+use calendar::rules::Rule;
 use octets::MOST_TEXT;
 use octets::all_digits;
 use octets::leading_zeros;
@@ -20,9 +23,10 @@ use octets::put;
 use octets::put_all;
 use octets::put_decimal;
 use octets::value_of;
+use recurrence_set::Series;
+use recurrence_set::first_from;
 use stop_list::Listed;
 use stop_list::Stop;
-use stop_list::StopMoved;
 use stop_list::list_stops;
 use stop_list::plans::make_plan;
 use stop_list::runs::Run;
@@ -103,70 +107,57 @@ fn put_stop(out: &mut [u8], at: usize, i: usize, s: Stop) -> usize
     put(out, c, b'\n')
 }
 
-// How many stops a rule's COUNT and the room leave, or 0 where UNTIL ends it.
-fn allowed(end: End, room: usize) -> usize
-    ensures { λ r. ⌜ r ≡ allowedBy end room ⌝ }
+// How many of every so many places there are, from one on that is one of them, and not more than `most`.
+fn count_every(rule: Rule, here: u32, places: u32, most: usize) -> usize
+    requires { ⌜ (1 ≤ rule .interval) × (here < places) ⌝ }
+    ensures { λ r. ⌜ r ≡ min most ((places - here - 1) / rule .interval + 1) ⌝ }
 {
-    match end {
-        End::Count(n) => {
-            if (n as usize) < room {
-                return n as usize;
-            }
-            room
+    let n = ((places - here - 1) / rule.interval) as usize + 1;
+    if n < most {
+        return n;
+    }
+    most
+}
+
+// How many places of a series meet its rule, from one on that does, and not more than `most`, by a walk.
+fn count_walked(series: Series, from: u32, most: usize) -> usize
+    requires { ⌜ Founded series × (series .place ≤ from) ⌝ }
+    ensures { λ r. ⌜ r ≡ length (take most (due (meetsAt series) (series .places) from)) ⌝ }
+{
+    let mut n = 0;
+    let mut at = from;
+    while n < most {
+        let here = first_from(series, at);
+        if series.places as u64 <= here {
+            return n;
         }
-        End::Until(_) => 0,
-        End::Open => room,
+        n += 1;
+        at = here as u32 + 1;
     }
+    n
 }
 
-// The last of n stops so many hours apart is reached before the last day is past.
-fn is_reached(stop: Stop, hours: u64, n: usize) -> bool
-    ensures { λ r. ⌜ r ≡ reached stop hours n ⌝ }
-{
-    if n == 0 {
-        return false;
-    }
-    if 100000000 < n {
-        return false;
-    }
-    if 100000000 < hours {
-        return false;
-    }
-    let last = (n - 1) as u64;
-    match stop.moved(last * hours) {
-        StopMoved::At(_) => true,
-        StopMoved::Past => false,
-        StopMoved::NoMoment => false,
-    }
-}
-
-// The place behind the last stop of a run, by a walk.
-fn walked(first: Run) -> usize
-    requires { ⌜ Sound first ⌝ }
-    ensures { λ r. ⌜ r ≡ first .at + length (stopsOf first) ⌝ }
-{
-    let mut run = first;
-    while run.more {
-        run = advance(run);
-    }
-    run.at
-}
-
-// How many stops a run has, from its first on.
+// How many stops a run has.
 fn count_of(run: Run) -> usize
-    requires { ⌜ Begins run (run .room) ⌝ }
+    requires { ⌜ Sound run ⌝ }
     ensures { λ r. ⌜ r ≡ length (stopsOf run) ⌝ }
 {
     if !run.more {
         return 0;
     }
-    let stop = run.stop;
-    let end = run.end;
-    let n = allowed(end, run.room);
-    if is_reached(stop, run.hours, n) {
-        return n;
+    let series = run.series;
+    let rule = series.rule;
+    let f = rule.frequency;
+    let most = run.room - run.at;
+    match f {
+        Frequency::Secondly => count_walked(series, run.here, most),
+        Frequency::Minutely => count_walked(series, run.here, most),
+        Frequency::Hourly => count_every(rule, run.here, series.places, most),
+        Frequency::Daily => count_every(rule, run.here, series.places, most),
+        Frequency::Weekly => count_walked(series, run.here, most),
+        Frequency::Monthly => count_walked(series, run.here, most),
+        Frequency::Yearly => count_walked(series, run.here, most),
     }
-    walked(run)
 }
 
 // Writes the stops of a run.

@@ -47,10 +47,9 @@ use denote.Triple.Walked.{says, needs, Stays, stay-slice, stay-none, walkOf, goe
 use denote.Exit.{yes as kept}
 use Rattle.stop_list.specs.declared.Stop.{Stop}
 use Rattle.stop_list.specs.declared.runs.Run.{Run}
-use Rattle.stop_list.specs.Runs.{nextRun, advanced, stopsOf, Begins, StopsLaid}
+use Rattle.stop_list.specs.Runs.{stopsOf, Live, Advances, Begins, StopsLaid}
 use Rattle.stop_list.proofs.LentSlices.{LentAgain, lends-again, comes-back}
-use Rattle.stop_list.proofs.RunStops.{next-at, advances}
-use Rattle.stop_list.proofs.Filling.{Going, starts, at-place, goes-on, stops}
+use Rattle.stop_list.proofs.Filling.{Going, starts, at-place, goes-on, nearer, stops}
 use Rattle.stop_list.proofs.Stop as T
 use Rattle.stop_list.proofs.Stop.Laws as T′
 use Rattle.stop_list.proofs.runs.Run as U
@@ -95,8 +94,8 @@ module _ {M : Type 1} (𝓤 : URA M) (H : Heap 𝓤) (A : Atoms 𝓤) (mem : Mem
   abbrev AdvanceC : Contract 𝓤
   AdvanceC = tripleOf 𝓤 H A advance′.signature (advance′.spec 𝓤 H A mem run)
 
-  advance-of : (s r : Run) → ent 𝓤 (ensured 𝓤 H A advance′.ended (advance′.clauses 𝓤 H A mem run) tt (s, tt) tt r) (fact 𝓤 (r ≡ advanced s))
-  advance-of s r = exE 𝓤 _ (λ ws. snd∗ 𝓤 (sem 𝓤 H A (lasts advance′.ended tt (s, tt) ws)) (fact 𝓤 (r ≡ advanced s)))
+  advance-of : (s r : Run) → ent 𝓤 (ensured 𝓤 H A advance′.ended (advance′.clauses 𝓤 H A mem run) tt (s, tt) tt r) (fact 𝓤 (Live s → Advances s r))
+  advance-of s r = exE 𝓤 _ (λ ws. snd∗ 𝓤 (sem 𝓤 H A (lasts advance′.ended tt (s, tt) ws)) (fact 𝓤 (Live s → Advances s r)))
 
 module _ {M : Type 1} (𝓤 : URA M) (H : Heap 𝓤) (A : Atoms 𝓤) (W : Given 𝓤 H A) (mem : Memory → SProp 𝓤) (run : Routine → Fun 𝓤) (κ : Lft) (q : Share) (b o : ℕ) (γ : GName) (ys : List Stop) (f : Run)
     (room : Room R (length ys)) (f-is : Is S f (machS f ∷ [])) where
@@ -149,9 +148,6 @@ module _ {M : Type 1} (𝓤 : URA M) (H : Heap 𝓤) (A : Atoms 𝓤) (W : Given
 
   Nearer-wf : WellFounded Nearer
   Nearer-wf = InvImage·wf (λ (u : X). length ys - u .0 .at) (Nat·lt-wfRel .wf)
-
-  nearer : (s : Run) (zs : List Stop) (g : Going f ys s zs) → s .more ≡ true → length ys - nextRun s .at < length ys - s .at
-  nearer s zs g more = rw (next-at s (g .sound) more .0) (let l = at-place f ys s zs g more in let n = g .long in omega arith)
 
   module _ (s : Run) (zs : List Stop) (s-is : Is S s (machS s ∷ [])) (long : length zs ≡ length ys) (ν : ℕ) where
     -- the slice is lent again at the list zs, and comes back at the list us
@@ -219,7 +215,7 @@ module _ {M : Type 1} (𝓤 : URA M) (H : Heap 𝓤) (A : Atoms 𝓤) (W : Given
         let s-is = u .2 in
         let g = u .3 in
         let long = g .long in
-        assigns ! (of-opd ! (load ! (from ! (fld ! refl (stop !))) (look-in ! 10 (sub ! 0 refl (whole !))))) (from ! (stop !)) (init ! 8 refl (tt, tt)) $
+        assigns ! (of-opd ! (load ! (from ! (fld ! {τ = tyBool} {d = 0} refl (stop !))) (look-in ! 10 {τ = tyBool} (sub ! 0 {τ = tyBool} {d = 0} refl (whole !))))) (from ! (stop !)) (init ! 8 refl (tt, tt)) $
         rewrite ! 8 (λ (t : Bool). ‵ (fat fullShare tyBool l₄ 0 (vbool t))) is-more refl $
         stays ! (load ! (from ! (stop !)) (look ! 8 refl)) $
         assigns ! (addr ! (from ! (fld ! refl (hop ! (look-in ! 14 (sub ! 0 refl (whole !))) (stop !))))) (from ! (stop !)) (init ! 4 refl (tt, tt)) $
@@ -228,7 +224,7 @@ module _ {M : Type 1} (𝓤 : URA M) (H : Heap 𝓤) (A : Atoms 𝓤) (W : Given
         lft-new ! tt (λ ν. move ! (1 ∷ 2 ∷ []) $
         use2 W (later (some (λ (δ : GName). ‵ (MutSlice (named 0) (ν ∷ []) R .own (x δ zs) (sv ∷ [])) ⊛ ‵ (LentAgain R κ (ν ∷ []) q γ b o δ zs)))) (lend s zs s-is long ν) $ await ! tt $ pick ! (λ δ. split ! $
         move ! (2 ∷ 0 ∷ []) $ use2 W (raw (StoreC 𝓤 H A mem run .pre (to-store s zs s-is long ν δ))) (goes-store s zs s-is long ν δ (at-place f ys s zs g is-more)) $
-        calls-at ! fm (StoreC 𝓤 H A mem run) known-store (to-store s zs s-is long ν δ) (and-then ! (load ! (from ! (stop !)) (look ! 2 refl)) (and-then ! (load ! (from ! (fld ! refl (stop !))) (look-in ! 10 (sub ! 1 refl (whole !)))) (and-then ! (load ! (from ! (fld ! refl (stop !))) (look-in ! 10 (sub ! 3 refl (whole !)))) (no-more !)))) (λ w.
+        calls-at ! fm (StoreC 𝓤 H A mem run) known-store (to-store s zs s-is long ν δ) (and-then ! (load ! (from ! (stop !)) (look ! 2 refl)) (and-then ! (load ! (from ! (fld ! {τ = tyInt w64} {d = 8} refl (stop !))) (look-in ! 10 {τ = tyInt w64} (sub ! 1 {τ = tyInt w64} {d = 8} refl (whole !)))) (and-then ! (load ! (from ! (fld ! {τ = T′.mir} {d = 24} refl (stop !))) (look-in ! 10 {τ = T′.mir} (sub ! 3 {τ = T′.mir} {d = 24} refl (whole !)))) (no-more !)))) (λ w.
         use1 W (later (some (λ (r : Unit {0}). ((‵ (flft (ν ∷ []) fullShare) ⊛ ‵ ftrue) ⊛ ‵ (unit .own r (w ∷ []))) ⊛ raw (ensured 𝓤 H A store′.ended (store′.clauses 𝓤 H A mem run) (ν ∷ [], tt) (x δ zs, (s .at, (s .stop, tt))) tt r)))) (id⊢ 𝓤 _) $ await ! tt $ pick ! (λ r.
         split ! $ move ! (1 ∷ []) $ use1 W (some (λ (us : List Stop × (Unit {0} × (Unit {0} × Unit {0}))). ‵ (lasts store′.ended (ν ∷ [], tt) (x δ zs, (s .at, (s .stop, tt))) us) ⊛ raw (fact 𝓤 (us .0 ≡ set zs (s .at) (s .stop))))) (id⊢ 𝓤 _) $ pick ! (λ us.
         split ! $ move ! (1 ∷ []) $ heard ! (us .0 ≡ set zs (s .at) (s .stop)) (λ e. fsplit ! $ fsplit ! $ move ! (1 ∷ []) $ feqL ! (λ l.
@@ -241,24 +237,25 @@ module _ {M : Type 1} (𝓤 : URA M) (H : Heap 𝓤) (A : Atoms 𝓤) (W : Given
         owned ! S (Is S) (LL.makes U.the-type U′.the-plain 𝓤 H A) s _ s-is $ use1 W (raw (AdvanceC 𝓤 H A mem run .pre (to-advance s))) (goes-advance s) $
         calls-at-last ! fm (AdvanceC 𝓤 H A mem run) known-advance (to-advance s) (and-then ! (load ! (from ! (stop !)) (look ! 11 refl)) (no-more !)) (λ w′.
         use1 W (later (some (λ (r′ : Run). (‵ ftrue ⊛ ‵ (S .own r′ (w′ ∷ []))) ⊛ raw (ensured 𝓤 H A advance′.ended (advance′.clauses 𝓤 H A mem run) tt (s, tt) tt r′)))) (id⊢ 𝓤 _) $ await ! tt $ pick ! (λ r′.
-        split ! $ move ! (1 ∷ []) $ use1 W (raw (fact 𝓤 (r′ ≡ advanced s))) (advance-of 𝓤 H A mem run s r′) $ heard ! (r′ ≡ advanced s) (λ e′. split ! $ drop ! $
-        rewrite ! 0 (λ (h : Run). ‵ (S .own h (w′ ∷ []))) (e′ ∙ advances s (g .sound) is-more) refl $ peeks ! S (Is S) (shows 𝓤 H A S) (nextRun s) (w′ ∷ []) (λ is′.
-        let told = LL.tells U.the-type U′.the-laws (nextRun s) (w′ ∷ []) is′ in
-        let next-is : Is S (nextRun s) (machS (nextRun s) ∷ []) = subst (λ (vs : List Val). Is S (nextRun s) vs) told is′ in
-        land-last ! (from ! (stop !)) (store ! 11 refl (typed (nextRun s) w′ is′)) $
+        split ! $ move ! (1 ∷ []) $ use1 W (raw (fact 𝓤 (Live s → Advances s r′))) (advance-of 𝓤 H A mem run s r′) $ heard ! (Live s → Advances s r′) (λ e′. split ! $ drop ! $
+        peeks ! S (Is S) (shows 𝓤 H A S) r′ (w′ ∷ []) (λ is′.
+        let on = e′ (g .sound is-more) in
+        let told = LL.tells U.the-type U′.the-laws r′ (w′ ∷ []) is′ in
+        let next-is : Is S r′ (machS r′ ∷ []) = subst (λ (vs : List Val). Is S r′ vs) told is′ in
+        land-last ! (from ! (stop !)) (store ! 11 refl (typed r′ w′ is′)) $
         rewrite ! 11 (λ (v : Val). ‵ (fat fullShare U′.mir l₃ 0 v)) (ap only told) refl $ drop ! $
         forget ! 2 refl $ forget ! 4 refl $ forget ! 6 refl $ forget ! 8 refl $
-        again ! Nearer At u (nextRun s, set zs (s .at) (s .stop), next-is, goes-on f ys s zs g is-more) (nearer s zs g is-more)))))))))))))
+        again ! Nearer At u (r′, set zs (s .at) (s .stop), next-is, goes-on f ys s zs g r′ is-more on) (nearer f ys s zs g r′ is-more on)))))))))))))
 
     ends : (u : X) → u .0 .more ≡ false → Sq W (At u) (runs C Λ En code.Mir.turn-1 (anyQ (Turned u)))
     unfolding afterTurn
     ends u no-more′ =
         let s = u .0 in
         let n-fits = at-fits s (u .2) in
-        assigns ! (of-opd ! (load ! (from ! (fld ! refl (stop !))) (look-in ! 10 (sub ! 0 refl (whole !))))) (from ! (stop !)) (init ! 8 refl (tt, tt)) $
+        assigns ! (of-opd ! (load ! (from ! (fld ! {τ = tyBool} {d = 0} refl (stop !))) (look-in ! 10 {τ = tyBool} (sub ! 0 {τ = tyBool} {d = 0} refl (whole !))))) (from ! (stop !)) (init ! 8 refl (tt, tt)) $
         rewrite ! 8 (λ (t : Bool). ‵ (fat fullShare tyBool l₄ 0 (vbool t))) no-more′ refl $
         leaves-loop ! (load ! (from ! (stop !)) (look ! 8 refl)) $ exec ! C Λ En code.Mir.t-3 (atRet En Post) $
-        assigns ! (of-opd ! (load ! (from ! (fld ! refl (stop !))) (look-in ! 10 (sub ! 1 refl (whole !))))) (from ! (stop !)) (init ! 16 refl (tt, record { fits = n-fits })) $
+        assigns ! (of-opd ! (load ! (from ! (fld ! {τ = tyInt w64} {d = 8} refl (stop !))) (look-in ! 10 {τ = tyInt w64} (sub ! 1 {τ = tyInt w64} {d = 8} refl (whole !))))) (from ! (stop !)) (init ! 16 refl (tt, record { fits = n-fits })) $
         returns ! (look ! 16 refl) $ forget ! 8 refl $ forget ! 10 refl $ forget ! 12 refl $ forget ! 14 refl $ forget ! 16 refl $
         move ! (16 ∷ 17 ∷ []) $ free1 ! $ move ! (14 ∷ 15 ∷ []) $ free1 ! $ move ! (12 ∷ 13 ∷ []) $ free1 ! $ move ! (10 ∷ 11 ∷ []) $ free1 ! $
         move ! (8 ∷ 9 ∷ []) $ free1 ! $ move ! (6 ∷ 7 ∷ []) $ free1 ! $ move ! (4 ∷ 5 ∷ []) $ free1 ! $ move ! (2 ∷ 3 ∷ []) $ free1 ! $ free0 ! $

@@ -44,9 +44,9 @@ use Rattle.stop_list.specs.declared.Listed.{Listed}
 use Rattle.stop_list.specs.declared.runs.Run.{Run}
 use Rattle.stop_list.specs.declared.plans.Plan.{Plan}
 use Rattle.stop_list.specs.Stops.{listOf, listAnswer, listOutcome}
-use Rattle.stop_list.specs.Runs.{stopsOf, Begins, StopsLaid}
-use Rattle.stop_list.specs.Plans.{planOf, concluded}
-use Rattle.stop_list.proofs.PlanAnswers.{plan-begins, plan-lists}
+use Rattle.stop_list.specs.Runs.{stopsOf, StopsLaid}
+use Rattle.stop_list.specs.Plans.{concluded, Plans}
+use Rattle.stop_list.proofs.PlanAnswers.{plan-lists}
 use Rattle.stop_list.proofs.Stop as T
 use Rattle.stop_list.proofs.Listed as E
 use Rattle.stop_list.proofs.Listed.Laws as E′
@@ -163,19 +163,16 @@ module _ {M : Type 1} (𝓤 : URA M) (H : Heap 𝓤) (A : Atoms 𝓤) (W : Given
       qed W ((‵ (flft κ₁ q₁) ⊛ ‵ (flft κ₂ q₂) ⊛ ‵ ftrue) ∷ ‵ OwnT ∷ ‵ OwnR ∷ []) ∵ nothing ! $ owned ! usize (Is usize) (uint-makes 𝓤 H A W w64) (length ys) _ (refl, room .0) $ fjoin ! $
       move ! (3 ∷ 0 ∷ []) $ fjoin ! $ move ! (2 ∷ 0 ∷ []) $ fjoin ! $ move ! (1 ∷ 0 ∷ []) $ join ! $ frame ! $ done !
 
-  plan-said : (p : Plan) → ent 𝓤 (ensured 𝓤 H A plan.ended (plan.clauses 𝓤 H A mem run) (κ₁, (κ₂, tt)) (t, (r, (length ys, tt))) tt p) (fact 𝓤 (p ≡ planOf (t .now) (r .now) (length ys)))
-  plan-said p = exE 𝓤 _ (λ ws. snd∗ 𝓤 (sem 𝓤 H A (lasts plan.ended (κ₁, (κ₂, tt)) (t, (r, (length ys, tt))) ws)) (fact 𝓤 (p ≡ planOf (t .now) (r .now) (length ys))))
+  plan-said : (p : Plan) → ent 𝓤 (ensured 𝓤 H A plan.ended (plan.clauses 𝓤 H A mem run) (κ₁, (κ₂, tt)) (t, (r, (length ys, tt))) tt p) (fact 𝓤 (Plans (t .now) (r .now) (length ys) p))
+  plan-said p = exE 𝓤 _ (λ ws. snd∗ 𝓤 (sem 𝓤 H A (lasts plan.ended (κ₁, (κ₂, tt)) (t, (r, (length ys, tt))) ws)) (fact 𝓤 (Plans (t .now) (r .now) (length ys) p)))
 
-  module _ (p : Plan) (p-is : Is Q p (machQ p ∷ [])) (e : p ≡ planOf (t .now) (r .now) (length ys)) where
+  module _ (p : Plan) (p-is : Is Q p (machQ p ∷ [])) (e : Plans (t .now) (r .now) (length ys) p) where
     run-is : Is S (p .run) (machS (p .run) ∷ [])
     run-is = LL.owed P.the-type P′.the-laws p _ p-is .1 .0
 
-    begins : Begins (p .run) (length ys)
-    begins = rw e (plan-begins (t .now) (r .now) (length ys))
-
     lists : (us : List Stop) (n : ℕ) (d : Listed) → StopsLaid (stopsOf (p .run)) ys us n → d ≡ concluded (p .listed) n
         → listOutcome d us ≡ listAnswer (listOf (t .now) (r .now) (length ys)) ys
-    lists us n d l c = rw (c, e) (plan-lists (t .now) (r .now) ys us n (rw e at l))
+    lists us n d l c = rw c (plan-lists (t .now) (r .now) ys us n p e l)
 
     -- `fill`, to which the list is given up
     abbrev to-fill : FillC 𝓤 H A mem run .Ghost
@@ -183,7 +180,7 @@ module _ {M : Type 1} (𝓤 : URA M) (H : Heap 𝓤) (A : Atoms 𝓤) (W : Given
 
     goes-fill : ent 𝓤 (sep 𝓤 (A .lft κ q) (sem 𝓤 H A OwnX)) (FillC 𝓤 H A mem run .pre to-fill)
     goes-fill =
-        qed W (‵ (flft κ q) ∷ ‵ OwnX ∷ []) ∵ says ! begins $ nothing ! $ move ! (1 ∷ 0 ∷ []) $ join ! $ frame ! $
+        qed W (‵ (flft κ q) ∷ ‵ OwnX ∷ []) ∵ says ! (e .begins) $ nothing ! $ move ! (1 ∷ 0 ∷ []) $ join ! $ frame ! $
         nothing ! $ owned ! S (Is S) (LL.makes U.the-type U′.the-plain 𝓤 H A) (p .run) _ run-is $ fjoin ! $ move ! (1 ∷ 0 ∷ []) $ fjoin ! $ done !
 
     -- `conclude`
@@ -227,14 +224,14 @@ module _ {M : Type 1} (𝓤 : URA M) (H : Heap 𝓤) (A : Atoms 𝓤) (W : Given
         -- [what `make_plan` asks; list's token; list; true; rule; start; _9; …; _8; …; _7; …; _6; …; _5; …; _4; …; _3; …; _2; …; _1; …; _0; …]
         calls-at ! fm (PlanC 𝓤 H A mem run) known-plan to-plan (and-then ! (load ! (from ! (stop !)) (look ! 22 refl)) (and-then ! (load ! (from ! (stop !)) (look ! 20 refl)) (and-then ! (load ! (from ! (stop !)) (look ! 16 refl)) (no-more !)))) (λ w.
         use1 W (later (some (λ (p : Plan). ((‵ (flft κ₁ q₁) ⊛ ‵ (flft κ₂ q₂) ⊛ ‵ ftrue) ⊛ ‵ (Q .own p (w ∷ []))) ⊛ raw (ensured 𝓤 H A plan.ended (plan.clauses 𝓤 H A mem run) (κ₁, (κ₂, tt)) (t, (r, (length ys, tt))) tt p)))) (id⊢ 𝓤 _) $ await ! tt $ pick ! (λ p.
-        split ! $ move ! (1 ∷ []) $ use1 W (raw (fact 𝓤 (p ≡ planOf (t .now) (r .now) (length ys)))) (plan-said p) $ heard ! (p ≡ planOf (t .now) (r .now) (length ys)) (λ e. split ! $ move ! (1 ∷ []) $
+        split ! $ move ! (1 ∷ []) $ use1 W (raw (fact 𝓤 (Plans (t .now) (r .now) (length ys) p))) (plan-said p) $ heard ! (Plans (t .now) (r .now) (length ys) p) (λ e. split ! $ move ! (1 ∷ []) $
         peeks ! Q (Is Q) (shows 𝓤 H A Q) p (w ∷ []) (λ is.
         let told = LL.tells P.the-type P′.the-laws p (w ∷ []) is in
         let p-is : Is Q p (machQ p ∷ []) = subst (λ (vs : List Val). Is Q p vs) told is in
         -- [the plan; the texts' tokens; list's token; list; true; rule; start; _9; …]
         rewrite ! 0 (λ (vs : List Val). ‵ (Q .own p vs)) told refl $
         land ! (from ! (stop !)) (init ! 15 refl (typedQ p w is)) $ rewrite ! 15 (λ (v : Val). ‵ (fat fullShare P′.mir l₅ 0 v)) (ap only told) refl $
-        assigns ! (of-opd ! (load ! (from ! (fld ! refl (stop !))) (look-in ! 15 (sub ! 1 refl (whole !))))) (from ! (stop !)) (init ! 13 refl (typedS (p .run) _ (run-is p p-is e))) $
+        assigns ! (of-opd ! (load ! (from ! (fld ! {τ = U′.mir} {d = 16} refl (stop !))) (look-in ! 15 {τ = U′.mir} (sub ! 1 {τ = U′.mir} {d = 16} refl (whole !))))) (from ! (stop !)) (init ! 13 refl (typedS (p .run) _ (run-is p p-is e))) $
         assigns ! (addr ! (from ! (fld ! refl (hop ! (look-in ! 19 (sub ! 0 refl (whole !))) (stop !))))) (from ! (stop !)) (init ! 9 refl (tt, tt)) $
         assigns ! (agg ! (and-then ! (load ! (from ! (stop !)) (look ! 9 refl)) (and-then ! (load ! (from ! (fld ! refl (stop !))) (look-in ! 19 (sub ! 1 refl (whole !)))) (no-more !)))) (from ! (stop !)) (init ! 7 refl (tt, (tt, (record { fits = room .0 }, tt)))) $
         move ! (2 ∷ 3 ∷ []) $ use2 W (raw (FillC 𝓤 H A mem run .pre (to-fill p p-is e))) (goes-fill p p-is e) $

@@ -1,17 +1,35 @@
--- `stops_page::count_of` meets its contract: by the last moment, or by the walk.
-use mathlib.Core.Path.{sym, _∙_}
+-- `stops_page::count_of` meets its contract: by the frequency.
+use native.Mathlib.Omega.{arith}
 use borrow.Author.Tests.{not-true, not-false}
 use borrow.Author.Needs.{needs}
-use Rattle.stops_page.proofs.Counts.{none-ahead, walked-all, counted}
+use Rattle.stops_page.proofs.Counts.{none-ahead, count-ahead, count-hourly, count-daily}
 use Rattle.stops_page.proofs.count_of.Statement.{statement}
 use Rattle.stops_page.proofs.count_of.Tie as tie
-
-returns-2 : tie.Need-returns-2
-returns-2 c = counted _ _ (c .before .before .before .before .before .before .pre) (not-false _ (c .before .before .before .before .if1 .left)) (c .before .before .allowed .ensures) (sym (c .before .is-reached .ensures) ∙ c .if2 .taken)
 
 pub count-of-spec : {M : Type 1} → statement M
 count-of-spec =
     tie.close
     (tie.spec
-    (λ c. none-ahead _ (not-true _ (c .if1 .taken))) (λ c κs. search needs) (λ c κs. search needs) returns-2 (λ c κs. search needs)
-    (λ c. walked-all _ _ (c .before .before .before .before .before .before .before .pre) (c .walked .ensures)))
+    (λ c. none-ahead _ (not-true _ (c .if1 .taken)))
+    (λ c. let f = c .before .before .before .before .before .pre (not-false _ (c .before .before .before .if1 .left)) .fits in omega arith)
+    (λ c. search needs)
+    (λ c κs. let v = c .before .before .before .before .before .before .before .pre (not-false _ (c .before .before .before .before .before .if1 .left)) in (v .founded, v .from))
+    (λ c. search needs)
+    (λ c κs. let v = c .before .before .before .before .before .before .before .pre (not-false _ (c .before .before .before .before .before .if1 .left)) in (v .founded, v .from))
+    (λ c. search needs)
+    (λ c κs. let v = c .before .before .before .before .before .before .before .pre (not-false _ (c .before .before .before .before .before .if1 .left)) in (v .founded .interval, v .within))
+    (λ c. search needs)
+    (λ c κs. let v = c .before .before .before .before .before .before .before .pre (not-false _ (c .before .before .before .before .before .if1 .left)) in (v .founded .interval, v .within))
+    (λ c. search needs)
+    (λ c κs. let v = c .before .before .before .before .before .before .before .pre (not-false _ (c .before .before .before .before .before .if1 .left)) in (v .founded, v .from))
+    (λ c. search needs)
+    (λ c κs. let v = c .before .before .before .before .before .before .before .pre (not-false _ (c .before .before .before .before .before .if1 .left)) in (v .founded, v .from))
+    (λ c. search needs)
+    (λ c κs. let v = c .before .before .before .before .before .before .before .pre (not-false _ (c .before .before .before .before .before .if1 .left)) in (v .founded, v .from))
+    (λ c. count-ahead _ (c .before .before .before .before .before .before .before .before .pre (not-false _ (c .before .before .before .before .before .before .if1 .left))) _ (c .count-walked .ensures))
+    (λ c. count-ahead _ (c .before .before .before .before .before .before .before .before .pre (not-false _ (c .before .before .before .before .before .before .if1 .left))) _ (c .count-walked2 .ensures))
+    (λ c. count-hourly _ (c .before .before .before .before .before .before .before .before .pre (not-false _ (c .before .before .before .before .before .before .if1 .left))) (c .before .enum-told3 .given .1) _ (c .count-every .ensures))
+    (λ c. count-daily _ (c .before .before .before .before .before .before .before .before .pre (not-false _ (c .before .before .before .before .before .before .if1 .left))) (c .before .enum-told4 .given .1) _ (c .count-every2 .ensures))
+    (λ c. count-ahead _ (c .before .before .before .before .before .before .before .before .pre (not-false _ (c .before .before .before .before .before .before .if1 .left))) _ (c .count-walked3 .ensures))
+    (λ c. count-ahead _ (c .before .before .before .before .before .before .before .before .pre (not-false _ (c .before .before .before .before .before .before .if1 .left))) _ (c .count-walked4 .ensures))
+    (λ c. count-ahead _ (c .before .before .before .before .before .before .before .before .pre (not-false _ (c .before .before .before .before .before .before .if1 .left))) _ (c .count-walked5 .ensures)))

@@ -1,6 +1,6 @@
 -- `stops_page::print_list` meets its contract: what the plan tells.
 use Rattle.octets.proofs.Pen.{then, as-text}
-use Rattle.stops_page.proofs.Answers.{begins, shows-stops, shows-refusal}
+use Rattle.stops_page.proofs.Answers.{shows-stops, shows-refusal}
 use borrow.Author.Needs.{needs}
 use Rattle.stops_page.proofs.print_list.Statement.{statement}
 use Rattle.stops_page.proofs.print_list.Tie as tie
@@ -16,8 +16,8 @@ print-list-spec =
     tie.close
     (tie.spec
     (λ c κs. search needs) (λ c. search needs) (λ c. search needs)
-    (λ c κs. begins _ _ _ _ (c .before .before .before .before .before .make-plan .ensures))
+    (λ c κs. c .before .before .before .before .before .make-plan .ensures .begins .sound)
     (λ c κs. search needs)
-    (λ c κs. begins _ _ _ _ (c .before .before .before .before .before .before .before .before .before .before .make-plan .ensures) .sound)
+    (λ c κs. c .before .before .before .before .before .before .before .before .before .before .make-plan .ensures .begins .sound)
     (λ c. search needs) (λ c. search needs) (λ c κs. search needs) (λ c. search needs) (λ c κs. search needs) (λ c. search needs) returns
     (λ c. search needs) returns-2)

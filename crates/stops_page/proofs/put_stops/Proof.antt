@@ -6,7 +6,7 @@ use lib.ListN.{length}
 use Rattle.octets.proofs.Pen.{Leads, leads-start, leads-on, leads-end}
 use Rattle.octets.specs.Pen.{pen}
 use Rattle.stop_list.specs.Runs.{stopsOf, Sound}
-use Rattle.stops_page.proofs.StopTexts.{on-sound, on-length, on-shown, end-shown}
+use Rattle.stops_page.proofs.StopTexts.{on-length, on-shown, end-shown}
 use Rattle.stops_page.specs.Printing.{stopsShown}
 use borrow.Author.Needs.{needs}
 use Rattle.stops_page.proofs.put_stops.Statement.{statement}
@@ -19,13 +19,13 @@ abbrev μ-loop : tie.MeasureT-loop
 μ-loop out₀ at to₀ run₀ out to run = length (stopsOf run)
 
 loop-less : tie.Need-loop-less Inv-loop μ-loop
-loop-less c = let l = on-length _ _ (c .before .before .before .before .before .before .before .loop .inv .0) (c .before .before .before .before .before .before .loop-test .taken) (c .advance .ensures) in omega (arith, l)
+loop-less c = let l = on-length _ _ (c .advance .ensures (c .before .before .before .before .before .before .before .loop .inv .0 (c .before .before .before .before .before .before .loop-test .taken))) in omega (arith, l)
 
 loop-again : tie.Need-loop-again Inv-loop μ-loop
 loop-again c = (
-  on-sound _ _ (c .before .before .before .before .before .before .before .loop .inv .0) (c .before .before .before .before .before .before .loop-test .taken) (c .advance .ensures),
+  c .advance .ensures (c .before .before .before .before .before .before .before .loop .inv .0 (c .before .before .before .before .before .before .loop-test .taken)) .sound,
   omega arith,
-  leads-on (c .before .before .before .before .before .before .before .loop .inv .2) (c .before .before .before .put-stop .ensures) (on-shown _ _ (c .before .before .before .before .before .before .before .loop .inv .0) (c .before .before .before .before .before .before .loop-test .taken) (c .advance .ensures)),
+  leads-on (c .before .before .before .before .before .before .before .loop .inv .2) (c .before .before .before .put-stop .ensures) (on-shown _ _ (c .advance .ensures (c .before .before .before .before .before .before .before .loop .inv .0 (c .before .before .before .before .before .before .loop-test .taken)))),
 )
 
 pub put-stops-spec : {M : Type 1} → statement M
@@ -34,6 +34,6 @@ put-stops-spec =
     (tie.spec
     Inv-loop μ-loop
     (λ c. (c .before .pre, refl, leads-start))
-    (λ c. let f = c .before .before .before .loop .inv .0 .fits (c .before .before .loop-test .taken) in omega arith)
+    (λ c. let f = c .before .before .before .loop .inv .0 (c .before .before .loop-test .taken) .fits in omega arith)
     (λ c κs. search needs) (λ c κs. search needs) loop-less loop-again (λ c. search needs)
     (λ c. leads-end (c .before .loop .inv .2) (end-shown _ _ (c .loop-test .left))))

@@ -24,58 +24,58 @@ abbrev μ-loop : tie.MeasureT-loop
 
 part-may-follow-end : tie.Need-part-may-follow-end Inv-loop μ-loop
 part-may-follow-end c =
-    let e = part-ends (c .before .before .before .before .args .s .now) (c .before .before .loop .at) (c .first-part .result) (c .first-part .ensures) in
+    let e = part-ends (c .before .before .before .before .before .args .s .now) (c .before .before .loop .at) (c .first-part .result) (c .first-part .ensures) in
     rw (length-take, length-drop) (omega arith)
 
 returns : tie.Need-returns Inv-loop μ-loop
 unfolding ruleSaid
-returns c = turn-refused (c .before .before .before .before .before .before .before .args .s .now) (c .before .before .before .before .before .loop .at) (c .before .before .before .first-part .result) (c .before .before .before .first-part .ensures) (c .before .before .before .before .before .loop .seen) (c .before .before .before .before .before .loop .head) (c .before .before .before .before .before .loop .inv .1) (sym (c .before .may-follow .ensures) ∙ not-true (c .before .may-follow .result) (c .if1 .taken))
+returns c = turn-refused (c .before .before .before .before .before .before .before .before .args .s .now) (c .before .before .before .before .before .loop .at) (c .before .before .before .first-part .result) (c .before .before .before .first-part .ensures) (c .before .before .before .before .before .loop .seen) (c .before .before .before .before .before .loop .head) (c .before .before .before .before .before .loop .inv .1) (sym (c .before .may-follow .ensures) ∙ not-true (c .before .may-follow .result) (c .if1 .taken))
 
 sub-with-value : tie.Need-sub-with-value Inv-loop μ-loop
-sub-with-value c = part-begins (c .before .before .before .before .before .before .before .args .s .now) (c .before .before .before .before .before .loop .at) (c .before .before .before .first-part .result) (c .before .before .before .first-part .ensures)
+sub-with-value c = part-begins (c .before .before .before .before .before .before .before .before .args .s .now) (c .before .before .before .before .before .loop .at) (c .before .before .before .first-part .result) (c .before .before .before .first-part .ensures)
 
 part-with-value-start : tie.Need-part-with-value-start Inv-loop μ-loop
-part-with-value-start c = part-begins (c .before .before .before .before .before .before .before .args .s .now) (c .before .before .before .before .before .loop .at) (c .before .before .before .first-part .result) (c .before .before .before .first-part .ensures)
+part-with-value-start c = part-begins (c .before .before .before .before .before .before .before .before .args .s .now) (c .before .before .before .before .before .loop .at) (c .before .before .before .first-part .result) (c .before .before .before .first-part .ensures)
 
 part-with-value-end : tie.Need-part-with-value-end Inv-loop μ-loop
 part-with-value-end c =
-    let e = part-ends (c .before .before .before .before .before .before .before .args .s .now) (c .before .before .before .before .before .loop .at) (c .before .before .before .first-part .result) (c .before .before .before .first-part .ensures) in
+    let e = part-ends (c .before .before .before .before .before .before .before .before .args .s .now) (c .before .before .before .before .before .loop .at) (c .before .before .before .first-part .result) (c .before .before .before .first-part .ensures) in
     rw (length-take, length-drop) (omega arith)
 
 returns-2 : tie.Need-returns-2 Inv-loop μ-loop
 returns-2 c =
     c .rule-of .ensures ∙ ap (λ (x : RuleHead). ruleRead x (set (c .before .before .before .before .before .before .before .before .before .loop .seen) (c .before .before .before .before .before .before .before .first-part .result .key) true)) (c .before .before .with-value .ensures)
-    ∙ rule-end (c .before .before .before .before .before .before .before .before .before .before .before .args .s .now) (c .before .before .before .before .before .before .before .before .before .loop .at) (c .before .before .before .before .before .before .before .first-part .result) (c .before .before .before .before .before .before .before .first-part .ensures) (c .before .before .before .before .before .before .before .before .before .loop .seen) (c .before .before .before .before .before .before .before .before .before .loop .head) (c .before .before .before .before .before .before .before .before .before .loop .inv .1) (sym (c .before .before .before .before .before .may-follow .ensures) ∙ not-false (c .before .before .before .before .before .may-follow .result) (c .before .before .before .before .if1 .left)) (c .before .if2 .taken)
+    ∙ rule-end (c .before .before .before .before .before .before .before .before .before .before .before .before .args .s .now) (c .before .before .before .before .before .before .before .before .before .loop .at) (c .before .before .before .before .before .before .before .first-part .result) (c .before .before .before .before .before .before .before .first-part .ensures) (c .before .before .before .before .before .before .before .before .before .loop .seen) (c .before .before .before .before .before .before .before .before .before .loop .head) (c .before .before .before .before .before .before .before .before .before .loop .inv .1) (sym (c .before .before .before .before .before .may-follow .ensures) ∙ not-false (c .before .before .before .before .before .may-follow .result) (c .before .before .before .before .if1 .left)) (c .before .if2 .taken)
 
 add-at : tie.Need-add-at Inv-loop μ-loop
 add-at c =
-    let e = part-inside (c .before .before .before .before .before .before .before .before .before .before .args .s .now) (c .before .before .before .before .before .before .before .before .loop .at) (c .before .before .before .before .before .before .first-part .result) (c .before .before .before .before .before .before .first-part .ensures) (c .if2 .left) in
+    let e = part-inside (c .before .before .before .before .before .before .before .before .before .before .before .args .s .now) (c .before .before .before .before .before .before .before .before .loop .at) (c .before .before .before .before .before .before .first-part .result) (c .before .before .before .before .before .before .first-part .ensures) (c .if2 .left) in
     omega arith
 
 add-at-2 : tie.Need-add-at-2 Inv-loop μ-loop
 add-at-2 c =
-    let e = part-inside (c .before .before .before .before .before .before .before .before .before .before .args .s .now) (c .before .before .before .before .before .before .before .before .loop .at) (c .before .before .before .before .before .before .first-part .result) (c .before .before .before .before .before .before .first-part .ensures) (c .if2 .left) in
+    let e = part-inside (c .before .before .before .before .before .before .before .before .before .before .before .args .s .now) (c .before .before .before .before .before .before .before .before .loop .at) (c .before .before .before .before .before .before .first-part .result) (c .before .before .before .before .before .before .first-part .ensures) (c .if2 .left) in
     omega arith
 
 loop-less : tie.Need-loop-less Inv-loop μ-loop
 loop-less c =
-    let e = part-inside (c .before .before .before .before .before .before .before .before .before .before .args .s .now) (c .before .before .before .before .before .before .before .before .loop .at) (c .before .before .before .before .before .before .first-part .result) (c .before .before .before .before .before .before .first-part .ensures) (c .if2 .left) in
+    let e = part-inside (c .before .before .before .before .before .before .before .before .before .before .before .args .s .now) (c .before .before .before .before .before .before .before .before .loop .at) (c .before .before .before .before .before .before .first-part .result) (c .before .before .before .before .before .before .first-part .ensures) (c .if2 .left) in
     omega arith
 
 loop-again : tie.Need-loop-again Inv-loop μ-loop
 loop-again c =
-    let e = part-inside (c .before .before .before .before .before .before .before .before .before .before .args .s .now) (c .before .before .before .before .before .before .before .before .loop .at) (c .before .before .before .before .before .before .first-part .result) (c .before .before .before .before .before .before .first-part .ensures) (c .if2 .left) in
-    (omega arith, rw (c .before .with-value .ensures) (rule-on (c .before .before .before .before .before .before .before .before .before .before .args .s .now) (c .before .before .before .before .before .before .before .before .loop .at) (c .before .before .before .before .before .before .first-part .result) (c .before .before .before .before .before .before .first-part .ensures) (c .before .before .before .before .before .before .before .before .loop .seen) (c .before .before .before .before .before .before .before .before .loop .head) (c .before .before .before .before .before .before .before .before .loop .inv .1) (sym (c .before .before .before .before .may-follow .ensures) ∙ not-false (c .before .before .before .before .may-follow .result) (c .before .before .before .if1 .left)) (c .if2 .left)))
+    let e = part-inside (c .before .before .before .before .before .before .before .before .before .before .before .args .s .now) (c .before .before .before .before .before .before .before .before .loop .at) (c .before .before .before .before .before .before .first-part .result) (c .before .before .before .before .before .before .first-part .ensures) (c .if2 .left) in
+    (omega arith, rw (c .before .with-value .ensures) (rule-on (c .before .before .before .before .before .before .before .before .before .before .before .args .s .now) (c .before .before .before .before .before .before .before .before .loop .at) (c .before .before .before .before .before .before .first-part .result) (c .before .before .before .before .before .before .first-part .ensures) (c .before .before .before .before .before .before .before .before .loop .seen) (c .before .before .before .before .before .before .before .before .loop .head) (c .before .before .before .before .before .before .before .before .loop .inv .1) (sym (c .before .before .before .before .may-follow .ensures) ∙ not-false (c .before .before .before .before .may-follow .result) (c .before .before .before .if1 .left)) (c .if2 .left)))
 
 pub read-rule-spec : {M : Type 1} → statement M
 read-rule-spec =
     tie.close
     (tie.spec
     Inv-loop μ-loop
-    (λ c. (omega arith, gathered-none (readParts (upper (c .before .args .s .now)))))
+    (λ c κs. search needs) (λ c. (omega arith, rw (c .no-days .ensures) (gathered-none (readParts (upper (c .before .before .args .s .now))))))
     (λ c. search needs) (λ c. search needs) (λ c. search needs) (λ c κs. search needs)
-    (λ c. part-begins (c .before .before .before .before .args .s .now) (c .before .before .loop .at) (c .first-part .result) (c .first-part .ensures))
-    (λ c. part-begins (c .before .before .before .before .args .s .now) (c .before .before .loop .at) (c .first-part .result) (c .first-part .ensures))
+    (λ c. part-begins (c .before .before .before .before .before .args .s .now) (c .before .before .loop .at) (c .first-part .result) (c .first-part .ensures))
+    (λ c. part-begins (c .before .before .before .before .before .args .s .now) (c .before .before .loop .at) (c .first-part .result) (c .first-part .ensures))
     part-may-follow-end (λ c κs. search needs) returns
     (λ c. follows _ _ _ (sym (c .before .may-follow .ensures) ∙ not-false (c .before .may-follow .result) (c .if1 .left)) .0)
     sub-with-value part-with-value-start part-with-value-end (λ c κs. search needs) (λ c κs. search needs) returns-2 add-at add-at-2 loop-less

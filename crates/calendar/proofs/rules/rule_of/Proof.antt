@@ -16,4 +16,4 @@ rule-of-spec =
     (λ c. search needs)
     (λ c. unfold ruleSaid ruleRead when in rw (not-true (getD (c .before .args .t2) 0 false) (c .if1 .taken)))
     (λ c κs. search needs)
-    (λ c. unfold ruleSaid ruleRead when in rw (not-false (getD (c .before .before .args .t2) 0 false) (c .before .if1 .left), c .by-seen .ensures)))
+    (λ c. unfold ruleSaid ruleRead when in rw (not-false (getD (c .before .before .before .args .t2) 0 false) (c .before .before .if1 .left), c .before .by-seen .ensures)))

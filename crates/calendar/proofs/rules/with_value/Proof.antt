@@ -1,4 +1,4 @@
--- `calendar::rules::with_value` meets its contract: one field is new, or none.
+-- `calendar::rules::with_value` meets its contract: one field is new, or the end and the days are, or none is.
 use borrow.Author.Needs.{needs}
 use borrow.Author.Tests.{ne-eqb}
 use Rattle.calendar.specs.Reading.{withPart}
@@ -8,15 +8,15 @@ use Rattle.calendar.proofs.rules.with_value.Tie as tie
 returns-4 : tie.Need-returns-4
 unfolding withPart
 returns-4 c =
-    let k = c .before .before .before .args .key in
-    let n = c .before .match .rest in
-    rw (ne-eqb k 0 (n .0 .0 .1), ne-eqb k 3 (n .0 .1), ne-eqb k 13 (n .1), c .end-with .ensures)
+    let k = c .before .before .before .before .before .args .key in
+    let n = c .before .before .match .rest in
+    rw (ne-eqb k 0 (n .0 .0 .1), ne-eqb k 3 (n .0 .1), ne-eqb k 13 (n .1), c .before .end-with .ensures, c .days-with .ensures)
 
 pub with-value-spec : {M : Type 1} → statement M
 with-value-spec =
     tie.close
     (tie.spec
-    (λ c κs. search needs) (λ c κs. search needs) (λ c κs. search needs) (λ c κs. search needs)
+    (λ c κs. search needs) (λ c κs. search needs) (λ c κs. search needs) (λ c κs. search needs) (λ c κs. search needs)
     (λ c. unfold withPart in rw (c .before .match .keys1, c .frequency-of .ensures))
     (λ c. unfold withPart in rw (c .before .match .keys2, c .count-of .ensures))
     (λ c. unfold withPart in rw (c .before .match .keys3, c .weekday-of .ensures))

@@ -1,7 +1,7 @@
--- `stop_list::runs::advance` meets its contract: by the room.
+-- `stop_list::runs::advance` meets its contract: the run goes on from the next place; there is room for a stop, and its place is within the series.
+use native.Mathlib.Omega.{arith}
 use borrow.Author.Needs.{needs}
-use borrow.Author.Tests.{lt-ltb, le-ltb}
-use Rattle.stop_list.specs.Runs.{advanced}
+use Rattle.stop_list.proofs.RunStops.{advances}
 use Rattle.stop_list.proofs.runs.advance.Statement.{statement}
 use Rattle.stop_list.proofs.runs.advance.Tie as tie
 
@@ -9,4 +9,7 @@ pub advance-spec : {M : Type 1} → statement M
 advance-spec =
     tie.close
     (tie.spec
-    (λ c κs. search needs) (λ c. unfold advanced in rw (lt-ltb _ _ (c .before .if1 .taken)) (c .next .ensures)) (λ c. unfold advanced in rw (le-ltb _ _ (c .if1 .left))))
+    (λ c. omega arith) (λ c. omega arith) (λ c κs. search needs)
+    (λ c. λ v. advances _ _ v (c .run-from .ensures))
+    (λ c. λ v. absurd (let w = v .within in omega (arith, c .if2 .left)))
+    (λ c. λ v. absurd (let w = v .fits in omega (arith, c .if1 .left))))

@@ -1,8 +1,8 @@
--- `stop_list::runs::run_at` meets its contract: its tests are the definition's.
-use native.Mathlib.Omega.{arith}
-use borrow.Author.Tests.{lt-ltb, le-ltb}
+-- `stop_list::runs::run_at` meets its contract: its stop is that of its place.
+use mathlib.Core.Path.{refl, ap}
 use borrow.Author.Needs.{needs}
-use Rattle.stop_list.specs.Runs.{runAt}
+use Rattle.stop_list.specs.Stops.{stop}
+use Rattle.stop_list.specs.Runs.{stopIn}
 use Rattle.stop_list.proofs.runs.run_at.Statement.{statement}
 use Rattle.stop_list.proofs.runs.run_at.Tie as tie
 
@@ -11,5 +11,4 @@ run-at-spec =
     tie.close
     (tie.spec
     (λ c κs. search needs)
-    (λ c. unfold runAt in rw (lt-ltb (c .before .before .args .at) (c .before .before .args .room) (omega arith), c .is-within .ensures))
-    (λ c. unfold runAt in rw (le-ltb (c .before .args .at) (c .before .args .room) (omega arith))))
+    (λ c. record { more = refl; number = refl; room = refl; series = refl; here = refl; stop = λ l. unfold stopIn in ap stop (c .moment-at .ensures l) }))

@@ -1,0 +1,134 @@
+-- `recurrence_set::weeks::weekly_from` meets its contract.
+use mathlib.Core.Logic.{⊎-elim}
+use native.Mathlib.Omega.{arith}
+use Rattle.recurrence_set.proofs.Every.{left-over}
+use Rattle.recurrence_set.proofs.WeekSearch.{place-of, room-front, room-back, week-none, week-rest, week-skipped, week-done}
+use borrow.Author.Needs.{needs}
+use Rattle.recurrence_set.proofs.weeks.weekly_from.Statement.{statement}
+use Rattle.recurrence_set.proofs.weeks.weekly_from.Tie as tie
+
+weekday-place-requires : tie.Need-weekday-place-requires
+weekday-place-requires c κs = search needs
+
+add-week-set : tie.Need-add-week-set
+add-week-set c = search needs
+
+week-set-requires : tie.Need-week-set-requires
+week-set-requires c κs = (omega arith, place-of _ _ (c .weekday-place .ensures))
+
+returns : tie.Need-returns
+returns c =
+    week-none _ _ _ _ (c .before .before .weekday-place .ensures) (c .before .week-set .ensures) (c .before .before .before .pre .0)
+    (c .if1 .taken) _ _ (omega arith)
+
+cast-interval : tie.Need-cast-interval
+cast-interval c = search needs
+
+add-at : tie.Need-add-at
+add-at c = search needs
+
+sub-at : tie.Need-sub-at
+sub-at c = omega (arith, place-of _ _ (c .before .before .before .weekday-place .ensures))
+
+add-at-2 : tie.Need-add-at-2
+add-at-2 c = search needs
+
+add-out : tie.Need-add-out
+add-out c = search needs
+
+sub-out : tie.Need-sub-out
+sub-out c = omega (arith, place-of _ _ (c .before .before .before .weekday-place .ensures))
+
+add-out-2 : tie.Need-add-out-2
+add-out-2 c = search needs
+
+sub-out-2 : tie.Need-sub-out-2
+sub-out-2 c = search needs
+
+rem-out : tie.Need-rem-out
+rem-out c = search needs
+
+shr-rest : tie.Need-shr-rest
+shr-rest c = search needs
+
+least-requires : tie.Need-least-requires
+least-requires c κs = search needs
+
+add-result : tie.Need-add-result
+add-result c = search needs
+
+returns-2 : tie.Need-returns-2
+returns-2 c =
+    week-rest _ _ _ _ (c .before .before .before .before .before .before .weekday-place .ensures) (c .before .before .before .before .before .week-set .ensures)
+    (c .before .before .before .before .before .before .before .pre .0) _ _ (c .before .before .before .before .before .before .before .pre .1)
+    (c .before .before .if2 .taken) (c .before .if3 .taken) _ (c .least .ensures)
+
+sub-result : tie.Need-sub-result
+sub-result c = left-over _ _ (c .before .before .before .before .before .pre .0)
+
+add-result-2 : tie.Need-add-result-2
+add-result-2 c = search needs
+
+mul-result : tie.Need-mul-result
+mul-result c = search needs
+
+least-requires-2 : tie.Need-least-requires-2
+least-requires-2 c κs = search needs
+
+add-result-3 : tie.Need-add-result-3
+add-result-3 c = search needs
+
+sub-result-2 : tie.Need-sub-result-2
+sub-result-2 c =
+    room-front _ _ _ _ _ _ (c .before .before .before .before .before .weekday-place .ensures) (c .before .before .before .before .before .before .pre .0)
+
+sub-result-3 : tie.Need-sub-result-3
+sub-result-3 c = omega (arith, place-of _ _ (c .before .before .before .before .before .weekday-place .ensures))
+
+sub-result-4 : tie.Need-sub-result-4
+sub-result-4 c =
+    room-back _ _ _ _ _ _ (c .before .before .before .before .before .weekday-place .ensures) (c .before .before .before .before .before .before .pre .0)
+
+returns-3 : tie.Need-returns-3
+returns-3 c =
+    ⊎-elim
+    (λ q.
+    week-done _ _ _ _ (c .before .before .before .before .before .weekday-place .ensures) (c .before .before .before .before .week-set .ensures)
+    (c .before .before .before .before .before .before .pre .0) _ _ (c .before .before .before .before .before .before .pre .1)
+    (q .1 .left) (c .before .before .before .if1 .left) _ (c .least2 .ensures))
+    (λ q.
+    week-skipped _ _ _ _ (c .before .before .before .before .before .weekday-place .ensures) (c .before .before .before .before .week-set .ensures)
+    (c .before .before .before .before .before .before .pre .0) _ _ (c .before .before .before .before .before .before .pre .1)
+    (q .left) (c .before .before .before .if1 .left) _ (c .least2 .ensures))
+    (c .before .if2 .came)
+
+pub weekly-from-spec : {M : Type 1} → statement M
+weekly-from-spec =
+    tie.close
+    (tie.spec
+    weekday-place-requires
+    add-week-set
+    week-set-requires
+    returns
+    cast-interval
+    add-at
+    sub-at
+    add-at-2
+    add-out
+    sub-out
+    add-out-2
+    sub-out-2
+    rem-out
+    shr-rest
+    least-requires
+    add-result
+    returns-2
+    sub-result
+    add-result-2
+    mul-result
+    least-requires-2
+    add-result-3
+    sub-result-2
+    sub-result-3
+    sub-result-4
+    returns-3)
