@@ -7,7 +7,7 @@ use Rattle.recurrence_set.proofs.months.month_set.Statement.{statement}
 use Rattle.recurrence_set.proofs.months.month_set.Tie as tie
 
 rem-result : tie.Need-rem-result
-rem-result c = rw (one-shifted (c .before .args .l) (omega arith)) (pow-pos (c .before .args .l))
+rem-result c = let e = one-shifted (c .before .args .l) (omega arith) in let p = pow-pos (c .before .args .l) in omega arith
 
 returns : tie.Need-returns
 returns c = marks-only _ _ _ (c .before .pre .0) (c .serving-set .ensures)

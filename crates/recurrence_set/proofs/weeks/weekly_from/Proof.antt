@@ -14,7 +14,7 @@ add-week-set : tie.Need-add-week-set
 add-week-set c = search needs
 
 week-set-requires : tie.Need-week-set-requires
-week-set-requires c κs = (omega arith, place-of _ _ (c .weekday-place .ensures))
+week-set-requires c κs = omega (arith, place-of _ _ (c .weekday-place .ensures))
 
 returns : tie.Need-returns
 returns c =
