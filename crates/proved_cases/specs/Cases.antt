@@ -1,4 +1,4 @@
--- 01, Cases to prove together: one table, under one claim.
+-- 01, Cases to prove together: one table, under one claim; with three of weekly and monthly rules (02, [1]).
 use Prim.Native.Nat.{ℕ}
 use mathlib.Core.Path.{_≡_}
 use mathlib.Core.List.{List, [], _∷_, _++_}
@@ -67,6 +67,9 @@ cases =
     ∷ prints (octets "20240228T180000\nFREQ=HOURLY;INTERVAL=12;COUNT=4\n10\n")
     (octets "stops 4\n1 2024-02-28T18:00:00\n2 2024-02-29T06:00:00\n3 2024-02-29T18:00:00\n4 2024-03-01T06:00:00\n")
     ∷ prints (octets "20240229\nFREQ=DAILY;INTERVAL=366\n2\n") (octets "stops 2\n1 2024-02-29\n2 2025-03-01\n")
+    ∷ prints (octets "20240228\nFREQ=WEEKLY;BYDAY=TU,FR\n3\n") (octets "stops 3\n1 2024-03-01\n2 2024-03-05\n3 2024-03-08\n")
+    ∷ prints (octets "20240131\nFREQ=MONTHLY\n3\n") (octets "stops 3\n1 2024-01-31\n2 2024-03-31\n3 2024-05-31\n")
+    ∷ prints (octets "20240129\nFREQ=MONTHLY;BYDAY=-1MO\n3\n") (octets "stops 3\n1 2024-01-29\n2 2024-02-26\n3 2024-03-25\n")
     ∷ becomes noRows sent unlistedJcal
     ∷ becomes added sent listedJcal
     ∷ returns noRows listedJcal stated
