@@ -24,7 +24,7 @@ use Rattle.calendar.specs.Moments.{momentFrom, readMoment}
 use Rattle.calendar.specs.Recurrence.{frequency, Key, key, keys, frequencies, weekdays, wordOf, untilOf, countOf, itemOf, several, Part, part, keyedPart, names, isRule}
 use Rattle.calendar.specs.Walk.{keyAt}
 use Rattle.calendar.specs.Rules.{firstOf, valueNamed, frequencyOf, weekdayOf, untilMoment, endOf, byParts, valuesNamed, noDays, withDay, withMonthDay, gathered, daysOf, ruleFrom}
-use Rattle.calendar.specs.Reading.{headFrom, counted, lastOf, withPart, barred, bySeen, ruleRead}
+use Rattle.calendar.specs.Reading.{headFrom, counted, lastOf, withPart, kept, barred, bySeen, ruleRead}
 use Rattle.calendar.specs.declared.rules.Frequency.the-variants.{Yearly}
 use Rattle.calendar.specs.declared.rules.Weekday.the-variants.{Monday}
 use Rattle.calendar.specs.declared.rules.End.{End}
@@ -320,35 +320,43 @@ module _ (ps : List Part) (p : Part) (i : ℕ) (v : List ℕ) (h : i < 14) (name
       (month-days-kept _ v (p .values) (values-of (upper v) (keyAt 8) p (rw e at read))))
       (λ m. rw (n, m, values-step 7 (omega arith) (eqb-false i 7 n), values-step 8 (omega arith) (eqb-false i 8 m))))
 
-  head-step : (eqb i 1 ≡ true → among (octets "COUNT") (names ps) ≡ false) → headFrom (ps ++ p ∷ []) ≡ withPart (headFrom ps) i v
+  head-step : (gather : Bool) → (eqb i 1 ≡ true → among (octets "COUNT") (names ps) ≡ false) → headFrom gather (ps ++ p ∷ []) ≡ withPart gather (headFrom gather ps) i v
   unfolding headFrom withPart
-  head-step clash = rw (frequency-step, interval-step, end-step clash, wkst-step, days-step)
+  head-step true clash = rw (frequency-step, interval-step, end-step clash, wkst-step, days-step)
+  head-step false clash = rw (frequency-step, interval-step, end-step clash, wkst-step)
 
--- The parts that were read of `all`, what is left of it, which keys there were, and what they say.
-pub record Gathered (all left : Option (List Part)) (seen : List Bool) (head : RuleHead) : Type 0 where
+-- The parts that were read of `all`, what is left of it, which keys there were, and what they say, with their days or without them.
+pub record Gathered (gather : Bool) (all left : Option (List Part)) (seen : List Bool) (head : RuleHead) : Type 0 where
   pub parts : List Part
   pub whole : all ≡ map? (λ qs. parts ++ qs) left
   pub once : twice (names parts) ≡ false
   pub alone : (among (octets "COUNT") (names parts) and among (octets "UNTIL") (names parts)) ≡ false
   pub marks : seen ≡ present parts
-  pub says : head ≡ headFrom parts
+  pub says : head ≡ headFrom gather parts
 
-pub gathered-none : (all : Option (List Part)) → Gathered all all (replicate 14 false) (record { frequency = Yearly; interval = 1; end = Open; wkst = Monday; days = noDays })
-gathered-none all = record {
+abbrev atFirst : RuleHead
+atFirst = record { frequency = Yearly; interval = 1; end = Open; wkst = Monday; days = noDays }
+
+pub gathered-none : (gather : Bool) (all : Option (List Part)) → Gathered gather all all (replicate 14 false) atFirst
+gathered-none gather all = record {
   parts = [];
   whole = by all;
   once = unfold twice names in refl;
   alone = unfold among any names in refl;
   marks = unfold present among any names keys in refl;
-  says = unfold headFrom frequencyOf endOf given valueNamed same daysOf valuesNamed gathered in refl;
+  says = nothing gather;
 }
   where
     by : (o : Option (List Part)) → o ≡ map? (λ qs. [] ++ qs) o
     by none = unfold map? in refl
     by (some qs) = unfold map? in refl
 
+    nothing : (gather : Bool) → atFirst ≡ headFrom gather []
+    nothing true = unfold headFrom frequencyOf endOf given valueNamed same daysOf valuesNamed gathered in refl
+    nothing false = unfold headFrom frequencyOf endOf given valueNamed same in refl
+
 -- what a key's place tells of the parts so far
-module _ {all left : Option (List Part)} {seen : List Bool} {head : RuleHead} (g : Gathered all left seen head) where
+module _ {gather : Bool} {all left : Option (List Part)} {seen : List Bool} {head : RuleHead} (g : Gathered gather all left seen head) where
   marked : (i : ℕ) → i < 14 → getD seen i false ≡ among (nameAt i) (names (g .parts))
   marked i h = rw (g .marks) (present-at (g .parts) i h)
 
@@ -370,8 +378,8 @@ alone-by false false true b e f g h = h refl
 alone-by false false false b e f g h = refl
 
 -- a part more, with the key at i
-module _ {all : Option (List Part)} {seen : List Bool} {head : RuleHead} (left : Option (List Part)) (p : Part) (i : ℕ) (v : List ℕ) (h : i < 14)
-    (g : Gathered all (both? _∷_ (some p) left) seen head) (read : keyedPart (upper v) (keyAt i) ≡ some p) (free : barred seen i ≡ false) where
+module _ {gather : Bool} {all : Option (List Part)} {seen : List Bool} {head : RuleHead} (left : Option (List Part)) (p : Part) (i : ℕ) (v : List ℕ) (h : i < 14)
+    (g : Gathered gather all (both? _∷_ (some p) left) seen head) (read : keyedPart (upper v) (keyAt i) ≡ some p) (free : barred seen i ≡ false) where
   named : p .name ≡ nameAt i
   unfolding keyedPart
   named = let m = map-is (part (keyAt i)) _ p read in rw (← (m .2))
@@ -400,18 +408,18 @@ module _ {all : Option (List Part)} {seen : List Bool} {head : RuleHead} (left :
       rw (among-part (octets "COUNT") (g .parts) p, among-part (octets "UNTIL") (g .parts) p, named, names-apart i 2 h (omega arith), names-apart i 1 h (omega arith))
       (alone-by _ _ (eqb i 2) (eqb i 1) (g .alone) no-count no-until (λ e. ne-eqb i 1 (λ z. let o = eqb-true i 2 e in omega arith)))
 
-  pub gathered-more : Gathered all left (set seen i true) (withPart head i v)
+  pub gathered-more : Gathered gather all left (set seen i true) (withPart gather head i v)
   gathered-more = record {
     parts = g .parts ++ p ∷ [];
     whole = g .whole ∙ longer left;
     once = ap twice (names-one (g .parts) p) ∙ twice-more (names (g .parts)) (p .name) ∙ or-false (g .once) (ap (λ (n : List ℕ). among n (names (g .parts))) named ∙ unseen);
     alone = alone-still;
     marks = ap (λ (l : List Bool). set l i true) (g .marks) ∙ sym (present-more (g .parts) p i h named);
-    says = ap (λ (x : RuleHead). withPart x i v) (g .says) ∙ sym (head-step (g .parts) p i v h named unseen read no-count);
+    says = ap (λ (x : RuleHead). withPart gather x i v) (g .says) ∙ sym (head-step (g .parts) p i v h named unseen read gather no-count);
   }
 
 -- nothing can be read behind the parts so far
-pub gathered-lost : {all : Option (List Part)} {seen : List Bool} {head : RuleHead} → Gathered all none seen head → guard isRule all ≡ none
+pub gathered-lost : {gather : Bool} {all : Option (List Part)} {seen : List Bool} {head : RuleHead} → Gathered gather all none seen head → guard isRule all ≡ none
 unfolding map? guard
 gathered-lost g = rw (g .whole)
 
@@ -433,8 +441,8 @@ seen-before n ps p qs e = ap (among n) (names-more ps p qs) ∙ among-append n (
 seen-now : (n : List ℕ) (ps : List Part) (p : Part) (qs : List Part) → p .name ≡ n → among n (names (ps ++ p ∷ qs)) ≡ true
 seen-now n ps p qs e = ap (among n) (names-more ps p qs) ∙ among-there n (names ps) (p .name) (names qs) (sym e)
 
-module _ {all : Option (List Part)} {seen : List Bool} {head : RuleHead} (o : Option Part) (left : Option (List Part)) (i : ℕ) (h : i < 14)
-    (g : Gathered all (both? _∷_ o left) seen head) (named : (p : Part) → o ≡ some p → p .name ≡ nameAt i) (stop : barred seen i ≡ true) where
+module _ {gather : Bool} {all : Option (List Part)} {seen : List Bool} {head : RuleHead} (o : Option Part) (left : Option (List Part)) (i : ℕ) (h : i < 14)
+    (g : Gathered gather all (both? _∷_ o left) seen head) (named : (p : Part) → o ≡ some p → p .name ≡ nameAt i) (stop : barred seen i ≡ true) where
   no-rule : (p : Part) (qs : List Part) → p .name ≡ nameAt i → isRule (g .parts ++ p ∷ qs) ≡ false
   unfolding barred keyAt keys
   no-rule p qs n = either (getD seen i false) _ stop
@@ -454,7 +462,7 @@ module _ {all : Option (List Part)} {seen : List Bool} {head : RuleHead} (o : Op
       by (some p) (some qs) n = unfold both? map? guard when in (rw (no-rule p qs (n p refl)))
 
 -- all parts are read
-module _ {all : Option (List Part)} {seen : List Bool} {head : RuleHead} (g : Gathered all (some []) seen head) where
+module _ {gather : Bool} {all : Option (List Part)} {seen : List Bool} {head : RuleHead} (g : Gathered gather all (some []) seen head) where
   every : all ≡ some (g .parts)
   unfolding map?
   every = g .whole ∙ ap some (append-nil (g .parts))
@@ -467,17 +475,17 @@ module _ {all : Option (List Part)} {seen : List Bool} {head : RuleHead} (g : Ga
   unfolding byParts bySeen present keys
   by-marked = rw (g .marks)
 
-  pub gathered-all : map? ruleFrom (guard isRule all) ≡ ruleRead head seen
+  pub gathered-all : map? (kept gather) (map? ruleFrom (guard isRule all)) ≡ ruleRead head seen
   unfolding guard ruleRead ruleFrom
   gathered-all = rw (every, frequency-marked, ← by-marked, g .says) (by (getD seen 0 false))
     where
-      by : (b : Bool) → map? ruleFrom (when b (g .parts)) ≡ when b (record {
-        frequency = (headFrom (g .parts)) .frequency;
-        interval = (headFrom (g .parts)) .interval;
-        end = (headFrom (g .parts)) .end;
-        wkst = (headFrom (g .parts)) .wkst;
+      by : (b : Bool) → map? (kept gather) (map? ruleFrom (when b (g .parts))) ≡ when b (record {
+        frequency = (headFrom gather (g .parts)) .frequency;
+        interval = (headFrom gather (g .parts)) .interval;
+        end = (headFrom gather (g .parts)) .end;
+        wkst = (headFrom gather (g .parts)) .wkst;
         by = byParts (g .parts);
-        days = (headFrom (g .parts)) .days;
+        days = (headFrom gather (g .parts)) .days;
       })
-      by true = unfold map? when headFrom ruleFrom in refl
+      by true = unfold map? when headFrom ruleFrom kept in refl
       by false = unfold map? when in refl

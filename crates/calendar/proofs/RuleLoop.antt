@@ -1,6 +1,6 @@
 -- The turns of the loop that reads a recurrence rule: each reads the part at `at`, and refuses the text, goes on, or ends.
 use Prim.Native.Nat.{ℕ, _+_, _-_, _≤_, _<_}
-use mathlib.Core.Path.{_≡_, refl, sym, _∙_}
+use mathlib.Core.Path.{_≡_, refl, sym, ap, _∙_}
 use mathlib.Core.Bool.{Bool, true, false, not}
 use mathlib.Core.List.{List, [], _∷_}
 use mathlib.Core.Option.{Option, none, some}
@@ -17,9 +17,10 @@ use Rattle.octets.proofs.Optional.{none-is}
 use Rattle.calendar.specs.Recurrence.{Key, keys, Part, part, keyedPart, isRule, partsOf}
 use Rattle.calendar.specs.Walk.{keyAt, firstPart}
 use Rattle.calendar.specs.Rules.{ruleFrom, readRule}
-use Rattle.calendar.specs.Reading.{valuesStand, withPart, barred, mayFollow, ruleRead}
+use Rattle.calendar.specs.Reading.{valuesStand, withPart, kept, barred, mayFollow, ruleRead}
 use Rattle.calendar.specs.declared.parts.PartAt.{PartAt}
 use Rattle.calendar.specs.declared.rules.RuleHead.{RuleHead}
+use Rattle.calendar.specs.declared.rules.Rule.{Rule}
 use Rattle.calendar.proofs.Options.{map-is, some-map}
 use Rattle.calendar.proofs.Keys.{key-count}
 use Rattle.calendar.proofs.RuleParts.{readParts, partFound, first-more, first-last, first-from, first-to}
@@ -47,10 +48,19 @@ the-rule : (s : List ℕ) → map? ruleFrom (guard isRule (readParts (upper s)))
 unfolding readRule partsOf readParts
 the-rule s = refl
 
--- there is a rule where there are its parts
-pub rule-stands : (s : List ℕ) → isSome (readRule s) ≡ isSome (partsOf (upper s))
+-- there is a rule, with its days or without them, where there are its parts
+pub rule-stands : (gather : Bool) (s : List ℕ) → isSome (map? (kept gather) (readRule s)) ≡ isSome (partsOf (upper s))
 unfolding readRule
-rule-stands s = some-map ruleFrom (partsOf (upper s))
+rule-stands gather s = some-map (kept gather) (readRule s) ∙ some-map ruleFrom (partsOf (upper s))
+
+-- with its days it is the whole rule
+pub rule-whole : (s : List ℕ) → map? (kept true) (readRule s) ≡ readRule s
+unfolding map? kept
+rule-whole s = by (readRule s)
+  where
+    by : (o : Option Rule) → map? (kept true) o ≡ o
+    by none = refl
+    by (some r) = refl
 
 -- as the code tests whether a part may follow
 module _ (seen : List Bool) (k : ℕ) (v : List ℕ) where
@@ -97,7 +107,7 @@ module _ (s : List ℕ) (at : ℕ) (q : PartAt) (is : q ≡ firstPart (take (len
   abbrev value : List ℕ
   value = take (q .to - q .from) (drop (q .from) (take (length s - at) (drop at s)))
 
-  module _ (seen : List Bool) (head : RuleHead) (g : Gathered (readParts (upper s)) (readParts (upper (drop at s))) seen head) where
+  module _ (gather : Bool) (seen : List Bool) (head : RuleHead) (g : Gathered gather (readParts (upper s)) (readParts (upper (drop at s))) seen head) where
     lost : partFound (drop at s) q ≡ none → none ≡ readRule s
     unfolding both?
     lost e = no-rule s (cases (ltb (q .to) (length (take (length s - at) (drop at s))))
@@ -130,18 +140,19 @@ module _ (s : List ℕ) (at : ℕ) (q : PartAt) (is : q ≡ firstPart (take (len
 
     module _ (ok : mayFollow seen (q .key) value ≡ true) where
       step : (left : Option (List Part)) → readParts (upper (drop at s)) ≡ both? _∷_ (partFound (drop at s) q) left
-          → Gathered (readParts (upper s)) left (set seen (q .key) true) (withPart head (q .key) value)
+          → Gathered gather (readParts (upper s)) left (set seen (q .key) true) (withPart gather head (q .key) value)
       step left e =
           let f = follows seen (q .key) value ok in
           let r = some-is (keyedPart (upper value) (keyAt (q .key))) (keyed-stands value (keyAt (q .key)) ∙ f .2) in
           gathered-more left (r .0) (q .key) value (f .0) (rw (e, found (f .0), r .1) at g) (r .1) (f .1)
 
       pub rule-on : q .to < length (take (length s - at) (drop at s))
-          → Gathered (readParts (upper s)) (readParts (upper (drop (at + q .to + 1) s))) (set seen (q .key) true) (withPart head (q .key) value)
+          → Gathered gather (readParts (upper s)) (readParts (upper (drop (at + q .to + 1) s))) (set seen (q .key) true) (withPart gather head (q .key) value)
       rule-on l = step _ (more l)
 
-      pub rule-end : length (take (length s - at) (drop at s)) ≤ q .to → ruleRead (withPart head (q .key) value) (set seen (q .key) true) ≡ readRule s
-      rule-end l = sym (gathered-all (step _ (last l))) ∙ the-rule s
+      pub rule-end : length (take (length s - at) (drop at s)) ≤ q .to
+          → ruleRead (withPart gather head (q .key) value) (set seen (q .key) true) ≡ map? (kept gather) (readRule s)
+      rule-end l = sym (gathered-all (step _ (last l))) ∙ ap (map? (kept gather)) (the-rule s)
 
 -- as the code tests what may follow
 module _ (seen : List Bool) (k : ℕ) where

@@ -15,7 +15,7 @@ use Rattle.octets.specs.Pieces.{split}
 use Rattle.calendar.specs.Recurrence.{PartSort, keys, itemOf, several, Part}
 use Rattle.calendar.specs.Walk.{keyAt}
 use Rattle.calendar.specs.Moments.{readMoment}
-use Rattle.calendar.specs.Rules.{valueNamed, frequencyOf, weekdayOf, endOf, withDay, withMonthDay, gathered, daysOf}
+use Rattle.calendar.specs.Rules.{valueNamed, frequencyOf, weekdayOf, endOf, noDays, withDay, withMonthDay, gathered, daysOf}
 use Rattle.calendar.specs.declared.rules.Weekday.the-variants.{Monday}
 use Rattle.calendar.specs.declared.rules.End.{End}
 use Rattle.calendar.specs.declared.rules.End.the-variants.{Count, Until, Open}
@@ -28,14 +28,14 @@ use Rattle.calendar.specs.declared.rules.Rule.{Rule}
 unfoldable pub valuesStand : PartSort → List ℕ → Bool
 valuesStand sort v = isSome (guard (λ vs. several sort or single vs) (each (itemOf sort) (split (code ",") (upper v))))
 
--- what parts say, but for which BY parts there are
-unfoldable pub headFrom : List Part → RuleHead
-headFrom ps = record {
+-- what parts say, but for which BY parts there are; their days are gathered, or they are not
+unfoldable pub headFrom : Bool → List Part → RuleHead
+headFrom gather ps = record {
   frequency = frequencyOf (given [] (λ v. v) (valueNamed (octets "FREQ") ps));
   interval = given 1 valueOf (valueNamed (octets "INTERVAL") ps);
   end = endOf ps;
   wkst = given Monday weekdayOf (valueNamed (octets "WKST") ps);
-  days = daysOf ps;
+  days = pick gather (daysOf ps) noDays;
 }
 
 -- a count, no larger than one more than the largest integer
@@ -52,13 +52,24 @@ withNamed true b v = withDay b v
 withNamed false b v = withMonthDay b v
 
 -- one part more, with the key at a place and the value v, letters in either case
-unfoldable pub withPart : RuleHead → ℕ → List ℕ → RuleHead
-withPart h k v = record {
+unfoldable pub withPart : Bool → RuleHead → ℕ → List ℕ → RuleHead
+withPart gather h k v = record {
   frequency = pick (eqb k 0) (frequencyOf (upper v)) (h .frequency);
   interval = pick (eqb k 3) (counted v) (h .interval);
   end = pick (eqb k 1) (lastOf v) (pick (eqb k 2) (Count (counted v)) (h .end));
   wkst = pick (eqb k 13) (weekdayOf (upper v)) (h .wkst);
-  days = pick (eqb k 7) (gathered withDay (h .days) (split (code ",") v)) (pick (eqb k 8) (gathered withMonthDay (h .days) (split (code ",") v)) (h .days));
+  days = pick gather (pick (eqb k 7) (gathered withDay (h .days) (split (code ",") v)) (pick (eqb k 8) (gathered withMonthDay (h .days) (split (code ",") v)) (h .days))) (h .days);
+}
+
+-- a rule with the days that its BY parts name, or without them
+unfoldable pub kept : Bool → Rule → Rule
+kept gather r = record {
+  frequency = r .frequency;
+  interval = r .interval;
+  end = r .end;
+  wkst = r .wkst;
+  by = r .by;
+  days = pick gather (r .days) noDays;
 }
 
 -- a part with the key at a place may not follow: it was there, or it is one of COUNT and UNTIL, and the other was

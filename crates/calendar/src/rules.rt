@@ -4,13 +4,13 @@ ghost use Prim.Native.Nat.{_<_};
 ghost use mathlib.Core.List.{[], _∷_};
 ghost use lib.Dec.{eqb};
 ghost use Rattle.octets.specs.Basics.{pick};
-ghost use Rattle.octets.specs.Optional.{isSome};
+ghost use Rattle.octets.specs.Optional.{map?, isSome};
 ghost use Rattle.octets.specs.Classes.{upper};
 ghost use Rattle.octets.specs.Pieces.{split};
 ghost use Rattle.calendar.specs.Recurrence.{partsOf};
 ghost use Rattle.calendar.specs.Rules.{frequencyOf, weekdayOf, withDay, withMonthDay, gathered, readRule, ruleSaid};
 ghost use Rattle.calendar.specs.declared.rules.End.the-variants.{Count};
-ghost use Rattle.calendar.specs.Reading.{counted, lastOf, withPart, barred, mayFollow, bySeen, ruleRead};
+ghost use Rattle.calendar.specs.Reading.{counted, lastOf, withPart, kept, barred, mayFollow, bySeen, ruleRead};
 use crate::by_days::ByDays;
 use crate::by_days::no_days;
 use crate::by_days::with_values;
@@ -166,10 +166,13 @@ fn end_with(end: End, key: usize, v: &[u8]) -> End
     }
 }
 
-// The days that a rule's BY parts name once the part with the key at a place and its values is read.
-fn days_with(days: ByDays, key: usize, v: &[u8]) -> ByDays
-    ensures { λ r. ⌜ r ≡ pick (eqb key 7) (gathered withDay days (split 44 (now (v .entry)))) (pick (eqb key 8) (gathered withMonthDay days (split 44 (now (v .entry)))) days) ⌝ }
+// The days that a rule's BY parts name once the part with the key at a place and its values is read, where they are gathered.
+fn days_with(days: ByDays, key: usize, v: &[u8], gather: bool) -> ByDays
+    ensures { λ r. ⌜ r ≡ pick gather (pick (eqb key 7) (gathered withDay days (split 44 (now (v .entry)))) (pick (eqb key 8) (gathered withMonthDay days (split 44 (now (v .entry)))) days)) days ⌝ }
 {
+    if !gather {
+        return days;
+    }
     match key {
         7 => with_values(days, true, v),
         8 => with_values(days, false, v),
@@ -177,9 +180,9 @@ fn days_with(days: ByDays, key: usize, v: &[u8]) -> ByDays
     }
 }
 
-// One part more, with the key at a place and its value.
-fn with_value(head: RuleHead, key: usize, v: &[u8]) -> RuleHead
-    ensures { λ r. ⌜ r ≡ withPart head key (now (v .entry)) ⌝ }
+// One part more, with the key at a place and its value; its days are gathered, or they are not.
+fn with_value(head: RuleHead, key: usize, v: &[u8], gather: bool) -> RuleHead
+    ensures { λ r. ⌜ r ≡ withPart gather head key (now (v .entry)) ⌝ }
 {
     let frequency = head.frequency;
     let end = head.end;
@@ -212,7 +215,7 @@ fn with_value(head: RuleHead, key: usize, v: &[u8]) -> RuleHead
             interval: head.interval,
             end: end_with(end, key, &*v),
             wkst: wkst,
-            days: days_with(days, key, v),
+            days: days_with(days, key, v, gather),
         },
     }
 }
@@ -283,9 +286,9 @@ fn rule_of(head: RuleHead, seen: [bool; 14]) -> RuleRead
     })
 }
 
-// The rule that a text says, or that it says none.
-pub fn read_rule(s: &[u8]) -> RuleRead
-    ensures { λ r. ⌜ ruleSaid r ≡ readRule (now (s .entry)) ⌝ }
+// The rule that a text says, with the days that its BY parts name or without them, or that it says none.
+fn read_parts(s: &[u8], gather: bool) -> RuleRead
+    ensures { λ r. ⌜ ruleSaid r ≡ map? (kept gather) (readRule (now (s .entry))) ⌝ }
 {
     let mut head = RuleHead {
         frequency: Frequency::Yearly,
@@ -306,7 +309,7 @@ pub fn read_rule(s: &[u8]) -> RuleRead
             return RuleRead::NoRule;
         }
         seen[key] = true;
-        head = with_value(head, key, &rest[from..to]);
+        head = with_value(head, key, &rest[from..to], gather);
         if to >= rest.len() {
             return rule_of(head, seen);
         }
@@ -314,11 +317,18 @@ pub fn read_rule(s: &[u8]) -> RuleRead
     }
 }
 
+// The rule that a text says, or that it says none.
+pub fn read_rule(s: &[u8]) -> RuleRead
+    ensures { λ r. ⌜ ruleSaid r ≡ readRule (now (s .entry)) ⌝ }
+{
+    read_parts(s, true)
+}
+
 // A text that says a rule.
 pub fn is_rule(s: &[u8]) -> bool
     ensures { λ r. ⌜ r ≡ isSome (partsOf (upper (now (s .entry)))) ⌝ }
 {
-    match read_rule(s) {
+    match read_parts(s, false) {
         RuleRead::Is(_) => true,
         RuleRead::NoRule => false,
     }

@@ -1,9 +1,17 @@
 -- `calendar::rules::with_value` meets its contract: one field is new, or the end and the days are, or none is.
+use mathlib.Core.Path.{_≡_, refl}
+use mathlib.Core.Bool.{Bool, true, false}
 use borrow.Author.Needs.{needs}
 use borrow.Author.Tests.{ne-eqb}
+use Rattle.octets.specs.Basics.{pick}
 use Rattle.calendar.specs.Reading.{withPart}
+use Rattle.calendar.specs.declared.by_days.ByDays.{ByDays}
 use Rattle.calendar.proofs.rules.with_value.Statement.{statement}
 use Rattle.calendar.proofs.rules.with_value.Tie as tie
+
+alike : (b : Bool) (days : ByDays) → pick b days days ≡ days
+alike true days = refl
+alike false days = refl
 
 returns-4 : tie.Need-returns-4
 unfolding withPart
@@ -17,7 +25,7 @@ with-value-spec =
     tie.close
     (tie.spec
     (λ c κs. search needs) (λ c κs. search needs) (λ c κs. search needs) (λ c κs. search needs) (λ c κs. search needs)
-    (λ c. unfold withPart in rw (c .before .match .keys1, c .frequency-of .ensures))
-    (λ c. unfold withPart in rw (c .before .match .keys2, c .count-of .ensures))
-    (λ c. unfold withPart in rw (c .before .match .keys3, c .weekday-of .ensures))
+    (λ c. unfold withPart in rw (c .before .match .keys1, c .frequency-of .ensures, alike (c .before .before .before .before .args .gather) _))
+    (λ c. unfold withPart in rw (c .before .match .keys2, c .count-of .ensures, alike (c .before .before .before .before .args .gather) _))
+    (λ c. unfold withPart in rw (c .before .match .keys3, c .weekday-of .ensures, alike (c .before .before .before .before .args .gather) _))
     returns-4)
