@@ -321,14 +321,14 @@ fn read_parts(s: &[u8], gather: bool) -> RuleRead
 pub fn read_rule(s: &[u8]) -> RuleRead
     ensures { λ r. ⌜ ruleSaid r ≡ readRule (now (s .entry)) ⌝ }
 {
-    read_parts(s, true)
+    read_parts(&*s, true)
 }
 
 // A text that says a rule.
 pub fn is_rule(s: &[u8]) -> bool
     ensures { λ r. ⌜ r ≡ isSome (partsOf (upper (now (s .entry)))) ⌝ }
 {
-    match read_parts(s, false) {
+    match read_parts(&*s, false) {
         RuleRead::Is(_) => true,
         RuleRead::NoRule => false,
     }
