@@ -7,6 +7,7 @@ use native.Mathlib.Omega.{arith}
 use native.Mathlib.Numerals.{add-one}
 use lib.ListN.{length, take, drop, set, length-set, take-append-drop}
 use lib.Seq.{take-suc-set, drop-set-lt, length-take-le, drop-drop}
+use Rattle.recurrence_set.specs.declared.Series.{Series}
 use Rattle.stop_list.specs.declared.Stop.{Stop}
 use Rattle.stop_list.specs.declared.runs.Run.{Run}
 use Rattle.stop_list.specs.Runs.{stopsOf, Sound, Advances, Begins, StopsLaid}
@@ -40,22 +41,22 @@ module _ {A : Type 0} (all old : List A) where
       whole : take i new ≡ all
       whole = sym (append-nil (take i new)) ∙ ap (λ (l : List A). take i new ++ l) (sym e) ∙ f .front
 
--- The loop that lists a run: it is at `run`, and the list is `new`.
-pub record Going (first : Run) (old : List Stop) (run : Run) (new : List Stop) : Type 0 where
-  pub sound : Sound run
+-- The loop that lists a run of a series: it is at `run`, and the list is `new`.
+pub record Going (series : Series) (first : Run) (old : List Stop) (run : Run) (new : List Stop) : Type 0 where
+  pub sound : Sound series run
   pub room : run .room ≤ length old
   pub long : length new ≡ length old
-  pub filling : Filling (stopsOf first) (stopsOf run) old new (run .at)
+  pub filling : Filling (stopsOf series first) (stopsOf series run) old new (run .at)
 
-module _ (first : Run) (old : List Stop) where
-  pub starts : Begins first (length old) → Going first old first old
-  starts b = record { sound = b .sound; room = b .fits; long = refl; filling = subst (λ n. Filling (stopsOf first) (stopsOf first) old old n) (sym (b .front)) (begins (stopsOf first) old) }
+module _ (series : Series) (first : Run) (old : List Stop) where
+  pub starts : Begins series first (length old) → Going series first old first old
+  starts b = record { sound = b .sound; room = b .fits; long = refl; filling = subst (λ n. Filling (stopsOf series first) (stopsOf series first) old old n) (sym (b .front)) (begins (stopsOf series first) old) }
 
-  module _ (run : Run) (new : List Stop) (g : Going first old run new) where
+  module _ (run : Run) (new : List Stop) (g : Going series first old run new) where
     pub at-place : run .more ≡ true → run .at < length new
     at-place b = let l = g .sound b .fits in let r = g .room in let n = g .long in omega arith
 
-    pub goes-on : (next : Run) → run .more ≡ true → Advances run next → Going first old next (set new (run .at) (run .stop))
+    pub goes-on : (next : Run) → run .more ≡ true → Advances series run next → Going series first old next (set new (run .at) (run .stop))
     goes-on next b a =
         let l = g .sound b .fits in
         let r = g .room in
@@ -64,14 +65,14 @@ module _ (first : Run) (old : List Stop) where
           room = rw (a .room) r;
           long = length-set new (run .at) (run .stop) ∙ g .long;
           filling =
-              subst (λ n. Filling (stopsOf first) (stopsOf next) old (set new (run .at) (run .stop)) n) (sym (a .number))
-              (turns (stopsOf first) old (stopsOf next) new (run .stop) (run .at) (omega arith) (rw (a .stops) at (g .filling)));
+              subst (λ n. Filling (stopsOf series first) (stopsOf series next) old (set new (run .at) (run .stop)) n) (sym (a .number))
+              (turns (stopsOf series first) old (stopsOf series next) new (run .stop) (run .at) (omega arith) (rw (a .stops) at (g .filling)));
         }
 
-    pub nearer : (next : Run) → run .more ≡ true → Advances run next → length old - next .at < length old - run .at
+    pub nearer : (next : Run) → run .more ≡ true → Advances series run next → length old - next .at < length old - run .at
     nearer next b a = rw (a .number) (let l = at-place b in let n = g .long in omega arith)
 
-    pub stops : run .more ≡ false → StopsLaid (stopsOf first) old new (run .at)
+    pub stops : run .more ≡ false → StopsLaid (stopsOf series first) old new (run .at)
     stops b =
-        let e = ends (stopsOf first) old (stopsOf run) new (run .at) (ended-stops run b) (g .filling) in
-        record { count = e .0; list = e .1 ∙ ap (λ n. stopsOf first ++ drop n old) (e .0) }
+        let e = ends (stopsOf series first) old (stopsOf series run) new (run .at) (ended-stops series run b) (g .filling) in
+        record { count = e .0; list = e .1 ∙ ap (λ n. stopsOf series first ++ drop n old) (e .0) }

@@ -19,7 +19,6 @@ use Rattle.calendar.specs.declared.rules.End.{End}
 use Rattle.calendar.specs.declared.rules.End.the-variants.{Count, Until, Open}
 use Rattle.calendar.specs.declared.rules.Rule.{Rule}
 use Rattle.calendar.proofs.NamedMoments.{read-real}
-use Rattle.recurrence_set.specs.declared.Series.{Series}
 use Rattle.recurrence_set.specs.Lists.{due}
 use Rattle.recurrence_set.specs.Meets.{momentAt, listed}
 use Rattle.recurrence_set.specs.Searches.{roomOf, seriesOf, meetsAt, realEnd, Founded}
@@ -27,10 +26,9 @@ use Rattle.recurrence_set.proofs.Ending.{series-founded, ended-limited}
 use Rattle.stop_list.specs.declared.Stop.{Stop}
 use Rattle.stop_list.specs.declared.Listed.{Listed}
 use Rattle.stop_list.specs.declared.Listed.the-variants.{Stops, Refused}
-use Rattle.stop_list.specs.declared.runs.Run.{Run}
 use Rattle.stop_list.specs.declared.plans.Plan.{Plan}
 use Rattle.stop_list.specs.Stops.{startOf, served, stop, listOf, listAnswer, listOutcome}
-use Rattle.stop_list.specs.Runs.{stopIn, stopsFrom, stopsOf, RunsFrom, Begins, StopsLaid}
+use Rattle.stop_list.specs.Runs.{stopIn, stopsFrom, stopsOf, RunsFrom, StopsLaid}
 use Rattle.stop_list.specs.Plans.{concluded, listTold, RefusedFor, Plans}
 use Rattle.calendar.proofs.RuleFacts.{rule-interval}
 use Rattle.stop_list.proofs.RunStops.{ended-stops, ended-sound}
@@ -60,8 +58,8 @@ module _ (start rule : List ℕ) (room : ℕ) (p : Plan) where
   refuses why q e =
       record {
         answer = unfold listTold in rw (q .listed) e;
-        none = λ w d. ended-stops (p .run) (q .ended);
-        begins = record { sound = ended-sound (p .run) (q .ended); front = q .front; fits = rw (q .room) (omega arith) };
+        none = λ w d. ended-stops (p .series) (p .run) (q .ended);
+        begins = record { sound = ended-sound (p .series) (p .run) (q .ended); front = q .front; fits = rw (q .room) (omega arith) };
       }
 
   -- what the code's readings tell of the plan
@@ -90,9 +88,9 @@ module _ (start rule : List ℕ) (room : ℕ) (p : Plan) where
           lists : accepted (map stop (listed r m room)) ≡ listOf start rule room
           lists = unfold listOf startOf guard when then orElse unless in rw (← e, ne-eqb (m .second) 60 n, ← f, t)
 
-          pub is-planned : (s : Series) (k : ℕ) → (isMoment m ≡ true → realEnd (r .end) → s ≡ seriesOf m r) → k ≡ roomOf (r .end) room
-              → (Founded s → s .place ≤ s .place → RunsFrom s 0 k (s .place) (p .run)) → p .listed ≡ Stops 0 → Plans start rule room p
-          is-planned s k h c g d =
+          pub is-planned : (k : ℕ) → (isMoment m ≡ true → realEnd (r .end) → p .series ≡ seriesOf m r) → k ≡ roomOf (r .end) room
+              → (Founded (p .series) → p .series .place ≤ p .series .place → RunsFrom (p .series) 0 k (p .series .place) (p .run)) → p .listed ≡ Stops 0 → Plans start rule room p
+          is-planned k h c g d =
               let w = g (rw (h real ends) (series-founded m r real (rule-interval rule r (sym f)))) (omega arith) in
               record {
                 answer = told (w .stops);
@@ -100,7 +98,7 @@ module _ (start rule : List ℕ) (room : ℕ) (p : Plan) where
                 begins = record { sound = w .sound; front = w .number; fits = rw (w .room, c) (less-room (r .end) room) };
               }
             where
-              told : stopsOf (p .run) ≡ stopsFrom s (k - 0) (s .place) → listTold (p .listed) (stopsOf (p .run)) ≡ listOf start rule room
+              told : stopsOf (p .series) (p .run) ≡ stopsFrom (p .series) (k - 0) (p .series .place) → listTold (p .listed) (stopsOf (p .series) (p .run)) ≡ listOf start rule room
               told v = unfold listTold in rw (d, v, sub-zero, c, h real ends) (ap accepted (series-stops m r room real ends) ∙ lists)
 
 -- laid into a list, that is what the list holds then
@@ -109,6 +107,6 @@ unfolding listTold concluded listOutcome listAnswer
 laid-told (Stops k) ss ys us n h l = cc (l .count, l .list)
 laid-told (Refused why) ss ys us n h l = let e : us ≡ ys = (rw (h why refl) at (l .list)) in rw e
 
-pub plan-lists : (start rule : List ℕ) (ys us : List Stop) (n : ℕ) (p : Plan) → Plans start rule (length ys) p → StopsLaid (stopsOf (p .run)) ys us n
+pub plan-lists : (start rule : List ℕ) (ys us : List Stop) (n : ℕ) (p : Plan) → Plans start rule (length ys) p → StopsLaid (stopsOf (p .series) (p .run)) ys us n
     → listOutcome (concluded (p .listed) n) us ≡ listAnswer (listOf start rule (length ys)) ys
 plan-lists start rule ys us n p t l = laid-told _ _ ys us n (t .none) l ∙ ap (λ (a : Answer (List Stop)). listAnswer a ys) (t .answer)

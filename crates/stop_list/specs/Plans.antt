@@ -31,6 +31,6 @@ pub record RefusedFor (why : Refusal) (p : Plan) : Type 0 where
 
 -- what a plan tells is the definition's answer, and a refusal has no stop
 pub record Plans (start rule : List ℕ) (room : ℕ) (p : Plan) : Type 0 where
-  pub answer : listTold (p .listed) (stopsOf (p .run)) ≡ listOf start rule room
-  pub none : (why : Refusal) → p .listed ≡ Refused why → stopsOf (p .run) ≡ []
-  pub begins : Begins (p .run) room
+  pub answer : listTold (p .listed) (stopsOf (p .series) (p .run)) ≡ listOf start rule room
+  pub none : (why : Refusal) → p .listed ≡ Refused why → stopsOf (p .series) (p .run) ≡ []
+  pub begins : Begins (p .series) (p .run) room

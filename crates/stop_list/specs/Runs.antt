@@ -36,50 +36,49 @@ stopIn s n = stop (momentAt (s .rule .frequency) (s .start) n)
 unfoldable pub stopsFrom : Series → ℕ → ℕ → List Stop
 stopsFrom s n a = map (stopIn s) (take n (due (meetsAt s) (s .places) a))
 
--- the stops from this place on
-unfoldable pub stopsOf : Run → List Stop
-stopsOf r = pick (r .more) (stopsFrom (r .series) (r .room - r .at) (r .here)) []
+-- the stops of a run of a series, from its place on
+unfoldable pub stopsOf : Series → Run → List Stop
+stopsOf s r = pick (r .more) (stopsFrom s (r .room - r .at) (r .here)) []
 
 -- r is the run at a place of a series, whose stop it has if there is such a place
 pub record RunsAt (s : Series) (at most place : ℕ) (r : Run) : Type 0 where
   pub more : r .more ≡ true
   pub number : r .at ≡ at
   pub room : r .room ≡ most
-  pub series : r .series ≡ s
   pub here : r .here ≡ place
   pub stop : place < placesOf (s .rule .frequency) → r .stop ≡ stopIn s place
 
--- there is a stop and room for it, it is that of its place, and the place meets the rule
-pub record Live (r : Run) : Type 0 where
+-- there is a stop and room for it, it is that of its place in the series, and the place meets the rule
+pub record Live (s : Series) (r : Run) : Type 0 where
   pub more : r .more ≡ true
-  pub founded : Founded (r .series)
-  pub from : r .series .place ≤ r .here
+  pub founded : Founded s
+  pub from : s .place ≤ r .here
   pub fits : r .at < r .room
-  pub within : r .here < r .series .places
-  pub meets : meetsAt (r .series) (r .here) ≡ true
-  pub stop : r .stop ≡ stopIn (r .series) (r .here)
+  pub within : r .here < s .places
+  pub meets : meetsAt s (r .here) ≡ true
+  pub stop : r .stop ≡ stopIn s (r .here)
 
 -- what is asked of a run where there is a stop
-abbrev pub Sound : Run → Type 0
-Sound r = r .more ≡ true → Live r
+abbrev pub Sound : Series → Run → Type 0
+Sound s r = r .more ≡ true → Live s r
 
 -- r is the run from a place of a series on
 pub record RunsFrom (s : Series) (at most from : ℕ) (r : Run) : Type 0 where
-  pub sound : Sound r
+  pub sound : Sound s r
   pub number : r .at ≡ at
   pub room : r .room ≡ most
-  pub stops : stopsOf r ≡ stopsFrom s (most - at) from
+  pub stops : stopsOf s r ≡ stopsFrom s (most - at) from
 
 -- r is the run q at its next stop
-pub record Advances (q r : Run) : Type 0 where
-  pub sound : Sound r
+pub record Advances (s : Series) (q r : Run) : Type 0 where
+  pub sound : Sound s r
   pub number : r .at ≡ q .at + 1
   pub room : r .room ≡ q .room
-  pub stops : stopsOf q ≡ q .stop ∷ stopsOf r
+  pub stops : stopsOf s q ≡ q .stop ∷ stopsOf s r
 
 -- it begins at the front of a list of so many records
-pub record Begins (r : Run) (room : ℕ) : Type 0 where
-  pub sound : Sound r
+pub record Begins (s : Series) (r : Run) (room : ℕ) : Type 0 where
+  pub sound : Sound s r
   pub front : r .at ≡ 0
   pub fits : r .room ≤ room
 

@@ -16,6 +16,7 @@ use calendar::moments::Kind;
 use calendar::moments::Moment;
 use calendar::moments::Moved;
 use octets::Refusal;
+use recurrence_set::Series;
 
 pub struct Stop {
     pub moment: Moment,
@@ -71,15 +72,15 @@ fn store(list: &mut [Stop], at: usize, stop: Stop)
     list[at] = stop;
 }
 
-// Lists a run of stops from the front of the list, and says how many there are.
-fn fill(list: &mut [Stop], first: Run) -> usize
-    requires { ⌜ Begins first (length (now list)) ⌝ }
-    ensures { λ r. ⌜ StopsLaid (stopsOf first) (now (list .entry)) (now (list .exit)) r ⌝ }
+// Lists a run of stops of a series from the front of the list, and says how many there are.
+fn fill(list: &mut [Stop], series: Series, first: Run) -> usize
+    requires { ⌜ Begins series first (length (now list)) ⌝ }
+    ensures { λ r. ⌜ StopsLaid (stopsOf series first) (now (list .entry)) (now (list .exit)) r ⌝ }
 {
     let mut run = first;
     while run.more {
         store(&mut *list, run.at, run.stop);
-        run = advance(run);
+        run = advance(series, run);
     }
     run.at
 }
@@ -90,7 +91,8 @@ pub fn list_stops(start: &[u8], rule: &[u8], list: &mut [Stop]) -> Listed
 {
     let room = list.len();
     let plan = make_plan(start, rule, room);
+    let series = plan.series;
     let run = plan.run;
-    let count = fill(list, run);
+    let count = fill(list, series, run);
     conclude(plan, count)
 }

@@ -27,6 +27,7 @@ use recurrence_set::series_of;
 
 pub struct Plan {
     pub listed: Listed,
+    pub series: Series,
     pub run: Run,
 }
 
@@ -191,9 +192,11 @@ fn room_of(end: End, room: usize) -> usize
 fn refused(why: Refusal) -> Plan
     ensures { λ r. ⌜ RefusedFor why r ⌝ }
 {
-    let run = run_ended(Series::EMPTY, 0, 0);
+    let series = Series::EMPTY;
+    let run = run_ended(0, 0);
     Plan {
         listed: Listed::Refused(why),
+        series: series,
         run: run,
     }
 }
@@ -220,6 +223,7 @@ pub fn make_plan(start: &[u8], rule: &[u8], room: usize) -> Plan
     let run = run_from(series, 0, room_of(end, room), series.place);
     Plan {
         listed: Listed::Stops(0),
+        series: series,
         run: run,
     }
 }

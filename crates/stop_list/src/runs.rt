@@ -9,13 +9,12 @@ use recurrence_set::Series;
 use recurrence_set::first_from;
 use recurrence_set::moment_at;
 
-// Where a run is: whether there is a stop, its number, the room for stops, which it is, and its place in its series.
+// Where a run of stops of a series is: whether there is a stop, its number, the room for stops, which it is, and its place.
 pub struct Run {
     pub more: bool,
     pub at: usize,
     pub room: usize,
     pub stop: Stop,
-    pub series: Series,
     pub here: u32,
 }
 
@@ -31,13 +30,12 @@ fn run_at(series: Series, at: usize, room: usize, here: u32) -> Run
         at: at,
         room: room,
         stop: stop,
-        series: series,
         here: here,
     }
 }
 
 // A run that has no more stop.
-pub fn run_ended(series: Series, at: usize, room: usize) -> Run
+pub fn run_ended(at: usize, room: usize) -> Run
     ensures { λ r. ⌜ (r .more ≡ false) × (r .at ≡ at) × (r .room ≡ room) ⌝ }
 {
     Run {
@@ -45,7 +43,6 @@ pub fn run_ended(series: Series, at: usize, room: usize) -> Run
         at: at,
         room: room,
         stop: Stop::FIRST,
-        series: series,
         here: 0,
     }
 }
@@ -60,14 +57,13 @@ pub fn run_from(series: Series, at: usize, room: usize, from: u32) -> Run
             return run_at(series, at, room, here as u32);
         }
     }
-    run_ended(series, at, room)
+    run_ended(at, room)
 }
 
-// The run at its next stop.
-pub fn advance(run: Run) -> Run
-    ensures { λ r. ⌜ (Live run → Advances run r) ⌝ }
+// The run of a series at its next stop.
+pub fn advance(series: Series, run: Run) -> Run
+    ensures { λ r. ⌜ (Live series run → Advances series run r) ⌝ }
 {
-    let series = run.series;
     if run.at < run.room {
         if run.here < series.places {
             return run_from(series, run.at + 1, run.room, run.here + 1);

@@ -1,6 +1,6 @@
 -- What is printed of a plan, and of a list that was lent, is what is printed of the definition's list.
 use Prim.Native.Nat.{ℕ, _+_, _≤_}
-use mathlib.Core.Path.{_≡_, refl, sym, ap, _∙_}
+use mathlib.Core.Path.{_≡_, sym, ap, _∙_}
 use mathlib.Core.Bool.{Bool, true, false, not}
 use mathlib.Core.List.{List, _++_, map}
 use mathlib.Core.Option.{Option, none, some}
@@ -35,12 +35,12 @@ use Rattle.stops_page.specs.Printing.{headShown, stopsShown, answerShown
 
 -- the plan of a start and a rule
 module _ (start rule : List ℕ) (room : ℕ) (p : Plan) (e : Plans start rule room p) where
-  pub shows-stops : (k n : ℕ) → p .listed ≡ Stops k → n ≡ length (stopsOf (p .run))
-      → headShown (octets "stops ") n ++ stopsShown (p .run .at + 1) (stopsOf (p .run)) ≡ answerShown (listOf start rule room)
+  pub shows-stops : (k n : ℕ) → p .listed ≡ Stops k → n ≡ length (stopsOf (p .series) (p .run))
+      → headShown (octets "stops ") n ++ stopsShown (p .run .at + 1) (stopsOf (p .series) (p .run)) ≡ answerShown (listOf start rule room)
   unfolding listTold answerShown
   shows-stops k n d c =
       rw c
-      (ap (λ (x : ℕ). headShown (octets "stops ") (length (stopsOf (p .run))) ++ stopsShown (x + 1) (stopsOf (p .run))) (e .begins .front)
+      (ap (λ (x : ℕ). headShown (octets "stops ") (length (stopsOf (p .series) (p .run))) ++ stopsShown (x + 1) (stopsOf (p .series) (p .run))) (e .begins .front)
       ∙ ap answerShown (rw d at (e .answer)))
 
   pub shows-refusal : (why : Refusal) → p .listed ≡ Refused why → headShown (octets "refused ") (number why) ≡ answerShown (listOf start rule room)

@@ -2,7 +2,7 @@
 use Prim.Native.Nat.{ℕ, zero, suc, _+_, _-_, _/_, _%_, _≤_, _<_, min}
 use mathlib.Core.Path.{_≡_, refl, sym, ap, _∙_}
 use mathlib.Core.Bool.{Bool, true, false}
-use mathlib.Core.List.{List, [], _∷_}
+use mathlib.Core.List.{[]}
 use native.Mathlib.Omega.{arith}
 use borrow.Author.Tests.{eqb-true}
 use lib.ListN.{length, take, length-take, length-map}
@@ -44,36 +44,36 @@ module _ (s : Series) (t n most a : ℕ) (c : n + countFrom s (most - n) a ≡ t
         one : (k j : ℕ) → k ≡ suc j → countFrom s k a ≡ suc (countFrom s j (h + 1))
         one k j e = rw (e, f .same, passes-first (meetsAt s) (s .places) h w (f .passes w))
 
--- the stops of a run
-pub none-ahead : (r : Run) → r .more ≡ false → 0 ≡ length (stopsOf r)
-none-ahead r b = rw (ended-stops r b)
+-- the stops of a run of a series
+pub none-ahead : (s : Series) (r : Run) → r .more ≡ false → 0 ≡ length (stopsOf s r)
+none-ahead s r b = rw (ended-stops s r b)
 
-module _ (r : Run) (v : Live r) where
-  pub count-ahead : (n : ℕ) → n ≡ countFrom (r .series) (r .room - r .at) (r .here) → n ≡ length (stopsOf r)
+module _ (s : Series) (r : Run) (v : Live s r) where
+  pub count-ahead : (n : ℕ) → n ≡ countFrom s (r .room - r .at) (r .here) → n ≡ length (stopsOf s r)
   unfolding stopsOf stopsFrom
   count-ahead n e = rw (v .more, length-map) e
 
   -- every so many places meet the rule
   abbrev rule : Rule
-  rule = r .series .rule
+  rule = s .rule
 
   abbrev every : ℕ → Type 0
-  every n = n ≡ min (r .room - r .at) ((r .series .places - r .here - 1) / rule .interval + 1)
+  every n = n ≡ min (r .room - r .at) ((s .places - r .here - 1) / rule .interval + 1)
 
-  divides : everyMeets rule (r .series .place) (r .here) ≡ true → (r .here - r .series .place) % rule .interval ≡ 0
+  divides : everyMeets rule (s .place) (r .here) ≡ true → (r .here - s .place) % rule .interval ≡ 0
   unfolding everyMeets counts
   divides e = eqb-true _ 0 e
 
-  count-every : meetsAt (r .series) ≡ everyMeets rule (r .series .place) → (n : ℕ) → every n → n ≡ length (stopsOf r)
+  count-every : meetsAt s ≡ everyMeets rule (s .place) → (n : ℕ) → every n → n ≡ length (stopsOf s r)
   count-every m n e =
       let d = divides (ap (λ p. p (r .here)) (sym m) ∙ v .meets) in
-      let c = every-count rule (r .series .place) (r .series .places) (r .here) (v .founded .interval) d (v .from) (v .within) in
+      let c = every-count rule (s .place) (s .places) (r .here) (v .founded .interval) d (v .from) (v .within) in
       count-ahead n (e ∙ rw (m, length-take, c))
 
-  pub count-hourly : rule .frequency ≡ Hourly → (n : ℕ) → every n → n ≡ length (stopsOf r)
+  pub count-hourly : rule .frequency ≡ Hourly → (n : ℕ) → every n → n ≡ length (stopsOf s r)
   unfolding meetsAt meetsBy
-  count-hourly f = count-every (ap {B = ℕ → Bool} (λ g n. meetsBy g rule (r .series .start) (r .series .place) n) f)
+  count-hourly f = count-every (ap {B = ℕ → Bool} (λ g n. meetsBy g rule (s .start) (s .place) n) f)
 
-  pub count-daily : rule .frequency ≡ Daily → (n : ℕ) → every n → n ≡ length (stopsOf r)
+  pub count-daily : rule .frequency ≡ Daily → (n : ℕ) → every n → n ≡ length (stopsOf s r)
   unfolding meetsAt meetsBy
-  count-daily f = count-every (ap {B = ℕ → Bool} (λ g n. meetsBy g rule (r .series .start) (r .series .place) n) f)
+  count-daily f = count-every (ap {B = ℕ → Bool} (λ g n. meetsBy g rule (s .start) (s .place) n) f)

@@ -1,6 +1,6 @@
 -- Stops as they are printed, one after the other as a run has them, and a moment by the front of its text.
-use Prim.Native.Nat.{ℕ, suc, _+_, _-_, _≤_, _<_}
-use mathlib.Core.Path.{_≡_, refl, sym, ap, _∙_}
+use Prim.Native.Nat.{ℕ, _+_, _-_, _≤_, _<_}
+use mathlib.Core.Path.{_≡_, refl, sym}
 use mathlib.Core.Bool.{false}
 use mathlib.Core.List.{List, [], _++_}
 use native.Mathlib.Omega.{arith}
@@ -12,6 +12,7 @@ use Rattle.octets.specs.Decimal.{figures}
 use Rattle.calendar.specs.declared.moments.Kind.{Kind}
 use Rattle.calendar.specs.declared.moments.Kind.the-variants.{Day, Local, Utc}
 use Rattle.calendar.specs.declared.moments.Moment.{Moment}
+use Rattle.recurrence_set.specs.declared.Series.{Series}
 use Rattle.stop_list.specs.declared.Stop.{Stop}
 use Rattle.stop_list.specs.declared.runs.Run.{Run}
 use Rattle.stop_list.specs.Runs.{stopsOf, Advances}
@@ -36,19 +37,19 @@ shown-short Day n e = omega arith
 shown-short Local n e = omega arith
 shown-short Utc n e = omega arith
 
--- for a turn: a run with a stop, and the run behind it
-module _ (r n : Run) (a : Advances r n) where
-  pub on-length : length (stopsOf r) ≡ length (stopsOf n) + 1
-  on-length = rw (a .stops) (sym (add-one (length (stopsOf n))))
+-- for a turn: a run of a series with a stop, and the run behind it
+module _ (s : Series) (r n : Run) (a : Advances s r n) where
+  pub on-length : length (stopsOf s r) ≡ length (stopsOf s n) + 1
+  on-length = rw (a .stops) (sym (add-one (length (stopsOf s n))))
 
-  pub on-shown : stopsShown (r .at + 1) (stopsOf r) ≡ stopShown (r .at + 1) (r .stop) ++ stopsShown (n .at + 1) (stopsOf n)
+  pub on-shown : stopsShown (r .at + 1) (stopsOf s r) ≡ stopShown (r .at + 1) (r .stop) ++ stopsShown (n .at + 1) (stopsOf s n)
   unfolding stopsShown
   on-shown = rw (a .stops, a .number, add-one (r .at + 1))
 
 -- a run that has no stop
-pub end-shown : (r : Run) (i : ℕ) → r .more ≡ false → stopsShown i (stopsOf r) ≡ []
+pub end-shown : (s : Series) (r : Run) (i : ℕ) → r .more ≡ false → stopsShown i (stopsOf s r) ≡ []
 unfolding stopsShown
-end-shown r i b = rw (ended-stops r b)
+end-shown s r i b = rw (ended-stops s r b)
 
 -- for a turn over a list: the next of its first n stops, and their end
 pub stops-on : (d : Stop) (l : List Stop) (n i : ℕ) → i < n → n ≤ length l

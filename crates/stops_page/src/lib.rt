@@ -137,15 +137,14 @@ fn count_walked(series: Series, from: u32, most: usize) -> usize
     n
 }
 
-// How many stops a run has.
-fn count_of(run: Run) -> usize
-    requires { ⌜ Sound run ⌝ }
-    ensures { λ r. ⌜ r ≡ length (stopsOf run) ⌝ }
+// How many stops a run of a series has.
+fn count_of(series: Series, run: Run) -> usize
+    requires { ⌜ Sound series run ⌝ }
+    ensures { λ r. ⌜ r ≡ length (stopsOf series run) ⌝ }
 {
     if !run.more {
         return 0;
     }
-    let series = run.series;
     let rule = series.rule;
     let f = rule.frequency;
     let most = run.room - run.at;
@@ -160,16 +159,16 @@ fn count_of(run: Run) -> usize
     }
 }
 
-// Writes the stops of a run.
-fn put_stops(out: &mut [u8], at: usize, first: Run) -> usize
-    requires { ⌜ Sound first ⌝ }
-    ensures { λ r. ⌜ Wrote (pen (now (out .entry)) at) (stopsShown (first .at + 1) (stopsOf first)) (pen (now (out .exit)) r) ⌝ }
+// Writes the stops of a run of a series.
+fn put_stops(out: &mut [u8], at: usize, series: Series, first: Run) -> usize
+    requires { ⌜ Sound series first ⌝ }
+    ensures { λ r. ⌜ Wrote (pen (now (out .entry)) at) (stopsShown (first .at + 1) (stopsOf series first)) (pen (now (out .exit)) r) ⌝ }
 {
     let mut to = at;
     let mut run = first;
     while run.more {
         to = put_stop(out, to, run.at + 1, run.stop);
-        run = advance(run);
+        run = advance(series, run);
     }
     to
 }
@@ -196,11 +195,12 @@ pub fn print_list(out: &mut [u8], start: &[u8], rule: &[u8], most: usize) -> usi
 {
     let plan = make_plan(start, rule, most);
     let listed = plan.listed;
+    let series = plan.series;
     let run = plan.run;
     match listed {
         Listed::Stops(_) => {
-            let at = put_head(out, b"stops ", count_of(run));
-            put_stops(out, at, run)
+            let at = put_head(out, b"stops ", count_of(series, run));
+            put_stops(out, at, series, run)
         }
         Listed::Refused(why) => put_head(out, b"refused ", why.number() as usize),
     }

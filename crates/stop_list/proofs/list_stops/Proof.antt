@@ -39,6 +39,9 @@ use denote.Triple.Clauses.{ensured, lasts}
 use denote.Triple.Table.{entered, cited}
 use denote.Triple.Walked.{says, Stays, gave-slice, stay-none-slice, walkOf, goes-gave-slice, goes-none-slice, Walks, ends-at, walked, walk-meets}
 use denote.Exit.{yes as kept}
+use Rattle.recurrence_set.specs.declared.Series.{Series}
+use Rattle.recurrence_set.proofs.Series as N
+use Rattle.recurrence_set.proofs.Series.Laws as N′
 use Rattle.stop_list.specs.declared.Stop.{Stop}
 use Rattle.stop_list.specs.declared.Listed.{Listed}
 use Rattle.stop_list.specs.declared.runs.Run.{Run}
@@ -71,9 +74,12 @@ use Rattle.stop_list.proofs.list_stops as stops
 use Rattle.stop_list.proofs.list_stops.Statement as stated
 use Rattle.stop_list.proofs.list_stops.Code as code
 
--- the types of a stop, a run, a plan and the answer, and their machine values
+-- the types of a stop, a series, a run, a plan and the answer, and their machine values
 abbrev R : RattleType
 R = T.the-row
+
+abbrev G : RattleType
+G = N.the-row
 
 abbrev S : RattleType
 S = U.the-row
@@ -86,6 +92,9 @@ L = E.the-row
 
 abbrev stayed : Stays (stops.ended .signature .params) (stops.ended .kept)
 stayed = (stay-none-slice (0 ∷ []) tt (plain (λ _. u8)) kept, (stay-none-slice (1 ∷ []) tt (plain (λ _. u8)) kept, (gave-slice (2 ∷ []) tt (plain (λ _. R)), tt)))
+
+abbrev machG : Series → Val
+machG d = LL.val N.the-type N′.the-laws d
 
 abbrev machS : Run → Val
 machS d = LL.val U.the-type U′.the-laws d
@@ -145,6 +154,9 @@ module _ {M : Type 1} (𝓤 : URA M) (H : Heap 𝓤) (A : Atoms 𝓤) (W : Given
   abbrev OwnX : Fml
   OwnX = MutSlice (named 2) κ R .own x (sv ∷ [])
 
+  typedG : (s : Series) (v : Val) → Is G s (v ∷ []) → Holds (hasTy N′.mir v) × WT v
+  typedG s v is = LL.lawful N.the-type N′.the-laws 𝓤 H A W .typed s (v ∷ []) is .0
+
   typedS : (s : Run) (v : Val) → Is S s (v ∷ []) → Holds (hasTy U′.mir v) × WT v
   typedS s v is = LL.lawful U.the-type U′.the-laws 𝓤 H A W .typed s (v ∷ []) is .0
 
@@ -167,21 +179,24 @@ module _ {M : Type 1} (𝓤 : URA M) (H : Heap 𝓤) (A : Atoms 𝓤) (W : Given
   plan-said p = exE 𝓤 _ (λ ws. snd∗ 𝓤 (sem 𝓤 H A (lasts plan.ended (κ₁, (κ₂, tt)) (t, (r, (length ys, tt))) ws)) (fact 𝓤 (Plans (t .now) (r .now) (length ys) p)))
 
   module _ (p : Plan) (p-is : Is Q p (machQ p ∷ [])) (e : Plans (t .now) (r .now) (length ys) p) where
-    run-is : Is S (p .run) (machS (p .run) ∷ [])
-    run-is = LL.owed P.the-type P′.the-laws p _ p-is .1 .0
+    series-is : Is G (p .series) (machG (p .series) ∷ [])
+    series-is = LL.owed P.the-type P′.the-laws p _ p-is .1 .0
 
-    lists : (us : List Stop) (n : ℕ) (d : Listed) → StopsLaid (stopsOf (p .run)) ys us n → d ≡ concluded (p .listed) n
+    run-is : Is S (p .run) (machS (p .run) ∷ [])
+    run-is = LL.owed P.the-type P′.the-laws p _ p-is .1 .1 .0
+
+    lists : (us : List Stop) (n : ℕ) (d : Listed) → StopsLaid (stopsOf (p .series) (p .run)) ys us n → d ≡ concluded (p .listed) n
         → listOutcome d us ≡ listAnswer (listOf (t .now) (r .now) (length ys)) ys
     lists us n d l c = rw c (plan-lists (t .now) (r .now) ys us n p e l)
 
     -- `fill`, to which the list is given up
     abbrev to-fill : FillC 𝓤 H A mem run .Ghost
-    to-fill = (((κ, tt), (q, tt), tt, (x, (p .run, tt)), (sv ∷ [], (machS (p .run) ∷ [], tt))), tt)
+    to-fill = (((κ, tt), (q, tt), tt, (x, (p .series, (p .run, tt))), (sv ∷ [], (machG (p .series) ∷ [], (machS (p .run) ∷ [], tt)))), tt)
 
     goes-fill : ent 𝓤 (sep 𝓤 (A .lft κ q) (sem 𝓤 H A OwnX)) (FillC 𝓤 H A mem run .pre to-fill)
     goes-fill =
         qed W (‵ (flft κ q) ∷ ‵ OwnX ∷ []) ∵ says ! (e .begins) $ nothing ! $ move ! (1 ∷ 0 ∷ []) $ join ! $ frame ! $
-        nothing ! $ owned ! S (Is S) (LL.makes U.the-type U′.the-plain 𝓤 H A) (p .run) _ run-is $ fjoin ! $ move ! (1 ∷ 0 ∷ []) $ fjoin ! $ done !
+        nothing ! $ owned ! S (Is S) (LL.makes U.the-type U′.the-plain 𝓤 H A) (p .run) _ run-is $ fjoin ! $ owned ! G (Is G) (LL.makes N.the-type N′.the-plain 𝓤 H A) (p .series) _ series-is $ fjoin ! $ move ! (1 ∷ 0 ∷ []) $ fjoin ! $ done !
 
     -- `conclude`
     module _ (n : ℕ) (n-fits : n < 2 ^ 64) where
@@ -193,7 +208,7 @@ module _ {M : Type 1} (𝓤 : URA M) (H : Heap 𝓤) (A : Atoms 𝓤) (W : Given
           qed W (‵ (Q .own p (machQ p ∷ [])) ∷ ‵ (usize .own n (vint w64 n ∷ [])) ∷ []) ∵ nothing ! $ move ! (2 ∷ 0 ∷ []) $ join ! $ move ! (1 ∷ 0 ∷ []) $ join ! $
           nothing ! $ join ! $ frame ! $ done !
 
-    exits : (us : List Stop) (n : ℕ) (d : Listed) → Is L d (machL d ∷ []) → length us ≡ length ys → StopsLaid (stopsOf (p .run)) ys us n → d ≡ concluded (p .listed) n
+    exits : (us : List Stop) (n : ℕ) (d : Listed) → Is L d (machL d ∷ []) → length us ≡ length ys → StopsLaid (stopsOf (p .series) (p .run)) ys us n → d ≡ concluded (p .listed) n
         → ent 𝓤 (⋆ 𝓤 H A ((‵ (flft κ₁ q₁) ⊛ ‵ (flft κ₂ q₂) ⊛ ‵ ftrue) ∷ (‵ (flft κ q) ⊛ ‵ ftrue) ∷ ‵ OwnT ∷ ‵ OwnR ∷ ‵ (finally R γ us) ∷ [])) (Post (machL d))
     exits us n d d-is l laid c =
         qed W ((‵ (flft κ₁ q₁) ⊛ ‵ (flft κ₂ q₂) ⊛ ‵ ftrue) ∷ (‵ (flft κ q) ⊛ ‵ ftrue) ∷ ‵ OwnT ∷ ‵ OwnR ∷ ‵ (finally R γ us) ∷ []) ∵
@@ -209,55 +224,56 @@ module _ {M : Type 1} (𝓤 : URA M) (H : Heap 𝓤) (A : Atoms 𝓤) (W : Given
     walk : ent 𝓤 (onEntry 𝓤 H A stops.signature (κ₁, (κ₂, (κ, tt))) (q₁, (q₂, (q, tt))) a vals) (WpFn 𝓤 H C Λ code.function (tv ∷ rv ∷ sv ∷ []) Post)
     walk =
         qed W ((‵ (flft κ₁ q₁) ⊛ ‵ (flft κ₂ q₂) ⊛ ‵ (flft κ q) ⊛ ‵ ftrue) ∷ ‵ (owns (ShrSlice (named 0) κ₁ u8 ∷ ShrSlice (named 1) κ₂ u8 ∷ MutSlice (named 2) κ R ∷ []) a vals) ∷ []) ∵ enter ! C Λ code.function (tv ∷ rv ∷ sv ∷ []) _ $
-        alloc1 ! (λ l₀. alloc1 ! (λ l₁. alloc1 ! (λ l₂. alloc1 ! (λ l₃. alloc1 ! (λ l₄. alloc1 ! (λ l₅. alloc1 ! (λ l₆. alloc1 ! (λ l₇. alloc1 ! (λ l₈. alloc1 ! (λ l₉. alloc0 ! $ params1 ! $
-        pass1 ! (init ! 16 refl (shr-slice-lawful 𝓤 H A W (named 0) κ₁ u8 .typed t (tv ∷ []) t-is .0)) $ pass1 ! (init ! 14 refl (shr-slice-lawful 𝓤 H A W (named 1) κ₂ u8 .typed r (rv ∷ []) r-is .0)) $ pass1 ! (init ! 12 refl (tt, (tt, (record { fits = room .0 }, tt)))) $ pass0 ! $
-        assigns ! (of-opd ! (load ! (from ! (fld ! refl (stop !))) (look-in ! 12 (sub ! 1 refl (whole !))))) (from ! (stop !)) (init ! 10 refl (tt, record { fits = room .0 })) $
+        alloc1 ! (λ l₀. alloc1 ! (λ l₁. alloc1 ! (λ l₂. alloc1 ! (λ l₃. alloc1 ! (λ l₄. alloc1 ! (λ l₅. alloc1 ! (λ l₆. alloc1 ! (λ l₇. alloc1 ! (λ l₈. alloc1 ! (λ l₉. alloc1 ! (λ l₁₀. alloc0 ! $ params1 ! $
+        pass1 ! (init ! 18 refl (shr-slice-lawful 𝓤 H A W (named 0) κ₁ u8 .typed t (tv ∷ []) t-is .0)) $ pass1 ! (init ! 16 refl (shr-slice-lawful 𝓤 H A W (named 1) κ₂ u8 .typed r (rv ∷ []) r-is .0)) $ pass1 ! (init ! 14 refl (tt, (tt, (record { fits = room .0 }, tt)))) $ pass0 ! $
+        assigns ! (of-opd ! (load ! (from ! (fld ! refl (stop !))) (look-in ! 14 (sub ! 1 refl (whole !))))) (from ! (stop !)) (init ! 12 refl (tt, record { fits = room .0 })) $
         -- what the texts own is had twice: once for `make_plan`, and once for the exit
-        move ! (21 ∷ []) $ fsplit ! $ use1 W (‵ OwnT ⊛ ‵ OwnT) (shr-slice-copy 𝓤 H A W (named 0) κ₁ u8 .twice t (tv ∷ [])) $ split ! $
+        move ! (23 ∷ []) $ fsplit ! $ use1 W (‵ OwnT ⊛ ‵ OwnT) (shr-slice-copy 𝓤 H A W (named 0) κ₁ u8 .twice t (tv ∷ [])) $ split ! $
         move ! (2 ∷ []) $ fsplit ! $ use1 W (‵ OwnR ⊛ ‵ OwnR) (shr-slice-copy 𝓤 H A W (named 1) κ₂ u8 .twice r (rv ∷ [])) $ split ! $
         move ! (2 ∷ []) $ fsplit ! $
-        -- [list; true; rule; rule; start; start; _9; …; _0; …; the tokens]
-        move ! (26 ∷ []) $ split ! $ move ! (1 ∷ []) $ split ! $ move ! (1 ∷ []) $ split ! $
-        -- [list's token; true; rule's token; start's token; list; true; rule; rule; start; start; _9; …]
+        -- [list; true; rule; rule; start; start; _10; …; _0; …; the tokens]
+        move ! (28 ∷ []) $ split ! $ move ! (1 ∷ []) $ split ! $ move ! (1 ∷ []) $ split ! $
+        -- [list's token; true; rule's token; start's token; list; true; rule; rule; start; start; _10; …]
         move ! (2 ∷ 1 ∷ []) $ join ! $ move ! (2 ∷ 0 ∷ []) $ join ! $
         move ! (0 ∷ 6 ∷ 4 ∷ []) $ use3 W (raw (PlanC 𝓤 H A mem run .pre to-plan)) goes-plan $
-        -- [what `make_plan` asks; list's token; list; true; rule; start; _9; …; _8; …; _7; …; _6; …; _5; …; _4; …; _3; …; _2; …; _1; …; _0; …]
-        calls-at ! fm (PlanC 𝓤 H A mem run) known-plan to-plan (and-then ! (load ! (from ! (stop !)) (look ! 22 refl)) (and-then ! (load ! (from ! (stop !)) (look ! 20 refl)) (and-then ! (load ! (from ! (stop !)) (look ! 16 refl)) (no-more !)))) (λ w.
+        -- [what `make_plan` asks; list's token; list; true; rule; start; _10; …; _9; …; _8; …; _7; …; _6; …; _5; …; _4; …; _3; …; _2; …; _1; …; _0; …]
+        calls-at ! fm (PlanC 𝓤 H A mem run) known-plan to-plan (and-then ! (load ! (from ! (stop !)) (look ! 24 refl)) (and-then ! (load ! (from ! (stop !)) (look ! 22 refl)) (and-then ! (load ! (from ! (stop !)) (look ! 18 refl)) (no-more !)))) (λ w.
         use1 W (later (some (λ (p : Plan). ((‵ (flft κ₁ q₁) ⊛ ‵ (flft κ₂ q₂) ⊛ ‵ ftrue) ⊛ ‵ (Q .own p (w ∷ []))) ⊛ raw (ensured 𝓤 H A plan.ended (plan.clauses 𝓤 H A mem run) (κ₁, (κ₂, tt)) (t, (r, (length ys, tt))) tt p)))) (id⊢ 𝓤 _) $ await ! tt $ pick ! (λ p.
         split ! $ move ! (1 ∷ []) $ use1 W (raw (fact 𝓤 (Plans (t .now) (r .now) (length ys) p))) (plan-said p) $ heard ! (Plans (t .now) (r .now) (length ys) p) (λ e. split ! $ move ! (1 ∷ []) $
         peeks ! Q (Is Q) (shows 𝓤 H A Q) p (w ∷ []) (λ is.
         let told = LL.tells P.the-type P′.the-laws p (w ∷ []) is in
         let p-is : Is Q p (machQ p ∷ []) = subst (λ (vs : List Val). Is Q p vs) told is in
-        -- [the plan; the texts' tokens; list's token; list; true; rule; start; _9; …]
+        -- [the plan; the texts' tokens; list's token; list; true; rule; start; _10; …]
         rewrite ! 0 (λ (vs : List Val). ‵ (Q .own p vs)) told refl $
-        land ! (from ! (stop !)) (init ! 15 refl (typedQ p w is)) $ rewrite ! 15 (λ (v : Val). ‵ (fat fullShare P′.mir l₅ 0 v)) (ap only told) refl $
-        assigns ! (of-opd ! (load ! (from ! (fld ! {τ = U′.mir} {d = 16} refl (stop !))) (look-in ! 15 {τ = U′.mir} (sub ! 1 {τ = U′.mir} {d = 16} refl (whole !))))) (from ! (stop !)) (init ! 13 refl (typedS (p .run) _ (run-is p p-is e))) $
-        assigns ! (addr ! (from ! (fld ! refl (hop ! (look-in ! 19 (sub ! 0 refl (whole !))) (stop !))))) (from ! (stop !)) (init ! 9 refl (tt, tt)) $
-        assigns ! (agg ! (and-then ! (load ! (from ! (stop !)) (look ! 9 refl)) (and-then ! (load ! (from ! (fld ! refl (stop !))) (look-in ! 19 (sub ! 1 refl (whole !)))) (no-more !)))) (from ! (stop !)) (init ! 7 refl (tt, (tt, (record { fits = room .0 }, tt)))) $
+        land ! (from ! (stop !)) (init ! 17 refl (typedQ p w is)) $ rewrite ! 17 (λ (v : Val). ‵ (fat fullShare P′.mir l₅ 0 v)) (ap only told) refl $
+        assigns ! (of-opd ! (load ! (from ! (fld ! {τ = N′.mir} {d = 16} refl (stop !))) (look-in ! 17 {τ = N′.mir} (sub ! 1 {τ = N′.mir} {d = 16} refl (whole !))))) (from ! (stop !)) (init ! 15 refl (typedG (p .series) _ (series-is p p-is e))) $
+        assigns ! (of-opd ! (load ! (from ! (fld ! {τ = U′.mir} {d = 152} refl (stop !))) (look-in ! 17 {τ = U′.mir} (sub ! 2 {τ = U′.mir} {d = 152} refl (whole !))))) (from ! (stop !)) (init ! 13 refl (typedS (p .run) _ (run-is p p-is e))) $
+        assigns ! (addr ! (from ! (fld ! refl (hop ! (look-in ! 21 (sub ! 0 refl (whole !))) (stop !))))) (from ! (stop !)) (init ! 9 refl (tt, tt)) $
+        assigns ! (agg ! (and-then ! (load ! (from ! (stop !)) (look ! 9 refl)) (and-then ! (load ! (from ! (fld ! refl (stop !))) (look-in ! 21 (sub ! 1 refl (whole !)))) (no-more !)))) (from ! (stop !)) (init ! 7 refl (tt, (tt, (record { fits = room .0 }, tt)))) $
         move ! (2 ∷ 3 ∷ []) $ use2 W (raw (FillC 𝓤 H A mem run .pre (to-fill p p-is e))) (goes-fill p p-is e) $
-        -- [what `fill` asks; the plan; the texts' tokens; true; rule; start; _9; …; _8; …; _7; …; _6; …]
-        calls-at ! fm (FillC 𝓤 H A mem run) known-fill (to-fill p p-is e) (and-then ! (load ! (from ! (stop !)) (look ! 6 refl)) (and-then ! (load ! (from ! (stop !)) (look ! 12 refl)) (no-more !))) (λ w′.
-        use1 W (later (some (λ (n : ℕ). ((‵ (flft κ q) ⊛ ‵ ftrue) ⊛ ‵ (usize .own n (w′ ∷ []))) ⊛ raw (ensured 𝓤 H A fill.ended (fill.clauses 𝓤 H A mem run) (κ, tt) (x, (p .run, tt)) tt n)))) (id⊢ 𝓤 _) $ await ! tt $ pick ! (λ n.
-        split ! $ move ! (1 ∷ []) $ use1 W (some (λ (us : List Stop × (Unit {0} × Unit {0})). ‵ (lasts fill.ended (κ, tt) (x, (p .run, tt)) us) ⊛ raw (fact 𝓤 (StopsLaid (stopsOf (p .run)) ys (us .0) n)))) (id⊢ 𝓤 _) $ pick ! (λ us.
-        split ! $ move ! (1 ∷ []) $ heard ! (StopsLaid (stopsOf (p .run)) ys (us .0) n) (λ laid. fsplit ! $ fsplit ! $ move ! (1 ∷ []) $ feqL ! (λ l.
+        -- [what `fill` asks; the plan; the texts' tokens; true; rule; start; _10; …; _9; …; _8; …; _7; …; _6; …]
+        calls-at ! fm (FillC 𝓤 H A mem run) known-fill (to-fill p p-is e) (and-then ! (load ! (from ! (stop !)) (look ! 6 refl)) (and-then ! (load ! (from ! (stop !)) (look ! 14 refl)) (and-then ! (load ! (from ! (stop !)) (look ! 12 refl)) (no-more !)))) (λ w′.
+        use1 W (later (some (λ (n : ℕ). ((‵ (flft κ q) ⊛ ‵ ftrue) ⊛ ‵ (usize .own n (w′ ∷ []))) ⊛ raw (ensured 𝓤 H A fill.ended (fill.clauses 𝓤 H A mem run) (κ, tt) (x, (p .series, (p .run, tt))) tt n)))) (id⊢ 𝓤 _) $ await ! tt $ pick ! (λ n.
+        split ! $ move ! (1 ∷ []) $ use1 W (some (λ (us : List Stop × (Unit {0} × (Unit {0} × Unit {0}))). ‵ (lasts fill.ended (κ, tt) (x, (p .series, (p .run, tt))) us) ⊛ raw (fact 𝓤 (StopsLaid (stopsOf (p .series) (p .run)) ys (us .0) n)))) (id⊢ 𝓤 _) $ pick ! (λ us.
+        split ! $ move ! (1 ∷ []) $ heard ! (StopsLaid (stopsOf (p .series) (p .run)) ys (us .0) n) (λ laid. fsplit ! $ fsplit ! $ move ! (1 ∷ []) $ feqL ! (λ l.
         -- [the list at last; true; list's token and the count; the plan; …]
         move ! (2 ∷ []) $ split ! $ move ! (1 ∷ []) $ peeks ! usize (Is usize) (shows 𝓤 H A usize) n (w′ ∷ []) (λ is′.
         let told′ = uint-tells w64 n (w′ ∷ []) is′ in
         rewrite ! 0 (λ (vs : List Val). ‵ (usize .own n vs)) told′ refl $
-        land ! (from ! (stop !)) (init ! 13 refl (uint-lawful 𝓤 H A W w64 .typed n (w′ ∷ []) is′ .0)) $ rewrite ! 13 (λ (v : Val). ‵ (fat fullShare (tyInt w64) l₇ 0 v)) (ap only told′) refl $
-        -- [the count; list's token; the list at last; true; the plan; the texts' tokens; true; rule; start; _9; …]
+        land ! (from ! (stop !)) (init ! 13 refl (uint-lawful 𝓤 H A W w64 .typed n (w′ ∷ []) is′ .0)) $ rewrite ! 13 (λ (v : Val). ‵ (fat fullShare (tyInt w64) l₈ 0 v)) (ap only told′) refl $
+        -- [the count; list's token; the list at last; true; the plan; the texts' tokens; true; rule; start; _10; …]
         move ! (4 ∷ 0 ∷ []) $ use2 W (raw (ConcludeC 𝓤 H A mem run .pre (to-conclude p p-is e n (is′ .1)))) (goes-conclude p p-is e n (is′ .1)) $
-        calls-at ! fm (ConcludeC 𝓤 H A mem run) known-conclude (to-conclude p p-is e n (is′ .1)) (and-then ! (load ! (from ! (stop !)) (look ! 16 refl)) (and-then ! (load ! (from ! (stop !)) (look ! 12 refl)) (no-more !))) (λ w″.
+        calls-at ! fm (ConcludeC 𝓤 H A mem run) known-conclude (to-conclude p p-is e n (is′ .1)) (and-then ! (load ! (from ! (stop !)) (look ! 18 refl)) (and-then ! (load ! (from ! (stop !)) (look ! 12 refl)) (no-more !))) (λ w″.
         use1 W (later (some (λ (d : Listed). (‵ ftrue ⊛ ‵ (L .own d (w″ ∷ []))) ⊛ raw (ensured 𝓤 H A conclude.ended (conclude.clauses 𝓤 H A mem run) tt (p, (n, tt)) tt d)))) (id⊢ 𝓤 _) $ await ! tt $ pick ! (λ d.
         split ! $ move ! (1 ∷ []) $ use1 W (raw (fact 𝓤 (d ≡ concluded (p .listed) n))) (concluded-of 𝓤 H A mem run p n d) $ heard ! (d ≡ concluded (p .listed) n) (λ c. split ! $ drop ! $
         peeks ! L (Is L) (shows 𝓤 H A L) d (w″ ∷ []) (λ is″.
         let told″ = EL.tells E.the-type E′.the-laws d (w″ ∷ []) is″ in
         let d-is : Is L d (machL d ∷ []) = subst (λ (vs : List Val). Is L d vs) told″ is″ in
-        land ! (from ! (stop !)) (init ! 26 refl (typedL d w″ is″)) $ rewrite ! 26 (λ (v : Val). ‵ (fat fullShare E′.mir l₀ 0 v)) (ap only told″) refl $
-        returns ! (look ! 26 refl) $ forget ! 8 refl $ forget ! 10 refl $ forget ! 12 refl $ forget ! 14 refl $ forget ! 16 refl $ forget ! 18 refl $ forget ! 20 refl $ forget ! 22 refl $ forget ! 24 refl $ forget ! 26 refl $
-        move ! (26 ∷ 27 ∷ []) $ free1 ! $ move ! (24 ∷ 25 ∷ []) $ free1 ! $ move ! (22 ∷ 23 ∷ []) $ free1 ! $ move ! (20 ∷ 21 ∷ []) $ free1 ! $ move ! (18 ∷ 19 ∷ []) $ free1 ! $ move ! (16 ∷ 17 ∷ []) $ free1 ! $
+        land ! (from ! (stop !)) (init ! 28 refl (typedL d w″ is″)) $ rewrite ! 28 (λ (v : Val). ‵ (fat fullShare E′.mir l₀ 0 v)) (ap only told″) refl $
+        returns ! (look ! 28 refl) $ forget ! 8 refl $ forget ! 10 refl $ forget ! 12 refl $ forget ! 14 refl $ forget ! 16 refl $ forget ! 18 refl $ forget ! 20 refl $ forget ! 22 refl $ forget ! 24 refl $ forget ! 26 refl $ forget ! 28 refl $
+        move ! (28 ∷ 29 ∷ []) $ free1 ! $ move ! (26 ∷ 27 ∷ []) $ free1 ! $ move ! (24 ∷ 25 ∷ []) $ free1 ! $ move ! (22 ∷ 23 ∷ []) $ free1 ! $ move ! (20 ∷ 21 ∷ []) $ free1 ! $ move ! (18 ∷ 19 ∷ []) $ free1 ! $ move ! (16 ∷ 17 ∷ []) $ free1 ! $
         move ! (14 ∷ 15 ∷ []) $ free1 ! $ move ! (12 ∷ 13 ∷ []) $ free1 ! $ move ! (10 ∷ 11 ∷ []) $ free1 ! $ move ! (8 ∷ 9 ∷ []) $ free1 ! $ free0 ! $
-        keep ! (4 ∷ 1 ∷ 7 ∷ 6 ∷ 2 ∷ []) $ by ! (exits p p-is e (us .0) n d d-is l laid c)))))))))))))))))))))))))
+        keep ! (4 ∷ 1 ∷ 7 ∷ 6 ∷ 2 ∷ []) $ by ! (exits p p-is e (us .0) n d d-is l laid c))))))))))))))))))))))))))
 
 module _ {M : Type 1} (𝓤 : URA M) (H : Heap 𝓤) (A : Atoms 𝓤) (W : Given 𝓤 H A) (mem : Memory → SProp 𝓤) (run : Routine → Fun 𝓤) where
   stops-walks : (C : Calls 𝓤 H) (Λ : Loops 𝓤 H) → FmC 𝓤 H (W .laws) C → Triple 𝓤 (C #stop_list·make-plan) (PlanC 𝓤 H A mem run) → Triple 𝓤 (C #stop_list·fill) (FillC 𝓤 H A mem run)

@@ -13,19 +13,19 @@ use Rattle.stops_page.proofs.put_stops.Statement.{statement}
 use Rattle.stops_page.proofs.put_stops.Tie as tie
 
 abbrev Inv-loop : tie.InvT-loop
-Inv-loop out₀ at to₀ run₀ out to run = Sound run × (length out ≡ length out₀) × Leads (pen out₀ at) (stopsShown (run₀ .at + 1) (stopsOf run₀)) (pen out to) (stopsShown (run .at + 1) (stopsOf run))
+Inv-loop out₀ at series to₀ run₀ out to run = Sound series run × (length out ≡ length out₀) × Leads (pen out₀ at) (stopsShown (run₀ .at + 1) (stopsOf series run₀)) (pen out to) (stopsShown (run .at + 1) (stopsOf series run))
 
 abbrev μ-loop : tie.MeasureT-loop
-μ-loop out₀ at to₀ run₀ out to run = length (stopsOf run)
+μ-loop out₀ at series to₀ run₀ out to run = length (stopsOf series run)
 
 loop-less : tie.Need-loop-less Inv-loop μ-loop
-loop-less c = let l = on-length _ _ (c .advance .ensures (c .before .before .before .before .before .before .before .loop .inv .0 (c .before .before .before .before .before .before .loop-test .taken))) in omega (arith, l)
+loop-less c = let l = on-length _ _ _ (c .advance .ensures (c .before .before .before .before .before .before .before .loop .inv .0 (c .before .before .before .before .before .before .loop-test .taken))) in omega (arith, l)
 
 loop-again : tie.Need-loop-again Inv-loop μ-loop
 loop-again c = (
   c .advance .ensures (c .before .before .before .before .before .before .before .loop .inv .0 (c .before .before .before .before .before .before .loop-test .taken)) .sound,
   omega arith,
-  leads-on (c .before .before .before .before .before .before .before .loop .inv .2) (c .before .before .before .put-stop .ensures) (on-shown _ _ (c .advance .ensures (c .before .before .before .before .before .before .before .loop .inv .0 (c .before .before .before .before .before .before .loop-test .taken)))),
+  leads-on (c .before .before .before .before .before .before .before .loop .inv .2) (c .before .before .before .put-stop .ensures) (on-shown _ _ _ (c .advance .ensures (c .before .before .before .before .before .before .before .loop .inv .0 (c .before .before .before .before .before .before .loop-test .taken)))),
 )
 
 pub put-stops-spec : {M : Type 1} → statement M
@@ -36,4 +36,4 @@ put-stops-spec =
     (λ c. (c .before .pre, refl, leads-start))
     (λ c. let f = c .before .before .before .loop .inv .0 (c .before .before .loop-test .taken) .fits in omega arith)
     (λ c κs. search needs) (λ c κs. search needs) loop-less loop-again (λ c. search needs)
-    (λ c. leads-end (c .before .loop .inv .2) (end-shown _ _ (c .loop-test .left))))
+    (λ c. leads-end (c .before .loop .inv .2) (end-shown _ _ _ (c .loop-test .left))))

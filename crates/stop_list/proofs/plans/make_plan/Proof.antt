@@ -28,7 +28,7 @@ unfolding ruleSaid
 returns-5 c =
     is-planned _ _ _ _ _ (ap momentSaid (sym (c .before .before .before .before .before .before .before .before .before .before .before .before .m .given .1)) ∙ c .before .before .before .before .before .before .before .before .before .before .before .before .before .before .read-moment .ensures) (c .before .before .before .before .before .before .before .before .before .if1 .left)
     _ (ap ruleSaid (sym (c .before .before .before .before .before .before .r .given .1)) ∙ c .before .before .before .before .before .before .before .before .read-rule .ensures) (sym (c .before .before .before .before .is-served .ensures) ∙ not-false _ (c .before .before .before .if2 .left))
-    _ _ (c .before .before .series-of .ensures) (c .before .room-of .ensures) (c .run-from .ensures) refl
+    _ (c .before .before .series-of .ensures) (c .before .room-of .ensures) (c .run-from .ensures) refl
 
 pub make-plan-spec : {M : Type 1} → statement M
 make-plan-spec =

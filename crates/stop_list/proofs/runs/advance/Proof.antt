@@ -10,6 +10,6 @@ advance-spec =
     tie.close
     (tie.spec
     (λ c. omega arith) (λ c. omega arith) (λ c κs. search needs)
-    (λ c. λ v. advances _ _ v (c .run-from .ensures))
+    (λ c. λ v. advances _ _ _ v (c .run-from .ensures))
     (λ c. λ v. absurd (let w = v .within in omega (arith, c .if2 .left)))
     (λ c. λ v. absurd (let w = v .fits in omega (arith, c .if1 .left))))

@@ -11,4 +11,4 @@ run-at-spec =
     tie.close
     (tie.spec
     (λ c κs. search needs)
-    (λ c. record { more = refl; number = refl; room = refl; series = refl; here = refl; stop = λ l. unfold stopIn in ap stop (c .moment-at .ensures l) }))
+    (λ c. record { more = refl; number = refl; room = refl; here = refl; stop = λ l. unfold stopIn in ap stop (c .moment-at .ensures l) }))
