@@ -4,27 +4,15 @@ use Rattle.recurrence_set.proofs.Every.{left-over, every-here, every-ne
 use Rattle.recurrence_set.proofs.every_from.Statement.{statement}
 use Rattle.recurrence_set.proofs.every_from.Tie as tie
 
-cast-interval : tie.Need-cast-interval
-cast-interval c = omega arith
-
-sub-out : tie.Need-sub-out
-sub-out c = omega arith
-
-rem-out : tie.Need-rem-out
-rem-out c = omega arith
-
-returns : tie.Need-returns
-returns c = every-here _ _ _ (c .if1 .taken)
-
 sub-result : tie.Need-sub-result
 sub-result c = left-over _ _ (c .before .before .pre .0)
-
-add-result : tie.Need-add-result
-add-result c = omega arith
 
 returns-2 : tie.Need-returns-2
 returns-2 c = every-next _ _ _ (c .before .before .pre .0) (c .before .before .pre .1) (c .if1 .left)
 
 pub every-from-spec : {M : Type 1} → statement M
 every-from-spec =
-    tie.close (tie.spec cast-interval sub-out rem-out returns sub-result add-result returns-2)
+    tie.close
+    (tie.spec
+    (λ c. omega arith) (λ c. omega arith) (λ c. omega arith) (λ c. every-here _ _ _ (c .if1 .taken))
+    sub-result (λ c. omega arith) returns-2)

@@ -6,9 +6,6 @@ use borrow.Author.Needs.{needs}
 use Rattle.recurrence_set.proofs.first_from.Statement.{statement}
 use Rattle.recurrence_set.proofs.first_from.Tie as tie
 
-returns : tie.Need-returns
-returns c = λ h l. first-past _ _ _ (c .if1 .taken)
-
 returns-2 : tie.Need-returns-2
 returns-2 c = λ h l. absurd (omega (arith, l, c .if2 .taken))
 
@@ -40,6 +37,6 @@ pub first-from-spec : {M : Type 1} → statement M
 first-from-spec =
     tie.close
     (tie.spec
-    (λ c. search needs) (λ c. search needs) returns returns-2 returns-3 (λ c. search needs) (λ c. search needs) (λ c. search needs)
+    (λ c. search needs) (λ c. search needs) (λ c. λ h l. first-past _ _ _ (c .if1 .taken)) returns-2 returns-3 (λ c. search needs) (λ c. search needs) (λ c. search needs)
     (λ c κs. search needs) (λ c. search needs) (λ c κs. search needs) (λ c. search needs) (λ c κs. search needs) (λ c. search needs)
     (λ c κs. search needs) (λ c. search needs) returns-4 returns-5 returns-6 returns-7 returns-8 returns-9 returns-10)

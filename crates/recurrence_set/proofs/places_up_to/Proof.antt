@@ -7,22 +7,14 @@ use borrow.Author.Needs.{needs}
 use Rattle.recurrence_set.proofs.places_up_to.Statement.{statement}
 use Rattle.recurrence_set.proofs.places_up_to.Tie as tie
 
-returns : tie.Need-returns
-unfolding placesUpTo
-returns c = rw (lt-ltb _ _ (c .if1 .taken))
-
 add-result : tie.Need-add-result
 add-result c = let w = places-few (c .before .args .unit) (c .before .args .t) (c .before .args .u) (c .before .pre .0) (c .before .pre .1) in omega arith
 
 cast-result : tie.Need-cast-result
 cast-result c = let w = places-few (c .before .args .unit) (c .before .args .t) (c .before .args .u) (c .before .pre .0) (c .before .pre .1) in omega arith
 
-returns-2 : tie.Need-returns-2
-unfolding placesUpTo
-returns-2 c = rw (le-ltb _ _ (c .if1 .left))
-
 pub places-up-to-spec : {M : Type 1} → statement M
 places-up-to-spec =
     tie.close
     (tie.spec
-    returns (λ c. search needs) add-result cast-result returns-2)
+    (λ c. unfold placesUpTo in rw (lt-ltb _ _ (c .if1 .taken))) (λ c. search needs) add-result cast-result (λ c. unfold placesUpTo in rw (le-ltb _ _ (c .if1 .left))))

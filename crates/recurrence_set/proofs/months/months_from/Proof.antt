@@ -14,9 +14,6 @@ Inv-loop rule month skip places v interval at₀ past₀ at past = (past ≤ 30)
 abbrev μ-loop : tie.MeasureT-loop
 μ-loop rule month skip places v interval at₀ past₀ at past = 120000 - at
 
-loop-holds : tie.Need-loop-holds Inv-loop μ-loop
-loop-holds c = (omega arith, search-begins _ _ _ _ _)
-
 returns : tie.Need-returns Inv-loop μ-loop
 returns c = λ q k h. search-past _ _ _ _ _ _ _ (c .before .before .before .loop .inv .1 (c .before .before .before .before .before .before .args .start) refl q k h) (month-past _ (ap monthSaid (sym (c .enum-told .given .1)) ∙ c .before .before .at .ensures)) q
 
@@ -29,9 +26,6 @@ month-set-requires : tie.Need-month-set-requires Inv-loop μ-loop
 month-set-requires c κs =
     let w = month-said (c .before .before .before .before .before .before .before .loop .at) (c .before .before .before .before .m .given .0 .0) (ap monthSaid (sym (c .before .before .before .before .m .given .1)) ∙ c .before .before .before .before .before .before .at .ensures) in
     (rw (w .days) (length-short _), omega arith)
-
-add-result-4 : tie.Need-add-result-4 Inv-loop μ-loop
-add-result-4 c = omega (arith, c .least .ensures .most)
 
 returns-3 : tie.Need-returns-3 Inv-loop μ-loop
 returns-3 c =
@@ -57,6 +51,6 @@ pub months-from-spec : {M : Type 1} → statement M
 months-from-spec =
     tie.close
     (tie.spec
-    Inv-loop μ-loop (λ c. omega arith) (λ c. omega arith) loop-holds (λ c κs. search needs) (λ c. search needs) (λ c. search needs) (λ c. omega arith)
+    Inv-loop μ-loop (λ c. omega arith) (λ c. omega arith) (λ c. (omega arith, search-begins _ _ _ _ _)) (λ c κs. search needs) (λ c. search needs) (λ c. search needs) (λ c. omega arith)
     (λ c. omega arith) returns (λ c. omega arith) (λ c. omega arith) (λ c. omega arith) returns-2 (λ c. omega arith) (λ c. omega arith)
-    month-set-requires (λ c. omega arith) (λ c. omega arith) (λ c κs. search needs) add-result-4 returns-3 add-at loop-less loop-again)
+    month-set-requires (λ c. omega arith) (λ c. omega arith) (λ c κs. search needs) (λ c. omega (arith, c .least .ensures .most)) returns-3 add-at loop-less loop-again)

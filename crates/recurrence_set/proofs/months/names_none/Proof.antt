@@ -4,9 +4,6 @@ use borrow.Author.Tests.{not-true, not-false}
 use Rattle.recurrence_set.proofs.months.names_none.Statement.{statement}
 use Rattle.recurrence_set.proofs.months.names_none.Tie as tie
 
-returns : tie.Need-returns
-returns c = no-by-day _ (not-true _ (c .if1 .taken))
-
 returns-2 : tie.Need-returns-2
 returns-2 c = some-weekday _ (not-false _ (c .before .before .if1 .left)) (c .if2 .taken)
 
@@ -20,4 +17,4 @@ pub names-none-spec : {M : Type 1} → statement M
 names-none-spec =
     tie.close
     (tie.spec
-    returns returns-2 returns-3 returns-4)
+    (λ c. no-by-day _ (not-true _ (c .if1 .taken))) returns-2 returns-3 returns-4)

@@ -4,11 +4,8 @@ use Rattle.recurrence_set.proofs.FiveWeeks.{each-week}
 use Rattle.recurrence_set.proofs.sets.each_week.Statement.{statement}
 use Rattle.recurrence_set.proofs.sets.each_week.Tie as tie
 
-mul-result : tie.Need-mul-result
-mul-result c = omega arith
-
 returns : tie.Need-returns
 returns c = record { days = each-week (c .args .set) }
 
 pub each-week-spec : {M : Type 1} → statement M
-each-week-spec = tie.close (tie.spec mul-result returns)
+each-week-spec = tie.close (tie.spec (λ c. omega arith) returns)

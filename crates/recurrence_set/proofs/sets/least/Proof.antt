@@ -8,8 +8,5 @@ use Rattle.recurrence_set.proofs.sets.least.Tie as tie
 cast-result : tie.Need-cast-result
 cast-result c = omega (arith, trailing-le 64 (c .args .set))
 
-returns : tie.Need-returns
-returns c = least-of _
-
 pub least-spec : {M : Type 1} → statement M
-least-spec = tie.close (tie.spec cast-result returns)
+least-spec = tie.close (tie.spec cast-result (λ c. least-of _))

@@ -5,19 +5,10 @@ use Rattle.recurrence_set.proofs.WeekSearch.{serving-week, serves-named
 use Rattle.recurrence_set.proofs.weeks.week_set.Statement.{statement}
 use Rattle.recurrence_set.proofs.weeks.week_set.Tie as tie
 
-shl-set : tie.Need-shl-set
-shl-set c = search needs
-
-each-week-requires : tie.Need-each-week-requires
-each-week-requires c κs = search needs
-
-shr-result : tie.Need-shr-result
-shr-result c = search needs
-
 returns : tie.Need-returns
 returns c =
     serving-week _ _ _ (c .before .if1 .set) _ (c .before .before .before .before .pre .1) (c .each-week .ensures)
     (⊎-elim (λ q. serves-named _ _ _ (q .1) (q .0 .taken)) (λ q. serves-start _ _ _ (q .1) (q .0 .left)) (c .before .if1 .came))
 
 pub week-set-spec : {M : Type 1} → statement M
-week-set-spec = tie.close (tie.spec shl-set each-week-requires shr-result returns)
+week-set-spec = tie.close (tie.spec (λ c. search needs) (λ c κs. search needs) (λ c. search needs) returns)

@@ -7,12 +7,6 @@ use borrow.Author.Needs.{needs}
 use Rattle.recurrence_set.proofs.weeks.weekly_from.Statement.{statement}
 use Rattle.recurrence_set.proofs.weeks.weekly_from.Tie as tie
 
-weekday-place-requires : tie.Need-weekday-place-requires
-weekday-place-requires c κs = search needs
-
-add-week-set : tie.Need-add-week-set
-add-week-set c = search needs
-
 week-set-requires : tie.Need-week-set-requires
 week-set-requires c κs = omega (arith, place-of _ _ (c .weekday-place .ensures))
 
@@ -21,41 +15,11 @@ returns c =
     week-none _ _ _ _ (c .before .before .weekday-place .ensures) (c .before .week-set .ensures) (c .before .before .before .pre .0)
     (c .if1 .taken) _ _ (omega arith)
 
-cast-interval : tie.Need-cast-interval
-cast-interval c = search needs
-
-add-at : tie.Need-add-at
-add-at c = search needs
-
 sub-at : tie.Need-sub-at
 sub-at c = omega (arith, place-of _ _ (c .before .before .before .weekday-place .ensures))
 
-add-at-2 : tie.Need-add-at-2
-add-at-2 c = search needs
-
-add-out : tie.Need-add-out
-add-out c = search needs
-
 sub-out : tie.Need-sub-out
 sub-out c = omega (arith, place-of _ _ (c .before .before .before .weekday-place .ensures))
-
-add-out-2 : tie.Need-add-out-2
-add-out-2 c = search needs
-
-sub-out-2 : tie.Need-sub-out-2
-sub-out-2 c = search needs
-
-rem-out : tie.Need-rem-out
-rem-out c = search needs
-
-shr-rest : tie.Need-shr-rest
-shr-rest c = search needs
-
-least-requires : tie.Need-least-requires
-least-requires c κs = search needs
-
-add-result : tie.Need-add-result
-add-result c = search needs
 
 returns-2 : tie.Need-returns-2
 returns-2 c =
@@ -65,18 +29,6 @@ returns-2 c =
 
 sub-result : tie.Need-sub-result
 sub-result c = left-over _ _ (c .before .before .before .before .before .pre .0)
-
-add-result-2 : tie.Need-add-result-2
-add-result-2 c = search needs
-
-mul-result : tie.Need-mul-result
-mul-result c = search needs
-
-least-requires-2 : tie.Need-least-requires-2
-least-requires-2 c κs = search needs
-
-add-result-3 : tie.Need-add-result-3
-add-result-3 c = search needs
 
 sub-result-2 : tie.Need-sub-result-2
 sub-result-2 c =
@@ -106,28 +58,28 @@ pub weekly-from-spec : {M : Type 1} → statement M
 weekly-from-spec =
     tie.close
     (tie.spec
-    weekday-place-requires
-    add-week-set
+    (λ c κs. search needs)
+    (λ c. search needs)
     week-set-requires
     returns
-    cast-interval
-    add-at
+    (λ c. search needs)
+    (λ c. search needs)
     sub-at
-    add-at-2
-    add-out
+    (λ c. search needs)
+    (λ c. search needs)
     sub-out
-    add-out-2
-    sub-out-2
-    rem-out
-    shr-rest
-    least-requires
-    add-result
+    (λ c. search needs)
+    (λ c. search needs)
+    (λ c. search needs)
+    (λ c. search needs)
+    (λ c κs. search needs)
+    (λ c. search needs)
     returns-2
     sub-result
-    add-result-2
-    mul-result
-    least-requires-2
-    add-result-3
+    (λ c. search needs)
+    (λ c. search needs)
+    (λ c κs. search needs)
+    (λ c. search needs)
     sub-result-2
     sub-result-3
     sub-result-4
