@@ -7,6 +7,8 @@ use native.Mathlib.Omega.{arith}
 use native.Mathlib.Numerals.{add-one}
 use native.Mathlib.Nat.{add-zero}
 use native.Mathlib.Decide.{decLe}
+use lib.ListN.{length}
+use Rattle.octets.proofs.Cases.{cases}
 use Rattle.recurrence_set.specs.Lists.{numbersFrom, only, due}
 use Rattle.recurrence_set.specs.Searches.{First}
 
@@ -44,6 +46,22 @@ module _ (p : ℕ → Bool) (l : ℕ) where
   skip a b h f =
       let e : a + (b - a) ≡ b = omega arith in
       rw e at (skips (b - a) a (λ k x y z. f k x (omega arith) z))
+
+  -- from further on there are not more
+  one-fewer : (a : ℕ) → length (due p l (a + 1)) ≤ length (due p l a)
+  one-fewer a = go (decLe l a)
+    where
+      go : Dec (l ≤ a) → length (due p l (a + 1)) ≤ length (due p l a)
+      go (yes h) = rw (past (a + 1) (omega arith)) (omega arith)
+      go (no h) = cases (p a)
+          (λ e. rw (passes-first a (omega arith) e) (omega arith))
+          (λ e. rw (fails a (λ q. e)) (omega arith))
+
+  pub fewer : (n a : ℕ) → length (due p l (a + n)) ≤ length (due p l a)
+  fewer zero a = rw add-zero (omega arith)
+  fewer (suc n) a =
+      let e : a + suc n ≡ a + 1 + n = omega arith in
+      rw e (let f = fewer n (a + 1) in let g = one-fewer a in omega arith)
 
   -- the first that passes: it is the one looked at, it lies further on, there is none, or it is the first from one further on
   pub first-here : (a : ℕ) → p a ≡ true → First p l a a

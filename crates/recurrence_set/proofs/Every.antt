@@ -1,7 +1,7 @@
 -- One of every so many: those between two of them may be jumped over, and how many there are up to an end.
 use Prim.Native.Nat.{ℕ, zero, suc, _+_, _-_, _/_, _%_, _≤_, _<_}
 use mathlib.Core.Path.{_≡_, sym, ap, _∙_}
-use mathlib.Core.Bool.{true, false}
+use mathlib.Core.Bool.{Bool, true, false}
 use mathlib.Core.List.{List, _∷_}
 use native.Mathlib.Omega.{arith}
 use native.Mathlib.Numerals.{add-one}
@@ -13,7 +13,7 @@ use Rattle.calendar.specs.declared.rules.Rule.{Rule}
 use Rattle.recurrence_set.specs.Lists.{due}
 use Rattle.recurrence_set.specs.Meets.{counts, everyMeets}
 use Rattle.recurrence_set.specs.Searches.{First}
-use Rattle.recurrence_set.proofs.Due.{past, passes-first, skip, first-here, first-at}
+use Rattle.recurrence_set.proofs.Due.{past, passes-first, skip, fewer, first-here, first-at}
 
 pub counts-here : (i x : ℕ) → x % i ≡ 0 → counts i x ≡ true
 unfolding counts
@@ -104,3 +104,24 @@ module _ (r : Rule) (s l : ℕ) (p : 1 ≤ r .interval) where
 pub every-count : (r : Rule) (s l a : ℕ) → 1 ≤ r .interval → (a - s) % r .interval ≡ 0 → s ≤ a → a < l
     → length (due (everyMeets r s) l a) ≡ (l - a - 1) / r .interval + 1
 every-count r s l a p e h g = count-up r s l p (l - a) a (omega arith) e h g
+
+-- Where one that passes is followed by another so many further on, there are at least as many as such steps.
+module _ (p : ℕ → Bool) (l step : ℕ) (h : 1 ≤ step) where
+  sure-up : (n a : ℕ) → l - a ≤ n → ((k : ℕ) → a ≤ k → p k ≡ true → p (k + step) ≡ true) → p a ≡ true → a < l → (l - a - 1) / step + 1 ≤ length (due p l a)
+  sure-up zero a b f e g = absurd (omega arith)
+  sure-up (suc n) a b f e g =
+      let o : length (due p l a) ≡ suc (length (due p l (a + 1))) = ap length (passes-first p l a g e) in
+      let j : a + 1 + (step - 1) ≡ a + step = omega arith in
+      let w : length (due p l (a + step)) ≤ length (due p l (a + 1)) = rw j at (fewer p l (step - 1) (a + 1)) in
+      rest (decLe l (a + step)) o w (λ q. sure-up n (a + step) (omega arith) (λ k x y. f k (omega arith) y) (f a (omega arith) e) q)
+    where
+      rest : Dec (l ≤ a + step) → length (due p l a) ≡ suc (length (due p l (a + 1))) → length (due p l (a + step)) ≤ length (due p l (a + 1))
+          → (a + step < l → (l - (a + step) - 1) / step + 1 ≤ length (due p l (a + step))) → (l - a - 1) / step + 1 ≤ length (due p l a)
+      rest (yes q) o w i = let z : (l - a - 1) / step ≡ 0 = div-eq-of-lt (omega arith) in rw z (omega arith)
+      rest (no q) o w i =
+          let d : l - (a + step) - 1 ≡ l - a - 1 - step = omega arith in
+          let u = rw d at (i (omega arith)) in
+          rw (quotient-less (l - a - 1) step h (omega arith)) (omega arith)
+
+  pub steps-sure : (a : ℕ) → ((k : ℕ) → a ≤ k → p k ≡ true → p (k + step) ≡ true) → p a ≡ true → a < l → (l - a - 1) / step + 1 ≤ length (due p l a)
+  steps-sure a f e g = sure-up (l - a) a (omega arith) f e g

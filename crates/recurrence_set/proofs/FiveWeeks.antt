@@ -1,6 +1,6 @@
 -- Five weeks in a set: seven days repeated in each of them, and each of them turned. The rules of the factor and of the masks are computed tests.
 use Prim.Native.Nat.{ℕ, _+_, _-_, _*_, _/_, _%_, _^_, _≤_, _<_}
-use mathlib.Core.Path.{_≡_, refl, ap, _∙_}
+use mathlib.Core.Path.{_≡_, refl, sym, ap, _∙_}
 use mathlib.Core.Bool.{Bool, true, false, not}
 use native.Mathlib.Omega.{arith}
 use borrow.Author.Tests.{ltb-true, ltb-false}
@@ -10,7 +10,7 @@ use Rattle.octets.specs.Basics.{pick, _and_, _or_}
 use Rattle.octets.proofs.Cases.{cases, and-true-right}
 use Rattle.calendar.specs.Sets.{has}
 use Rattle.calendar.proofs.Ranges.{below, each-below, agree, order, alike}
-use Rattle.calendar.proofs.SetLaws.{has-or}
+use Rattle.calendar.proofs.SetLaws.{has-or, has-none}
 use Rattle.recurrence_set.proofs.SetBits.{has-and, has-shr, has-shl, has-mod}
 
 -- the first day of each of five weeks
@@ -65,6 +65,10 @@ back-has w h k l =
     says : (b : Bool) → eqb (pick b 0 1) 1 ≡ not b
     says true = refl
     says false = refl
+
+-- of no day there is none to turn
+pub turned-none : (a j k : ℕ) → a ≡ 0 → has 0 k ≡ has a j
+turned-none a j k e = has-none k ∙ sym (has-none j) ∙ ap (λ (x : ℕ). has x j) (sym e)
 
 -- the day k of a week turned by w
 pub turned-day : (a w k : ℕ) → w < 7 → k < 35

@@ -3,10 +3,11 @@ use Prim.Native.Nat.{ℕ, _+_, _-_, _*_, _/_, _%_, _^_, _≤_, _<_}
 use mathlib.Core.Path.{_≡_, sym, ap, _∙_}
 use mathlib.Core.Bool.{true, false}
 use native.Mathlib.Omega.{arith}
-use native.Mathlib.Nat.{mod-lt}
+use native.Mathlib.Nat.{mod-lt, add-mod-right}
 use native.Mathlib.Decide.{decLe}
 use borrow.Author.Tests.{ne-eqb, eqb-false}
 use lib.Dec.{eqb}
+use lib.ListN.{length}
 use lib.Pow.{pow-pos, shr-lt}
 use Rattle.octets.specs.Basics.{_and_}
 use Rattle.octets.proofs.Cases.{same?, itself, and-false-right}
@@ -15,13 +16,14 @@ use Rattle.calendar.specs.Sets.{has}
 use Rattle.calendar.specs.Rules.{weekdayPlace}
 use Rattle.calendar.specs.declared.rules.Weekday.{Weekday}
 use Rattle.calendar.specs.declared.rules.Rule.{Rule}
+use Rattle.recurrence_set.specs.Lists.{due}
 use Rattle.recurrence_set.specs.Meets.{counts, weekdayServes, weeklyMeets}
 use Rattle.recurrence_set.specs.Searches.{First, Least, Marks, MarksOnly, servesInWeek}
 use Rattle.recurrence_set.proofs.Due.{first-at, first-none}
 use Rattle.calendar.proofs.SetLaws.{has-none, has-power}
 use Rattle.calendar.proofs.Gathering.{place-small}
 use Rattle.recurrence_set.proofs.SetBits.{has-shr, has-mod, least-below}
-use Rattle.recurrence_set.proofs.Every.{counts-here, counts-not, counts-between, counts-next}
+use Rattle.recurrence_set.proofs.Every.{counts-here, counts-not, counts-between, counts-next, steps-sure}
 
 -- a set of weekdays that serve, in weeks that begin on the weekday w
 pub serving-week : (r : Rule) (v w a f : ℕ) → w < 7 → Marks 35 (λ k. has a (k % 7)) f → ((x : ℕ) → x < 7 → has a x ≡ weekdayServes r v x)
@@ -212,3 +214,18 @@ module _ (r : Rule) (s w set : ℕ) (e : w ≡ weekdayPlace (r .wkst)) (m : Mark
     week-done z n t q =
         week-next (λ k x y.
         unserved k (ap (has set) (same-week a k w x y) ∙ sym (has-shr set place (k - a)) ∙ ap (λ (b : ℕ). has b (k - a)) z ∙ has-none (k - a))) n t q
+
+-- what meets the rule meets it again a counted week later, so there are at least as many as such weeks
+week-later : (s k w i : ℕ) → s ≤ k → (k + 7 * i + 5 + (7 - w)) / 7 - (s + 5 + (7 - w)) / 7 ≡ (k + 5 + (7 - w)) / 7 - (s + 5 + (7 - w)) / 7 + i
+week-later s k w i h = omega arith
+
+day-later : (k i : ℕ) → (k + 7 * i + 5) % 7 ≡ (k + 5) % 7
+day-later k i = omega arith
+
+week-again : (r : Rule) (s k : ℕ) → s ≤ k → weeklyMeets r s (k + 7 * r .interval) ≡ weeklyMeets r s k
+unfolding weeklyMeets weekAt weekdayAt counts
+week-again r s k h =
+    rw (week-later s k (weekdayPlace (r .wkst)) (r .interval) h, day-later k (r .interval), add-mod-right ((k + 5 + (7 - weekdayPlace (r .wkst))) / 7 - (s + 5 + (7 - weekdayPlace (r .wkst))) / 7) (r .interval))
+
+pub weekly-sure : (r : Rule) (s l a : ℕ) → 1 ≤ r .interval → s ≤ a → weeklyMeets r s a ≡ true → a < l → (l - a - 1) / (7 * r .interval) + 1 ≤ length (due (weeklyMeets r s) l a)
+weekly-sure r s l a p h e g = steps-sure (weeklyMeets r s) l (7 * r .interval) (omega arith) a (λ k x y. week-again r s k (omega arith) ∙ y) e g

@@ -25,6 +25,9 @@ pub(crate) fn turned(set: u64, w: u64) -> u64
     requires { ⌜ w < 7 ⌝ }
     ensures { λ r. ⌜ Marks 35 (λ k. has set ((k + w) % 7 + 7 * (k / 7))) r ⌝ }
 {
+    if set == 0 {
+        return 0;
+    }
     let front = ((1 << (7 - w)) - 1) * WEEKS;
     let back = 127 * WEEKS - front;
     ((set >> w) & front) | ((set << (7 - w)) & back)

@@ -1,19 +1,20 @@
 -- How many stops a run has: by a walk from place to place, or by a division where every so many places meet the rule.
-use Prim.Native.Nat.{ℕ, zero, suc, _+_, _-_, _/_, _%_, _≤_, _<_, min}
+use Prim.Native.Nat.{ℕ, zero, suc, _+_, _-_, _*_, _/_, _%_, _≤_, _<_, min}
 use mathlib.Core.Path.{_≡_, refl, sym, ap, _∙_}
 use mathlib.Core.Bool.{Bool, true, false}
 use mathlib.Core.List.{[]}
 use native.Mathlib.Omega.{arith}
 use borrow.Author.Tests.{eqb-true}
 use lib.ListN.{length, take, length-take, length-map}
-use Rattle.calendar.specs.declared.rules.Frequency.the-variants.{Hourly, Daily}
+use Rattle.calendar.specs.declared.rules.Frequency.the-variants.{Hourly, Daily, Weekly}
 use Rattle.calendar.specs.declared.rules.Rule.{Rule}
 use Rattle.recurrence_set.specs.declared.Series.{Series}
 use Rattle.recurrence_set.specs.Lists.{due}
-use Rattle.recurrence_set.specs.Meets.{counts, everyMeets, meetsBy}
+use Rattle.recurrence_set.specs.Meets.{counts, everyMeets, weeklyMeets, meetsBy}
 use Rattle.recurrence_set.specs.Searches.{First, meetsAt}
 use Rattle.recurrence_set.proofs.Due.{past, passes-first}
 use Rattle.recurrence_set.proofs.Every.{every-count}
+use Rattle.recurrence_set.proofs.WeekSearch.{weekly-sure}
 use Rattle.stop_list.specs.declared.runs.Run.{Run}
 use Rattle.stop_list.specs.Runs.{stopsFrom, stopsOf, Live}
 use Rattle.stop_list.proofs.RunStops.{ended-stops}
@@ -44,6 +45,10 @@ module _ (s : Series) (t n most a : ℕ) (c : n + countFrom s (most - n) a ≡ t
         one : (k j : ℕ) → k ≡ suc j → countFrom s k a ≡ suc (countFrom s j (h + 1))
         one k j e = rw (e, f .same, passes-first (meetsAt s) (s .places) h w (f .passes w))
 
+-- where there are at least k of them, they are k
+pub sure-count : (s : Series) (k n a : ℕ) → n ≤ length (due (meetsAt s) (s .places) a) → k ≤ n → k ≡ countFrom s k a
+sure-count s k n a h l = let e = length-take k (due (meetsAt s) (s .places) a) in omega arith
+
 -- the stops of a run of a series
 pub none-ahead : (s : Series) (r : Run) → r .more ≡ false → 0 ≡ length (stopsOf s r)
 none-ahead s r b = rw (ended-stops s r b)
@@ -69,6 +74,13 @@ module _ (s : Series) (r : Run) (v : Live s r) where
       let d = divides (ap (λ p. p (r .here)) (sym m) ∙ v .meets) in
       let c = every-count rule (s .place) (s .places) (r .here) (v .founded .interval) d (v .from) (v .within) in
       count-ahead n (e ∙ rw (m, length-take, c))
+
+  -- a weekly rule is met again in each week that counts
+  pub weeks-ahead : rule .frequency ≡ Weekly → (n : ℕ) → n ≡ (s .places - r .here - 1) / (7 * rule .interval) + 1 → n ≤ length (due (meetsAt s) (s .places) (r .here))
+  unfolding meetsAt meetsBy
+  weeks-ahead f n e =
+      let m : meetsAt s ≡ weeklyMeets rule (s .place) = ap {B = ℕ → Bool} (λ g n. meetsBy g rule (s .start) (s .place) n) f in
+      rw (e, m) (weekly-sure rule (s .place) (s .places) (r .here) (v .founded .interval) (v .from) (ap (λ p. p (r .here)) (sym m) ∙ v .meets) (v .within))
 
   pub count-hourly : rule .frequency ≡ Hourly → (n : ℕ) → every n → n ≡ length (stopsOf s r)
   unfolding meetsAt meetsBy

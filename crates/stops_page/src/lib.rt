@@ -1,7 +1,7 @@
 // What `stops` prints: its three lines of input, and the stops that they ask for.
 ghost use mathlib.Core.Path.{_≡_};
 ghost use mathlib.Core.List.{_++_};
-ghost use Prim.Native.Nat.{_+_, _-_, _/_, _%_, _≤_, _<_, min};
+ghost use Prim.Native.Nat.{_+_, _-_, _*_, _/_, _%_, _≤_, _<_, min};
 ghost use lib.ListN.{length, take};
 ghost use Rattle.octets.specs.Pen.{pen, Wrote};
 ghost use Rattle.calendar.specs.declared.moments.Kind.the-variants.{Utc};
@@ -137,6 +137,25 @@ fn count_walked(series: Series, from: u32, most: usize) -> usize
     n
 }
 
+// How many counted weeks there are at least, from a day on that meets a weekly rule: it does again in each of them.
+fn sure_weeks(rule: Rule, here: u32, places: u32) -> u64
+    requires { ⌜ (1 ≤ rule .interval) × (here < places) ⌝ }
+    ensures { λ r. ⌜ r ≡ (places - here - 1) / (7 * rule .interval) + 1 ⌝ }
+{
+    ((places - here - 1) as u64) / (7 * (rule.interval as u64)) + 1
+}
+
+// How many places of a series meet its rule, from one on, and not more than `most`, where at least `sure` do.
+fn count_sure(series: Series, from: u32, most: usize, sure: u64) -> usize
+    requires { ⌜ Founded series × (series .place ≤ from) × (sure ≤ length (due (meetsAt series) (series .places) from)) ⌝ }
+    ensures { λ r. ⌜ r ≡ length (take most (due (meetsAt series) (series .places) from)) ⌝ }
+{
+    if (most as u64) <= sure {
+        return most;
+    }
+    count_walked(series, from, most)
+}
+
 // How many stops a run of a series has.
 fn count_of(series: Series, run: Run) -> usize
     requires { ⌜ Sound series run ⌝ }
@@ -153,7 +172,12 @@ fn count_of(series: Series, run: Run) -> usize
         Frequency::Minutely => count_walked(series, run.here, most),
         Frequency::Hourly => count_every(rule, run.here, series.places, most),
         Frequency::Daily => count_every(rule, run.here, series.places, most),
-        Frequency::Weekly => count_walked(series, run.here, most),
+        Frequency::Weekly => count_sure(
+            series,
+            run.here,
+            most,
+            sure_weeks(rule, run.here, series.places),
+        ),
         Frequency::Monthly => count_walked(series, run.here, most),
         Frequency::Yearly => count_walked(series, run.here, most),
     }
