@@ -15,7 +15,7 @@ const ROOM: usize = 65_536;
 const TURNS: usize = 60;
 
 /// The level of the other implementation at which it answers as the library does.
-const LEVEL: u8 = 1;
+const LEVEL: u8 = 2;
 
 fn level() -> Level {
     Level::new(LEVEL).expect("the other implementation has the level")
@@ -49,15 +49,31 @@ fn ordinary(size: usize) -> Vec<u8> {
     s.into_bytes()
 }
 
+/// A text of lines, as iCalendar writes it.
+fn words(size: usize) -> String {
+    "A wagon goes from ramp to ramp all day\\n".repeat(size / 40)
+}
+
+/// A calendar of one line.
+fn of_line(line: &str) -> Vec<u8> {
+    format!("BEGIN:VCALENDAR\r\n{line}\r\nEND:VCALENDAR\r\n").into_bytes()
+}
+
 /// One text of so many octets.
 fn one_text(size: usize) -> Vec<u8> {
-    let mut s = String::from("BEGIN:VCALENDAR\r\nDESCRIPTION:");
-    while s.len() + 40 < size {
-        s += "A wagon goes from ramp to ramp all day";
-        s += "\\n";
-    }
-    s += "\r\nEND:VCALENDAR\r\n";
-    s.into_bytes()
+    of_line(&format!("DESCRIPTION:{}", words(size - 48)))
+}
+
+/// RFC 4648 4, of whole groups of three octets.
+fn base64(octets: &[u8]) -> String {
+    const ALPHABET: &[u8; 64] = b"ABCDEFGHIJKLMNOPQRSTUVWXYZabcdefghijklmnopqrstuvwxyz0123456789+/";
+    let group = |g: &[u8]| (g[0] as usize) << 16 | (g[1] as usize) << 8 | g[2] as usize;
+    octets.chunks_exact(3).flat_map(|g| [18, 12, 6, 0].map(|k| ALPHABET[group(g) >> k & 63] as char)).collect()
+}
+
+/// One text that is sent encoded, in so many octets.
+fn encoded_text(size: usize) -> Vec<u8> {
+    of_line(&format!("DESCRIPTION;ENCODING=BASE64:{}", base64(words((size - 64) / 160 * 120).as_bytes())))
 }
 
 /// Many properties of a few octets.
@@ -139,6 +155,32 @@ fn convert(name: &str, ours: Ours, theirs: Theirs, text: &[u8]) {
     row(name, text.len(), times);
 }
 
+/// The text with each line folded at 75 octets.
+fn folded_at_75(text: &[u8]) -> Vec<u8> {
+    let lines = text.split(|c| *c == b'\n').map(|l| l.chunks(74).collect::<Vec<_>>().join(&b"\r\n "[..]));
+    lines.collect::<Vec<_>>().join(&b'\n')
+}
+
+/// Converts a description sent plain and the same sent encoded in 48 KiB, in turn, and prints both times.
+fn beside_plain(name: &str, form: fn(&[u8]) -> Vec<u8>) {
+    let words = words(36_864);
+    let texts = [form(&of_line(&format!("DESCRIPTION:{words}"))), form(&of_line(&format!("DESCRIPTION;ENCODING=BASE64:{}", base64(words.as_bytes()))))];
+    let to_jcal = |text: &[u8], out: &mut [u8]| unsafe { putrenski_to_jcal(text.as_ptr(), text.len(), text.as_ptr(), 0, out.as_mut_ptr(), out.len()) };
+    let mut outs = [vec![0u8; ROOM], vec![0u8; ROOM]];
+    let lengths = [0, 1].map(|k| to_jcal(&texts[k], &mut outs[k]));
+    assert!(lengths[0] < ROOM && lengths[0] == lengths[1] && outs[0] == outs[1], "{name}: the answers differ");
+    let [a, b] = &mut outs;
+    let (plain, encoded) = medians(
+        || {
+            black_box(to_jcal(&texts[0], a));
+        },
+        || {
+            black_box(to_jcal(&texts[1], b));
+        },
+    );
+    println!("| {name} | {} | {:.1} | {} | {:.1} | {:.2} |", texts[0].len(), plain / 1000.0, texts[1].len(), encoded / 1000.0, plain / encoded);
+}
+
 /// The times of so many stops, and of one of them.
 fn stop_row(name: &str, count: usize, (ours, theirs): (f64, f64)) {
     let each = |ns: f64| ns / count as f64;
@@ -215,6 +257,7 @@ fn main() {
     let inputs = [
         ("ordinary calendar", ordinary as fn(usize) -> Vec<u8>),
         ("one long text", one_text),
+        ("one long text, encoded", encoded_text),
         ("tiny properties", tiny),
         ("eight levels", deep),
         ("a fold in every line", folded),
@@ -225,6 +268,9 @@ fn main() {
             convert(name, putrenski_to_jcal, other_to_jcal, &make(size));
         }
     }
+    println!("\n| a description to jCal | octets plain | µs | octets encoded | µs | ratio |\n|---|---|---|---|---|---|");
+    beside_plain("in one line", |text| text.to_vec());
+    beside_plain("folded", folded_at_75);
     println!("\n| to iCalendar | octets | MB/s | other MB/s | ratio |\n|---|---|---|---|---|");
     for (name, make) in inputs {
         for size in SIZES {

@@ -28,7 +28,7 @@ fn inputs(folder: &str, ending: &str) -> Vec<Vec<u8>> {
 
 /// A text with some octets changed, taken away, doubled or put in.
 fn damaged(text: &[u8], numbers: &mut Numbers) -> Vec<u8> {
-    const PIECES: [&[u8]; 12] = [b"\r\n ", b"\n", b"\"", b"\\", b"[", b"]", b"{", b"\\ud800", b"\xed\xa0\x80", b"\x00", b";VALUE=", b"null"];
+    const PIECES: [&[u8]; 13] = [b"\r\n ", b"\n", b"\"", b"\\", b"[", b"]", b"{", b"\\ud800", b"\xed\xa0\x80", b"\x00", b";VALUE=", b";ENCODING=BASE64", b"null"];
     let mut t = text.to_vec();
     for _ in 0..=numbers.below(4) {
         let i = numbers.below(t.len() + 1);

@@ -6,9 +6,10 @@ use mathlib.Core.Bool.{Bool, true, false}
 use mathlib.Core.List.{List, [], _∷_, _++_, map, append-assoc}
 use lib.ListN.{length, getD, take, drop}
 use lib.Seq.{take-all}
-use Rattle.octets.specs.Basics.{octets, pick}
+use Rattle.octets.specs.Basics.{octets, pick, _and_, _or_}
 use Rattle.octets.specs.Classes.{between, isUpper, lowerOctet, lower, sameName}
 use Rattle.octets.specs.Pen.{Pen, Wrote}
+use Rattle.octets.proofs.Cases.{cases}
 use Rattle.octets.proofs.Pen.{then}
 use Rattle.octets.proofs.Positions.{here, ended, from, upto}
 use Rattle.json.specs.Tree.{str, obj, itemsOf}
@@ -17,12 +18,13 @@ use Rattle.content.specs.Line.{Param, paramValue, pieces}
 use Rattle.content.specs.Carets.{decoded}
 use Rattle.content.specs.Scan.{untilBare}
 use Rattle.content.specs.Parts.{paramsIn, paramAt, CutParam, Inner}
-use Rattle.content.specs.Parameters.{called, withoutValue, plainOr, membersOf}
+use Rattle.content.specs.Parameters.{called, isBase64, encodes, withoutValue, withoutEncoding, staying, plainOr, membersOf}
+use Rattle.content.specs.Object.{leftOut}
 use Rattle.content.specs.declared.parts.ParamParts.{ParamParts}
 use Rattle.content.specs.declared.parts.Span.{Span}
 use Rattle.content.proofs.Separators.{oneOf, pieces-filled, piece-last, piece-on}
 use Rattle.content.proofs.ParamPlaces.{Stands, no-params, param-here}
-use Rattle.content.proofs.ParamAnswers.{called-is}
+use Rattle.content.proofs.ParamAnswers.{is-value, is-encoding}
 
 -- a value as a string
 pub value-wrote : (v : List ℕ) (p : Span) {o q r : Pen} → Inner v 0 (length v) p → Wrote o (code "\"" ∷ []) q → Wrote q (quoted (decoded (take (p .end - p .from) (drop (p .from) v)))) r → Wrote o (printString (paramValue v)) r
@@ -78,45 +80,57 @@ unfolding printKey printString
 key-text s = refl
 
 -- the members that are left, where one is written already or not, and the closing brace
-unfoldable pub membersText : Bool → List Param → List ℕ
-membersText b ps = pick b (moreMembers (membersOf (withoutValue ps))) (firstMember (membersOf (withoutValue ps)))
+unfoldable pub membersText : Bool → Bool → List Param → List ℕ
+membersText d b ps = pick b (moreMembers (membersOf (staying d (withoutValue ps)))) (firstMember (membersOf (staying d (withoutValue ps))))
 
-pub object-text : (ps : List Param) → print (obj (membersOf (withoutValue ps))) ≡ octets "{" ++ membersText false ps
+pub object-text : (d : Bool) (ps : List Param) → print (obj (membersOf (staying d (withoutValue ps)))) ≡ octets "{" ++ membersText d false ps
 unfolding print membersText
-object-text ps = refl
+object-text d ps = refl
 
-members-none : (b : Bool) → membersText b [] ≡ octets "}"
-unfolding membersText withoutValue membersOf moreMembers firstMember
-members-none true = refl
-members-none false = refl
+none-stays : (d : Bool) → staying d (withoutValue []) ≡ []
+unfolding staying withoutValue withoutEncoding
+none-stays true = refl
+none-stays false = refl
 
-members-skip : (b : Bool) (p : Param) (ps : List Param) → called (octets "value") p ≡ true → membersText b (p ∷ ps) ≡ membersText b ps
-unfolding membersText withoutValue
-members-skip b p ps e = rw e
+stays : (d : Bool) (p : Param) (ps : List Param) → staying d (withoutValue (p ∷ ps)) ≡ pick (leftOut d p) (staying d (withoutValue ps)) (p ∷ staying d (withoutValue ps))
+unfolding leftOut staying withoutValue withoutEncoding
+stays true p ps = cases (called (octets "value") p) (λ h. rw h) (λ h. rw h)
+stays false p ps = cases (called (octets "value") p) (λ h. rw h) (λ h. rw h)
 
-members-put : (b : Bool) (p : Param) (ps : List Param) → called (octets "value") p ≡ false
-    → membersText b (p ∷ ps) ≡ (pick b (octets ",") [] ++ (printKey (p .name) ++ print (plainOr (map str (p .values))))) ++ membersText true ps
-unfolding membersText withoutValue membersOf moreMembers firstMember
-members-put true p ps e = rw e (ap (λ (r : List ℕ). code "," ∷ r) (sym (append-assoc (printKey (p .name)) _ _)))
-members-put false p ps e = rw e (sym (append-assoc (printKey (p .name)) _ _))
+members-none : (d b : Bool) → membersText d b [] ≡ octets "}"
+unfolding membersText membersOf moreMembers firstMember
+members-none d true = rw (none-stays d)
+members-none d false = rw (none-stays d)
+
+members-skip : (d b : Bool) (p : Param) (ps : List Param) → leftOut d p ≡ true → membersText d b (p ∷ ps) ≡ membersText d b ps
+unfolding membersText
+members-skip d b p ps e = rw (stays d p ps, e)
+
+members-put : (d b : Bool) (p : Param) (ps : List Param) → leftOut d p ≡ false
+    → membersText d b (p ∷ ps) ≡ (pick b (octets ",") [] ++ (printKey (p .name) ++ print (plainOr (map str (p .values))))) ++ membersText d true ps
+unfolding membersText membersOf moreMembers firstMember
+members-put d true p ps e = rw (stays d p ps, e) (ap (λ (r : List ℕ). code "," ∷ r) (sym (append-assoc (printKey (p .name)) _ _)))
+members-put d false p ps e = rw (stays d p ps, e) (sym (append-assoc (printKey (p .name)) _ _))
+
+-- whether the parameter at i is left out
+pub left-out : (s : List ℕ) (i : ℕ) (p : ParamParts) (d : Bool) → leftOut d (paramAt s i p)
+    ≡ (sameName (take (p .name - i) (drop i s)) (octets "value")
+    or (d and sameName (take (p .name - i) (drop i s)) (octets "encoding") and isBase64 (map paramValue (pieces (code ",") false (take (p .end - p .values) (drop (p .values) s))))))
+unfolding leftOut encodes paramAt
+left-out s i p d = rw (is-value s i p, is-encoding s i p)
 
 -- the walk
-module _ (s : List ℕ) (e : ℕ) (b : Bool) where
-  pub object-end : length s ≤ e → membersText b (paramsIn (drop e s)) ≡ octets "}"
-  object-end h = rw (no-params s e h) (members-none b)
+module _ (s : List ℕ) (e : ℕ) (d b : Bool) where
+  pub object-end : length s ≤ e → membersText d b (paramsIn (drop e s)) ≡ octets "}"
+  object-end h = rw (no-params s e h) (members-none d b)
 
-  module _ (st : Stands s e) (h : e < length s) (p : ParamParts) (k : CutParam s (e + 1) p) where
-    name-called : sameName (take (p .name - (e + 1)) (drop (e + 1) s)) (octets "value") ≡ called (octets "value") (paramAt s (e + 1) p)
-    unfolding called paramAt
-    name-called = called-is (octets "value") (take (p .name - (e + 1)) (drop (e + 1) s)) (unfold lower lowerOctet isUpper between in refl)
+  module _ (st : Stands s e) (h : e < length s) (p : ParamParts) (k : CutParam s (e + 1) p) (out : Bool) (q : out ≡ leftOut d (paramAt s (e + 1) p)) where
+    pub object-skip : out ≡ true → membersText d b (paramsIn (drop e s)) ≡ membersText d b (paramsIn (drop (p .end) s))
+    object-skip t = rw (param-here s e st h p k) (members-skip d b (paramAt s (e + 1) p) _ (sym q ∙ t))
 
-    pub object-skip : sameName (take (p .name - (e + 1)) (drop (e + 1) s)) (octets "value") ≡ true
-        → membersText b (paramsIn (drop e s)) ≡ membersText b (paramsIn (drop (p .end) s))
-    object-skip t = rw (param-here s e st h p k) (members-skip b (paramAt s (e + 1) p) _ (sym name-called ∙ t))
-
-    pub object-on : sameName (take (p .name - (e + 1)) (drop (e + 1) s)) (octets "value") ≡ false
-        → membersText b (paramsIn (drop e s))
+    pub object-on : out ≡ false
+        → membersText d b (paramsIn (drop e s))
         ≡ (pick b (octets ",") [] ++ (printKey (lower (take (p .name - (e + 1)) (drop (e + 1) s))) ++ valuesText (pieces (code ",") false (take (p .end - p .values) (drop (p .values) s)))))
-        ++ membersText true (paramsIn (drop (p .end) s))
+        ++ membersText d true (paramsIn (drop (p .end) s))
     unfolding paramAt
-    object-on t = rw (param-here s e st h p k) (members-put b (paramAt s (e + 1) p) _ (sym name-called ∙ t))
+    object-on t = rw (param-here s e st h p k) (members-put d b (paramAt s (e + 1) p) _ (sym q ∙ t))

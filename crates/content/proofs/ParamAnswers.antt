@@ -85,7 +85,7 @@ base64-by (v ∷ []) h = never refl h
 base64-by (v ∷ w ∷ vs) h = refl
 
 -- a word in the case of its definition
-pub called-is : (w x : List ℕ) → lower w ≡ w → sameName x w ≡ same (lower x) w
+called-is : (w x : List ℕ) → lower w ≡ w → sameName x w ≡ same (lower x) w
 called-is w x e = same-lower x w ∙ rw e
 
 -- the values from v to e, and the first without its quotes
@@ -138,10 +138,17 @@ module _ (s : List ℕ) (v e : ℕ) where
 pub tells : {s : List ℕ} {a b : Answer (Option (List ℕ))} {k : ValueType} → a ≡ b → TellsType s b k → TellsType s a k
 tells e t = rw e t
 
--- the name of the parameter behind e
-named : (s : List ℕ) (e : ℕ) (p : ParamParts) (w : List ℕ) → lower w ≡ w → called w (paramAt s (e + 1) p) ≡ sameName (take (p .name - (e + 1)) (drop (e + 1) s)) w
-unfolding called paramAt
-named s e p w l = sym (called-is w (take (p .name - (e + 1)) (drop (e + 1) s)) l)
+-- the name of the parameter at i
+module _ (s : List ℕ) (i : ℕ) (p : ParamParts) where
+  named : (w : List ℕ) → lower w ≡ w → called w (paramAt s i p) ≡ sameName (take (p .name - i) (drop i s)) w
+  unfolding called paramAt
+  named w l = sym (called-is w (take (p .name - i) (drop i s)) l)
+
+  pub is-value : called (octets "value") (paramAt s i p) ≡ sameName (take (p .name - i) (drop i s)) (octets "value")
+  is-value = named (octets "value") (unfold lower lowerOctet isUpper between in refl)
+
+  pub is-encoding : called (octets "encoding") (paramAt s i p) ≡ sameName (take (p .name - i) (drop i s)) (octets "encoding")
+  is-encoding = named (octets "encoding") (unfold lower lowerOctet isUpper between in refl)
 
 module _ {s : List ℕ} {e : ℕ} (w : Passing valueType s 0 e) where
   pub type-none : length s ≤ e → TellsType s (valueType (paramsIn s)) Absent
@@ -149,17 +156,14 @@ module _ {s : List ℕ} {e : ℕ} (w : Passing valueType s 0 e) where
   type-none h = record { is = sym (passing-end w h); within = tt }
 
   module _ (h : e < length s) {p : ParamParts} (k : CutParam s (e + 1) p) where
-    is-value : called (octets "value") (paramAt s (e + 1) p) ≡ sameName (take (p .name - (e + 1)) (drop (e + 1) s)) (octets "value")
-    is-value = named s e p (octets "value") (unfold lower lowerOctet isUpper between in refl)
-
     pub type-here : sameName (take (p .name - (e + 1)) (drop (e + 1) s)) (octets "value") ≡ true
         → valueType (paramsIn s) ≡ token (map paramValue (pieces (code ",") false (take (p .end - p .values) (drop (p .values) s))))
     unfolding valueType paramAt
-    type-here t = passing-at w h k ∙ rw (is-value ∙ t)
+    type-here t = passing-at w h k ∙ rw (is-value s (e + 1) p ∙ t)
 
     pub type-on : sameName (take (p .name - (e + 1)) (drop (e + 1) s)) (octets "value") ≡ false → Passing valueType s 0 (p .end)
     unfolding valueType
-    type-on t = passing-on w h k (rw (is-value ∙ t))
+    type-on t = passing-on w h k (rw (is-value s (e + 1) p ∙ t))
 
 -- the walk for ENCODING
 module _ {s : List ℕ} {e : ℕ} (w : Passing isEncoded s 0 e) where
@@ -168,18 +172,15 @@ module _ {s : List ℕ} {e : ℕ} (w : Passing isEncoded s 0 e) where
   encoded-none h = passing-end w h
 
   module _ (h : e < length s) {p : ParamParts} (k : CutParam s (e + 1) p) where
-    is-encoding : called (octets "encoding") (paramAt s (e + 1) p) ≡ sameName (take (p .name - (e + 1)) (drop (e + 1) s)) (octets "encoding")
-    is-encoding = named s e p (octets "encoding") (unfold lower lowerOctet isUpper between in refl)
-
     pub encoded-on : sameName (take (p .name - (e + 1)) (drop (e + 1) s)) (octets "encoding") ≡ false → Passing isEncoded s 0 (p .end)
     unfolding isEncoded any encodes
-    encoded-on t = passing-on w h k (rw (is-encoding ∙ t))
+    encoded-on t = passing-on w h k (rw (is-encoding s (e + 1) p ∙ t))
 
     module _ (t : sameName (take (p .name - (e + 1)) (drop (e + 1) s)) (octets "encoding") ≡ true) where
       pub encoded-here : isBase64 (map paramValue (pieces (code ",") false (take (p .end - p .values) (drop (p .values) s)))) ≡ true → isEncoded (paramsIn s) ≡ true
       unfolding isEncoded any encodes paramAt
-      encoded-here b = passing-at w h k ∙ rw (is-encoding ∙ t, b)
+      encoded-here b = passing-at w h k ∙ rw (is-encoding s (e + 1) p ∙ t, b)
 
       pub encoded-not : isBase64 (map paramValue (pieces (code ",") false (take (p .end - p .values) (drop (p .values) s)))) ≡ false → Passing isEncoded s 0 (p .end)
       unfolding isEncoded any encodes paramAt
-      encoded-not b = passing-on w h k (rw (is-encoding ∙ t, b))
+      encoded-not b = passing-on w h k (rw (is-encoding s (e + 1) p ∙ t, b))

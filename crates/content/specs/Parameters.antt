@@ -43,6 +43,15 @@ encodes p = called (octets "encoding") p and isBase64 (p .values)
 unfoldable pub isEncoded : List Param → Bool
 isEncoded ps = any encodes ps
 
+-- 02, [2]: the parameters without it
+unfoldable pub withoutEncoding : List Param → List Param
+withoutEncoding [] = []
+withoutEncoding (p ∷ ps) = pick (encodes p) (withoutEncoding ps) (p ∷ withoutEncoding ps)
+
+-- 02, [2]: what of the parameters stays, where the value is decoded or not
+unfoldable pub staying : Bool → List Param → List Param
+staying decodes ps = pick decodes (withoutEncoding ps) ps
+
 -- number 7 in jCal: a "value" key, or a control character other than tab and newline
 unfoldable pub mayReturn : Param → Bool
 mayReturn p = not (called (octets "value") p) and all (all textOctet) (p .values)

@@ -1,17 +1,22 @@
 -- The lines of a text in a buffer, and what their tests answer.
-use Prim.Native.Nat.{ℕ, _≤_}
+use Prim.Native.Nat.{ℕ, suc, _≤_}
 use mathlib.Core.Path.{_≡_}
 use mathlib.Core.List.{List}
 use lib.Dec.{leb}
 use lib.ListN.{length, take}
 use Rattle.octets.specs.Basics.{pick}
 use Rattle.octets.specs.Pen.{pen, wrote}
+use Rattle.octets.specs.Limits.{mostText}
 use Rattle.octets.specs.Answers.{Answer, refused, accepted}
 use Rattle.content.specs.Lines.{cutLines, linesOf}
 use Rattle.content.specs.Form.{contentLines}
 use Rattle.content.specs.Buffer.{laidOut}
 use Rattle.content.specs.declared.reading.Lines.{Lines}
 use Rattle.content.specs.declared.reading.Lines.the-variants.{Laid, NotClean, NotFormed, NoRoom}
+
+-- room for the lines of any text: an LF more than it has octets
+abbrev pub roomForLines : ℕ
+roomForLines = suc mostText
 
 -- what an answer says, with the buffer as it is then; a buffer that is too short is none of the text's faults
 unfoldable pub linesTold : List ℕ → Lines → Answer (List (List ℕ))

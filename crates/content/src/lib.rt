@@ -30,3 +30,6 @@ pub use parts::parts_of;
 pub use reading::Lines;
 pub use reading::read_lines;
 pub use twice::name_twice;
+
+// Room for the lines of any text: an LF more than it has octets.
+pub const ROOM_FOR_LINES: usize = octets::MOST_TEXT + 1;

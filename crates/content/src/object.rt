@@ -11,9 +11,11 @@ ghost use Rattle.json.specs.Tree.{str, obj, itemsOf};
 ghost use Rattle.json.specs.Print.{quoted, printString, printKey, moreItems, print};
 ghost use Rattle.content.specs.Line.{pieces, paramValue};
 ghost use Rattle.content.specs.Carets.{decoded};
-ghost use Rattle.content.specs.Parts.{paramsIn};
-ghost use Rattle.content.specs.Parameters.{withoutValue, plainOr, membersOf};
-ghost use Rattle.content.specs.Object.{standsFor, octetsRead};
+ghost use Rattle.content.specs.Parts.{paramsIn, paramAt, CutParam};
+ghost use Rattle.content.specs.Parameters.{withoutValue, staying, plainOr, membersOf};
+ghost use Rattle.content.specs.Object.{leftOut, standsFor, octetsRead};
+use crate::params::is_base64;
+use crate::parts::ParamParts;
 use crate::parts::inner;
 use crate::parts::param_at;
 use crate::scan::next_bare;
@@ -150,9 +152,27 @@ fn put_member(out: &mut [u8], at: usize, begun: bool, name: &[u8], values: &[u8]
     put_values(out, b, values)
 }
 
-// Writes the parameters as an object, without VALUE.
-pub fn put_params(out: &mut [u8], at: usize, s: &[u8]) -> usize
-    ensures { λ r. ⌜ Wrote (pen (now (out .entry)) at) (print (obj (membersOf (withoutValue (paramsIn (now (s .entry))))))) (pen (now (out .exit)) r) ⌝ }
+// Whether the parameter that begins at `i` is left out: VALUE is, and ENCODING=BASE64 where the value is decoded.
+fn is_left_out(s: &[u8], i: usize, p: ParamParts, decodes: bool) -> bool
+    requires { ⌜ CutParam (now s) i p ⌝ }
+    ensures { λ r. ⌜ r ≡ leftOut decodes (paramAt (now (s .entry)) i p) ⌝ }
+{
+    let n = p.name;
+    if same_name(&s[i..n], b"value") {
+        return true;
+    }
+    if !decodes {
+        return false;
+    }
+    if !same_name(&s[i..n], b"encoding") {
+        return false;
+    }
+    is_base64(s, p.values, p.end)
+}
+
+// Writes the parameters as an object, without VALUE, and without ENCODING=BASE64 where the value is decoded.
+pub fn put_params(out: &mut [u8], at: usize, s: &[u8], decodes: bool) -> usize
+    ensures { λ r. ⌜ Wrote (pen (now (out .entry)) at) (print (obj (membersOf (staying decodes (withoutValue (paramsIn (now (s .entry)))))))) (pen (now (out .exit)) r) ⌝ }
 {
     let mut to = put(out, at, b'{');
     let mut begun = false;
@@ -163,7 +183,7 @@ pub fn put_params(out: &mut [u8], at: usize, s: &[u8]) -> usize
         let n = p.name;
         let from = p.values;
         let end = p.end;
-        if same_name(&s[i..n], b"value") {
+        if is_left_out(s, i, p, decodes) {
             e = end;
         } else {
             to = put_member(out, to, begun, &s[i..n], &s[from..end]);

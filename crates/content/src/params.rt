@@ -72,7 +72,7 @@ pub fn value_type(s: &[u8]) -> ValueType
 }
 
 // Whether the values from `from` to `end` are BASE64 alone.
-fn is_base64(s: &[u8], from: usize, end: usize) -> bool
+pub(crate) fn is_base64(s: &[u8], from: usize, end: usize) -> bool
     requires { ⌜ (from ≤ end) × (end ≤ length (now s)) ⌝ }
     ensures { λ r. ⌜ r ≡ isBase64 (map paramValue (pieces 44 false (take (end - from) (drop from (now (s .entry)))))) ⌝ }
 {

@@ -31,8 +31,8 @@ use Rattle.content.proofs.Physical.{text-physical}
 use Rattle.values.specs.Write.{valuesAre, valuesText}
 use Rattle.values.proofs.CleanValues.{values-clean}
 use Rattle.conversion_theory.specs.Tree.{Property, Component, Forest, propertiesOf, propertiesIn}
-use Rattle.conversion_theory.specs.Property.{codeOf, manyOf, encodingFits}
-use Rattle.conversion_theory.specs.Return.{isUnknown, statedType, writtenSort, takenBy, checked, shown, withValue, writtenLine}
+use Rattle.conversion_theory.specs.Property.{manyOf}
+use Rattle.conversion_theory.specs.Return.{isUnknown, statedType, encodingFits, writtenSort, takenBy, checked, shown, withValue, writtenLine}
 use Rattle.conversion_theory.specs.Skeleton.{calendarOf}
 use Rattle.conversion_theory.specs.ToIcal.{jsonOf, checkedAll, beginLine, endLine, propertyLine, componentLines, forestLines, written, toIcal}
 use Rattle.conversion_theory.specs.Written.{LinesFit, Apart, LinesApart}
@@ -61,9 +61,9 @@ property-whole t p k c =
     let row = find t (p .name) in
     let last : Unit {0} → Answer Property = λ _. pick (isUnknown (p .type)) (takenBy row p) (accepted p) in
     let nine : Unit {0} → Answer Property = λ _. unless 9 (valuesAre (manyOf row) (writtenSort p) (p .values)) last in
-    let eight : Unit {0} → Answer Property = λ _. unless 8 (encodingFits (codeOf row (statedType (p .type))) (isEncoded (p .params))) nine in
+    let eight : Unit {0} → Answer Property = λ _. unless 8 (encodingFits row (statedType (p .type)) (isEncoded (p .params))) nine in
     let u = unless-accepted 7 (all mayReturn (p .params)) eight (c .0) (c .1) in
-    let v = unless-accepted 8 (encodingFits (codeOf row (statedType (p .type))) (isEncoded (p .params))) nine (c .0) (u .1) in
+    let v = unless-accepted 8 (encodingFits row (statedType (p .type)) (isEncoded (p .params))) nine (c .0) (u .1) in
     let w = unless-accepted 9 (valuesAre (manyOf row) (writtenSort p) (p .values)) last (c .0) (v .1) in
     let n = lower-name (p .name) (k .name) in
     let type = shown row (p .type) in

@@ -6,6 +6,8 @@ pub mod Nesting
 pub mod Collected
 pub mod Readings
 pub mod WrittenLines
+pub mod Remaining
+pub mod Decoded
 pub mod PropertyReading
 pub mod ValueParameter
 pub mod OlderProperty

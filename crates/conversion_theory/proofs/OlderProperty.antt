@@ -16,16 +16,17 @@ use Rattle.types.specs.Rows.{Keeps}
 use Rattle.types.proofs.Tables.{Well-formed, kept-found}
 use Rattle.json.specs.Tree.{Json, str}
 use Rattle.content.specs.Line.{Param, Line}
-use Rattle.content.specs.Parameters.{called, valueType, withoutValue, isEncoded}
+use Rattle.content.specs.Parameters.{called, valueType, withoutValue}
+use Rattle.values.specs.Base64.{binaryFits, isDecoded}
 use Rattle.values.specs.Sorts.{sortOf}
 use Rattle.values.specs.Read.{readValues, valuesOf}
 use Rattle.values.proofs.ValueLaws.{unprocessed-read}
 use Rattle.conversion_theory.specs.Tree.{Property, property}
-use Rattle.conversion_theory.specs.Property.{typeOf, manyOf, encodingFits, readAs, readProperty}
+use Rattle.conversion_theory.specs.Property.{typeOf, codeOf, manyOf, decodesIn, readAs, readProperty}
 use Rattle.conversion_theory.specs.Claim.{excepted, asUnknown, readAsOlder}
 use Rattle.conversion_theory.proofs.PropertyLaws.{LineFine}
 use Rattle.conversion_theory.proofs.ValueParameter.{none-stated, some-stated}
-use Rattle.conversion_theory.proofs.PropertyReading.{read-as, as-read, stated-code, stated-type, unprocessed-code, read-line, line-read}
+use Rattle.conversion_theory.proofs.PropertyReading.{read-as, as-read, plain-read, unprocessed-code, read-line, line-read}
 
 -- where a name may have many, it may have what it had
 many-more : (name : List ℕ) (c : ℕ) (many : Bool) (raw : List ℕ) (vs : List Json) → valuesOf name c many raw ≡ some vs → valuesOf name c true raw ≡ some vs
@@ -35,19 +36,17 @@ many-more name c many raw vs e = rw (guard-is (λ vs. many or single vs) (readVa
 -- by no row: VALUE decides
 pub stated-older : (row : Option Row) (name t : List ℕ) (params : List Param) (raw : List ℕ) (p : Property)
     → readAs row name (some t) params raw ≡ accepted p → readAs none name (some t) params raw ≡ accepted p
-unfolding manyOf
+unfolding typeOf codeOf manyOf decodesIn
 stated-older row name t params raw p e =
     let r = read-as row name (some t) params raw p e in
-    let f : encodingFits (codeNamed t) (isEncoded params) ≡ true = rw (stated-code row t) at (r .fits) in
-    let v : valuesOf name (codeNamed t) (manyOf row) raw ≡ some (r .held) = rw (stated-code row t) at (r .values) in
-    as-read none name (some t) params raw (r .held) (rw (stated-code none t) f) (rw (stated-code none t) (many-more name (codeNamed t) (manyOf row) raw (r .held) v))
-    ∙ ap accepted (rw (stated-type none t) (rw (stated-type row t) at (r .whole)))
+    as-read none name (some t) params raw (r .text) (r .held) (r .fits) (r .sent) (many-more name (codeNamed t) (manyOf row) (r .text) (r .held) (r .values)) ∙ ap accepted (r .whole)
 
 -- by no row and without VALUE: the value passes unprocessed
 pub unprocessed-older : (name : List ℕ) (params : List Param) (raw : List ℕ) → clean raw ≡ true
     → readAs none name none params raw ≡ accepted (property name params (octets "unknown") (str raw ∷ []))
-unfolding typeOf manyOf encodingFits valuesOf sortOf guard when
-unprocessed-older name params raw h = as-read none name none params raw (str raw ∷ []) (rw unprocessed-code) (rw (unprocessed-code, unprocessed-read raw h))
+unfolding typeOf manyOf binaryFits decodesIn isDecoded valuesOf sortOf guard when
+unprocessed-older name params raw h =
+    plain-read none name none params raw (str raw ∷ []) (rw unprocessed-code) (rw unprocessed-code) (rw (unprocessed-code, unprocessed-read raw h))
 
 -- by its name's rows
 module _ (l : Line) (p : Property) where

@@ -14,23 +14,25 @@ use Rattle.octets.specs.Optional.{given}
 use Rattle.octets.specs.Classes.{between, isDigit, isLower, lowerNameOctet, isLowerName}
 use Rattle.octets.specs.Utf8.{clean}
 use Rattle.octets.specs.Answers.{accepted, unless}
-use Rattle.octets.proofs.Cases.{cases}
+use Rattle.octets.proofs.Cases.{cases, all-All, All-all}
 use Rattle.octets.proofs.Answers.{accepted-same}
 use Rattle.types.specs.Codes.{typeName, codeNamed}
 use Rattle.types.specs.Table.{Row}
 use Rattle.types.proofs.Types.{code-of-name, name-of-code, not-unknown, name-lower}
 use Rattle.json.specs.Tree.{Json, str, string?, number?, octetsOf}
 use Rattle.content.specs.Line.{Param}
-use Rattle.content.specs.Parameters.{isEncoded, mayReturn}
+use Rattle.content.specs.Parameters.{isEncoded, staying, mayReturn}
+use Rattle.values.specs.Base64.{binaryFits, isDecoded, textSent}
 use Rattle.values.specs.Sorts.{plain, sortOf}
 use Rattle.values.specs.Read.{valuesOf}
 use Rattle.values.specs.Write.{valuesAre, valuesText}
 use Rattle.values.proofs.Neat.{Neat}
 use Rattle.values.proofs.ValueLaws.{values-are, Valued, values-of, unprocessed-held, unprocessed-text}
 use Rattle.conversion_theory.specs.Tree.{Property, property}
-use Rattle.conversion_theory.specs.Property.{typeOf, manyOf, encodingFits, readAs}
-use Rattle.conversion_theory.specs.Return.{isUnknown, statedType, writtenSort, firstOctets, takenBy, checked, isDefault, shown}
-use Rattle.conversion_theory.proofs.PropertyReading.{read-as, as-read, read-alike, stated-code, stated-type, unprocessed-code}
+use Rattle.conversion_theory.specs.Property.{typeOf, codeOf, manyOf, decodesIn, readAs}
+use Rattle.conversion_theory.specs.Return.{isUnknown, statedType, statesPlain, encodingFits, writtenSort, firstOctets, takenBy, checked, isDefault, shown}
+use Rattle.conversion_theory.proofs.Decoded.{sent-clean, staying-All, stays-fit, stays-plain}
+use Rattle.conversion_theory.proofs.PropertyReading.{read-as, plain-read, read-alike, unprocessed-code}
 use Rattle.conversion_theory.proofs.OlderProperty.{stated-older, unprocessed-older}
 use Rattle.conversion_theory.proofs.ValueParameter.{Stated, StatedIf, shown-stated}
 
@@ -65,10 +67,21 @@ way none ra (inl a) w n none ps raw q p s h e f = unknown f (accepted-same (sym 
 way (some r) ra (inl a) w n none ps raw q p s h e f =
     known (typeName (r .code)) (type-stated r w) (sym (default-alike r w (typeName (r .code)) (sym (code-of-name (r .code) (w .1))) n ps raw) ∙ f) (accepted-same (sym (rw a at e) ∙ f))
 
--- what a property is and what becomes of it, written under the row rb and read under rn
+-- what VALUE says of a type that is known is read as the type itself
+shown-alike : (t : List ℕ) → Stated t → (rn rb : Option Row) → Below rn rb → Typed rn → (n : List ℕ) (ps : List Param) (x : List ℕ)
+    → readAs rn n (shown rb t) ps x ≡ readAs rn n (some t) ps x
+unfolding shown isDefault
+shown-alike t s rn rb (inr b) w n ps x = rw (b, s .known)
+shown-alike t s none rb (inl b) w n ps x = rw (b, s .known)
+shown-alike t s (some r) rb (inl b) w n ps x = cases (eqb (r .code) (codeNamed t))
+    (λ e. rw (b, s .known, e) (default-alike r w t (eqb-true (r .code) (codeNamed t) e) n ps x))
+    (λ e. rw (b, s .known, e))
+
+-- what a property is and what becomes of it, written under the row rb and read under rn; its parameters are ps, or what stays of them
 pub record Passage (rn rb : Option Row) (n : List ℕ) (ps : List Param) (q p : Property) : Type 0 where
   pub name : q .name ≡ n
-  pub params : q .params ≡ ps
+  pub decodes : Bool
+  pub params : q .params ≡ staying decodes ps
   pub typed : isLowerName (q .type) ≡ true
   pub neat : All (Neat 2) (q .values)
   pub valued : filled (q .values) ≡ true
@@ -76,52 +89,67 @@ pub record Passage (rn rb : Option Row) (n : List ℕ) (ps : List Param) (q p : 
   pub passes : checked rb q ≡ accepted passed
   pub stated : StatedIf (shown rb (q .type))
   pub line : clean (valuesText (writtenSort q) (q .values)) ≡ true
-  pub again : readAs rn n (shown rb (q .type)) ps (valuesText (writtenSort q) (q .values)) ≡ accepted p
+  pub again : readAs rn n (shown rb (q .type)) (q .params) (valuesText (writtenSort q) (q .values)) ≡ accepted p
 
 module _ (n : List ℕ) (ps : List Param) (raw : List ℕ) (fine : clean raw ≡ true) (may : all mayReturn ps ≡ true) where
-  -- a type that is known: what VALUE then says is read as the type itself
-  module _ (t : List ℕ) (s : Stated t) where
-    shown-alike : (rn rb : Option Row) → Below rn rb → Typed rn → (x : List ℕ) → readAs rn n (shown rb t) ps x ≡ readAs rn n (some t) ps x
-    unfolding shown isDefault
-    shown-alike rn rb (inr b) w x = rw (b, s .known)
-    shown-alike none rb (inl b) w x = rw (b, s .known)
-    shown-alike (some r) rb (inl b) w x = cases (eqb (r .code) (codeNamed t))
-        (λ e. rw (b, s .known, e) (default-alike r w t (eqb-true (r .code) (codeNamed t) e) n ps x))
-        (λ e. rw (b, s .known, e))
+  -- a type that is known: the value is decoded, if it is encoded, and goes as its type has it
+  module _ (t : List ℕ) (s : Stated t) (rn rb : Option Row) (b : Below rn rb) (w : Typed rn) (text : List ℕ) (vs : List Json)
+      (fits : binaryFits (codeNamed t) (isEncoded ps) ≡ true) (sent : textSent (isDecoded (codeNamed t) (isEncoded ps)) raw ≡ some text)
+      (told : valuesOf n (codeNamed t) (manyOf rn) text ≡ some vs) where
+    abbrev decodes : Bool
+    decodes = isDecoded (codeNamed t) (isEncoded ps)
 
-    module _ (rn rb : Option Row) (b : Below rn rb) (w : Typed rn) (vs : List Json) (fits : encodingFits (codeNamed t) (isEncoded ps) ≡ true)
-        (told : valuesOf n (codeNamed t) (manyOf rn) raw ≡ some vs) where
-      v : Valued n (codeNamed t) (manyOf rn) raw vs
-      v = values-of n (codeNamed t) (manyOf rn) raw vs told
+    abbrev stay : List Param
+    stay = staying decodes ps
 
-      sort-is : writtenSort (property n ps t vs) ≡ sortOf n (codeNamed t)
-      unfolding writtenSort
-      sort-is = rw (s .known)
+    abbrev read : Property
+    read = property n stay t vs
 
-      number : (rb : Option Row) → Below rn rb → (manyOf rb or single vs) ≡ true
-      unfolding manyOf
-      number rb (inl b) = rw b (v .number)
-      number rb (inr b) = rw b
+    v : Valued n (codeNamed t) (manyOf rn) text vs
+    v = values-of n (codeNamed t) (manyOf rn) text vs told
 
-      known-passes : checked rb (property n ps t vs) ≡ accepted (property n ps t vs)
-      unfolding checked unless statedType
-      known-passes = rw (may, s .known, stated-code rb t, fits, sort-is, values-are (sortOf n (codeNamed t)) raw vs (v .held) (manyOf rb) (number rb b))
+    text-clean : clean text ≡ true
+    text-clean = sent-clean decodes raw text sent fine
 
-      known-passage : Passage rn rb n ps (property n ps t vs) (property n ps t vs)
-      known-passage =
-          let x = valuesText (sortOf n (codeNamed t)) vs in
-          record {
-            name = refl;
-            params = refl;
-            typed = s .named;
-            neat = v .held .neat fine;
-            valued = v .held .one-or-more;
-            passed = property n ps t vs;
-            passes = known-passes;
-            stated = shown-stated rb t (s .named);
-            line = rw sort-is (v .held .line fine);
-            again = rw sort-is (shown-alike rn rb b w x ∙ as-read rn n (some t) ps x vs (rw (stated-code rn t) fits) (rw (stated-code rn t) (v .again)) ∙ rw (stated-type rn t));
-          }
+    sort-is : writtenSort read ≡ sortOf n (codeNamed t)
+    unfolding writtenSort
+    sort-is = rw (s .known)
+
+    number : (rb : Option Row) → Below rn rb → (manyOf rb or single vs) ≡ true
+    unfolding manyOf
+    number rb (inl b) = rw b (v .number)
+    number rb (inr b) = rw b
+
+    stay-return : all mayReturn stay ≡ true
+    stay-return = All-all mayReturn stay (staying-All decodes (λ p. mayReturn p ≡ true) ps (all-All mayReturn ps may))
+
+    known-fits : encodingFits rb (some t) (isEncoded stay) ≡ true
+    unfolding encodingFits statesPlain codeOf typeOf
+    known-fits = rw (stays-fit (codeNamed t) ps fits, stays-plain (codeNamed t) ps)
+
+    known-passes : checked rb read ≡ accepted read
+    unfolding checked unless statedType
+    known-passes = rw (stay-return, s .known, known-fits, sort-is, values-are (sortOf n (codeNamed t)) text vs (v .held) (manyOf rb) (number rb b))
+
+    known-again : (x : List ℕ) → valuesOf n (codeNamed t) (manyOf rn) x ≡ some vs → readAs rn n (shown rb t) stay x ≡ accepted read
+    unfolding typeOf codeOf decodesIn
+    known-again x h =
+        shown-alike t s rn rb b w n stay x ∙ plain-read rn n (some t) stay x vs (stays-plain (codeNamed t) ps) (stays-fit (codeNamed t) ps fits) h
+
+    known-passage : Passage rn rb n ps read read
+    known-passage = record {
+      name = refl;
+      decodes = decodes;
+      params = refl;
+      typed = s .named;
+      neat = v .held .neat text-clean;
+      valued = v .held .one-or-more;
+      passed = read;
+      passes = known-passes;
+      stated = shown-stated rb t (s .named);
+      line = rw sort-is (v .held .line text-clean);
+      again = rw sort-is (known-again (valuesText (sortOf n (codeNamed t)) vs) (v .again));
+    }
 
   -- "unknown": the value goes as it is, and a row that lists the name takes it as the newer did
   held : Property
@@ -135,11 +163,11 @@ module _ (n : List ℕ) (ps : List Param) (raw : List ℕ) (fine : clean raw ≡
       one false = unfold single filled in refl
 
   unlisted-passes : checked none held ≡ accepted held
-  unfolding held checked unless statedType isUnknown same encodingFits writtenSort takenBy
+  unfolding held checked unless statedType isUnknown same encodingFits statesPlain binaryFits writtenSort takenBy
   unlisted-passes = rw (may, unprocessed-code, plain-are (manyOf none))
 
   listed-passes : (r : Row) (p : Property) → readAs (some r) n none ps raw ≡ accepted p → checked (some r) held ≡ accepted p
-  unfolding held checked unless statedType isUnknown same writtenSort takenBy firstOctets octetsOf string? number? given
+  unfolding held checked unless statedType isUnknown same encodingFits statesPlain writtenSort takenBy firstOctets octetsOf string? number? given
   listed-passes r p e = rw (may, read-as (some r) n none ps raw p e .fits, plain-are (manyOf (some r))) e
 
   unknown-passes : (rn rb : Option Row) → Below rn rb → (p : Property) → readAs rn n none ps raw ≡ accepted p → (o : Property) × (checked rb held ≡ accepted o)
@@ -148,12 +176,13 @@ module _ (n : List ℕ) (ps : List Param) (raw : List ℕ) (fine : clean raw ≡
   unknown-passes (some r) rb (inl b) p e = (p, rw b (listed-passes r p e))
 
   unknown-passage : (rn rb : Option Row) → Below rn rb → (p : Property) → readAs rn n none ps raw ≡ accepted p → Passage rn rb n ps held p
-  unfolding held shown isUnknown same writtenSort
+  unfolding held staying shown isUnknown same writtenSort
   unknown-passage rn rb b p e =
       let o = unknown-passes rn rb b p e in
       let h = unprocessed-held raw fine in
       record {
         name = refl;
+        decodes = false;
         params = refl;
         typed = unfold isLowerName filled all lowerNameOctet isLower isDigit between in refl;
         neat = h .neat fine;
@@ -167,10 +196,8 @@ module _ (n : List ℕ) (ps : List Param) (raw : List ℕ) (fine : clean raw ≡
 
   -- THE LAW
   pub passage : (rn rb : Option Row) → Below rn rb → Typed rn → (q p : Property) → Way rn n ps raw q p → Passage rn rb n ps q p
+  unfolding typeOf codeOf decodesIn
   passage rn rb b w q p (known t s e k) =
       let r = read-as rn n (some t) ps raw p e in
-      let f : encodingFits (codeNamed t) (isEncoded ps) ≡ true = rw (stated-code rn t) at (r .fits) in
-      let v : valuesOf n (codeNamed t) (manyOf rn) raw ≡ some (r .held) = rw (stated-code rn t) at (r .values) in
-      let o : property n ps t (r .held) ≡ p = rw (stated-type rn t) at (r .whole) in
-      rw (k, ← o) (known-passage t s rn rb b w (r .held) f v)
+      rw (k, ← r .whole) (known-passage t s rn rb b w (r .text) (r .held) (r .fits) (r .sent) (r .values))
   passage rn rb b w q p (unknown e k) = rw k (unfold held in unknown-passage rn rb b p e)

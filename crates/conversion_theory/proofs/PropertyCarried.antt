@@ -17,7 +17,7 @@ use Rattle.types.specs.Table.{Row, Table, find}
 use Rattle.types.specs.Rows.{Keeps}
 use Rattle.types.proofs.Tables.{Well-formed, found-code, kept-or-none, found-lower, found-upper}
 use Rattle.content.specs.Line.{Param, Line, lineOf}
-use Rattle.content.specs.Parameters.{nameTwice, valueType, withoutValue}
+use Rattle.content.specs.Parameters.{called, nameTwice, valueType, withoutValue}
 use Rattle.content.specs.Write.{lineText}
 use Rattle.content.proofs.Written.{Writable, line-back}
 use Rattle.content.proofs.WrittenForm.{line-formed}
@@ -31,6 +31,7 @@ use Rattle.conversion_theory.specs.Property.{readAs, readProperty}
 use Rattle.conversion_theory.specs.Return.{writtenSort, shown, withValue, writtenLine}
 use Rattle.conversion_theory.specs.ToIcal.{propertyLine}
 use Rattle.conversion_theory.proofs.PropertyLaws.{LineLaw, Twice, Told, Returned, Carried}
+use Rattle.conversion_theory.proofs.Decoded.{staying-All, staying-once}
 use Rattle.conversion_theory.proofs.PropertyReading.{read-line, line-read}
 use Rattle.conversion_theory.proofs.ValueParameter.{value-states, Silent, without-silent, without-All, without-once, StatedIf, with-type, with-without, with-once, with-writable, with-texts, params-return}
 use Rattle.conversion_theory.proofs.PropertyByRow.{Below, Typed, way, Passage, passage}
@@ -96,38 +97,49 @@ module _ (a b new : Table) (below-a : (n : List ℕ) → Below (find new n) (fin
   abbrev name : List ℕ
   name = t .line .name
 
+  -- the parameters sent, and those of them that jCal has
+  abbrev sent : List Param
+  sent = withoutValue (t .line .params)
+
   abbrev params : List Param
-  params = withoutValue (t .line .params)
-
-  silent : Silent params
-  silent = without-silent (t .line .params)
-
-  texts : All Texts params
-  texts = without-All Texts (t .line .params) (t .fine .texts)
-
-  writable : All Writable params
-  writable = without-All Writable (t .line .params) (t .fine .writable)
+  params = q .params
 
   named : isName (lower name) ≡ true
   named = lower-name (lower name) (name-lower name (t .fine .named))
 
-  once : nameTwice params ≡ false
-  once = without-once (t .line .params) (not-true (nameTwice (t .line .params)) (read-line a (t .line) q (t .held) .once))
+  sent-texts : All Texts sent
+  sent-texts = without-All Texts (t .line .params) (t .fine .texts)
 
-  passed : Passage (find new name) (find b name) (lower name) params q p
+  passed : Passage (find new name) (find b name) (lower name) sent q p
   passed =
       let x = t .line .value in
       let r = read-line a (t .line) q (t .held) in
       let n = read-line new (t .line) p (t .read) in
       let s : n .type ≡ r .type = accepted-same (sym (n .stated) ∙ r .stated) in
-      passage (lower name) params x (t .fine .value) (params-return params silent texts) (find new name) (find b name) (below-b name) (typed name) q p
-      (way (find new name) (find a name) (below-a name) (typed name) (lower name) (r .type) params x q p (stated-if (t .line .params) (r .type) (r .stated)) (t .fine .value) (r .read) (rw s at (n .read)))
+      passage (lower name) sent x (t .fine .value) (params-return sent (without-silent (t .line .params)) sent-texts) (find new name) (find b name) (below-b name) (typed name) q p
+      (way (find new name) (find a name) (below-a name) (typed name) (lower name) (r .type) sent x q p (stated-if (t .line .params) (r .type) (r .stated)) (t .fine .value) (r .read) (rw s at (n .read)))
+
+  stay : (P : Param → Type 0) → All P sent → All P params
+  stay P h = rw (passed .params) (staying-All (passed .decodes) P sent h)
+
+  silent : Silent params
+  silent = stay (λ p. called (octets "value") p ≡ false) (without-silent (t .line .params))
+
+  texts : All Texts params
+  texts = stay Texts sent-texts
+
+  writable : All Writable params
+  writable = stay Writable (without-All Writable (t .line .params) (t .fine .writable))
+
+  once : nameTwice params ≡ false
+  once =
+      rw (passed .params)
+      (staying-once (passed .decodes) sent (without-once (t .line .params) (not-true (nameTwice (t .line .params)) (read-line a (t .line) q (t .held) .once))))
 
   told : Told q
   told =
       let k = passed in
-      property-told q (rw (k .name) (property-name name (t .fine .named) (t .fine .no-begin) (t .fine .no-end))) (rw (k .params) writable) (k .typed) (k .valued)
-      (rw (k .params) texts) (rw (k .params) once) (k .neat)
+      property-told q (rw (k .name) (property-name name (t .fine .named) (t .fine .no-begin) (t .fine .no-end))) writable (k .typed) (k .valued) texts once (k .neat)
 
   -- the line written
   abbrev type : Option (List ℕ)
@@ -143,8 +155,7 @@ module _ (a b new : Table) (below-a : (n : List ℕ) → Below (find new n) (fin
   unfolding propertyLine writtenLine
   line-is =
       ap (λ r. lineText (q .name) (withValue (shown r (q .type)) (q .params)) text) row-is
-      ∙ ap (λ n. lineText n (withValue type (q .params)) text) (passed .name)
-      ∙ ap (λ ps. lineText (lower name) (withValue type ps) text) (passed .params)
+      ∙ ap (λ n. lineText n (withValue type params) text) (passed .name)
 
   line-again : lineOf (propertyLine b q) ≡ again name type params text
   line-again = ap lineOf line-is ∙ line-back (lower name) (withValue type params) text named (with-writable type params writable)

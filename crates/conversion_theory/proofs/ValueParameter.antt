@@ -2,7 +2,7 @@
 use Prim.Native.Nat.{ℕ}
 use mathlib.Core.Path.{_≡_, refl, sym, _∙_}
 use mathlib.Core.Bool.{true, false, not}
-use mathlib.Core.List.{List, [], _∷_, map}
+use mathlib.Core.List.{List, [], _∷_}
 use mathlib.Core.Option.{Option, none, some}
 use borrow.Author.Tests.{not-true}
 use Rattle.octets.specs.Basics.{octets, _and_, _or_, all, any, filled, same, among, twice, All}
@@ -21,6 +21,8 @@ use Rattle.content.proofs.Written.{Writable}
 use Rattle.content.proofs.WrittenClean.{Texts, name-clean}
 use Rattle.values.proofs.Neat.{Textual, clean-textual}
 use Rattle.conversion_theory.specs.Return.{isUnknown, isDefault, shown, withValue}
+use Rattle.conversion_theory.specs.Claim.{those}
+use Rattle.conversion_theory.proofs.Remaining.{those-All, names, those-once}
 
 -- a type that can be stated: a lowercase name, and not "unknown"
 pub record Stated (t : List ℕ) : Type 0 where
@@ -69,10 +71,13 @@ unfolding withoutValue
 without-silent [] = tt
 without-silent (p ∷ ps) = cases (called (octets "value") p) (λ e. rw e (without-silent ps)) (λ e. rw e (e, without-silent ps))
 
+those-without : (ps : List Param) → withoutValue ps ≡ those (λ p. not (called (octets "value") p)) ps
+unfolding withoutValue those
+those-without [] = refl
+those-without (p ∷ ps) = cases (called (octets "value") p) (λ e. rw (e, those-without ps)) (λ e. rw (e, those-without ps))
+
 pub without-All : (P : Param → Type 0) (ps : List Param) → All P ps → All P (withoutValue ps)
-unfolding withoutValue
-without-All P [] h = tt
-without-All P (p ∷ ps) h = cases (called (octets "value") p) (λ e. rw e (without-All P ps (h .1))) (λ e. rw e (h .0, without-All P ps (h .1)))
+without-All P ps h = rw (those-without ps) (those-All (λ p. not (called (octets "value") p)) P ps h)
 
 silent-same : (ps : List Param) → Silent ps → withoutValue ps ≡ ps
 unfolding withoutValue
@@ -85,22 +90,8 @@ silent-type [] h = refl
 silent-type (p ∷ ps) h = rw (h .0) (silent-type ps (h .1))
 
 -- no name stands twice
-abbrev names : List Param → List (List ℕ)
-names ps = map (λ (p : Param). p .name) ps
-
-among-without : (n : List ℕ) (ps : List Param) → among n (names ps) ≡ false → among n (names (withoutValue ps)) ≡ false
-unfolding among any withoutValue
-among-without n [] h = refl
-among-without n (p ∷ ps) h =
-    let b = neither (same n (p .name)) (among n (names ps)) h in
-    cases (called (octets "value") p) (λ e. rw e (among-without n ps (b .1))) (λ e. rw e (or-false (b .0) (among-without n ps (b .1))))
-
 pub without-once : (ps : List Param) → nameTwice ps ≡ false → nameTwice (withoutValue ps) ≡ false
-unfolding nameTwice twice withoutValue
-without-once [] h = refl
-without-once (p ∷ ps) h =
-    let b = neither (among (p .name) (names ps)) (twice (names ps)) h in
-    cases (called (octets "value") p) (λ e. rw e (without-once ps (b .1))) (λ e. rw e (or-false (among-without (p .name) ps (b .0)) (without-once ps (b .1))))
+without-once ps h = rw (those-without ps) (those-once (λ p. not (called (octets "value") p)) ps h)
 
 silent-among : (ps : List Param) → Silent ps → among (octets "value") (names ps) ≡ false
 unfolding among any called

@@ -1,9 +1,10 @@
 -- Demand 3: tables of different age agree. One claim over all texts, all pairs of tables, and the four routes to jCal and back
--- (01, How much each answer fixes).
+-- (01, How much each answer fixes; 02, [2]).
 use Prim.Native.Nat.{ℕ, _≤_}
 use mathlib.Core.Path.{_≡_}
 use mathlib.Core.Bool.{Bool, true, not}
 use mathlib.Core.List.{List, [], _∷_, _++_, map}
+use mathlib.Core.Option.{none}
 use lib.ListN.{length, drop}
 use Rattle.octets.specs.Basics.{octets, pick, _and_, any}
 use Rattle.octets.specs.Optional.{isSome}
@@ -14,11 +15,11 @@ use Rattle.types.specs.Table.{Table, find}
 use Rattle.types.specs.Rows.{tableOf, Keeps}
 use Rattle.json.specs.Tree.{str, obj}
 use Rattle.json.specs.Print.{print, printString, valuesJson}
-use Rattle.content.specs.Line.{Line, lineOf}
+use Rattle.content.specs.Line.{Param, Line, lineOf}
 use Rattle.content.specs.Lines.{linesOf}
-use Rattle.content.specs.Parameters.{called, withoutValue, membersOf}
+use Rattle.content.specs.Parameters.{called, withoutValue, staying, membersOf}
 use Rattle.conversion_theory.specs.Tree.{Property, property, Component}
-use Rattle.conversion_theory.specs.Property.{readProperty}
+use Rattle.conversion_theory.specs.Property.{decodesIn, readProperty}
 use Rattle.conversion_theory.specs.Jcal.{jcalOf}
 use Rattle.conversion_theory.specs.ToJcal.{readLinesBy, reading, toJcal}
 use Rattle.conversion_theory.specs.ToIcal.{toIcal}
@@ -39,20 +40,25 @@ asUnknown l = property (lower (l .name)) (withoutValue (l .params)) (octets "unk
 unfoldable pub readAsOlder : Table → Table → Line → Answer Property
 readAsOlder older newer l = then (readProperty newer l) (λ p. accepted (pick (excepted older newer l) (asUnknown l) p))
 
--- the line's property in jCal, ["name",{parameters},type,values]: name and parameters from the line, type and values as given
-unfoldable pub propertyText : Line → List ℕ → List ℕ
-propertyText l typed =
-    octets "[" ++ (printString (lower (l .name)) ++ (octets "," ++ (print (obj (membersOf (withoutValue (l .params)))) ++ (octets "," ++ (typed ++ octets "]")))))
+-- what the newer has of its parameters: all but VALUE, and but ENCODING=BASE64 where it decodes the value by the name's type
+unfoldable pub paramsRead : Table → Line → List Param
+paramsRead newer l = staying (decodesIn (find newer (l .name)) none (withoutValue (l .params))) (withoutValue (l .params))
+
+-- the line's property in jCal, ["name",{parameters},type,values]: its name from the line, its parameters, type and values as given
+unfoldable pub propertyText : Line → List Param → List ℕ → List ℕ
+propertyText l params typed =
+    octets "[" ++ (printString (lower (l .name)) ++ (octets "," ++ (print (obj (membersOf params)) ++ (octets "," ++ (typed ++ octets "]")))))
 
 -- The newer's text and the older's, octet for octet the same, but at the property of an excepted line: there the newer has its type and values,
--- and the older "unknown" and, as one string, the value as received and unfolded. These lines are listed, in the order of the texts.
+-- and no ENCODING=BASE64 that it decodes; the older has all parameters but VALUE, "unknown" and, as one string, the value as received and unfolded.
+-- These lines are listed, in the order of the texts.
 pub data Beside (older newer : Table) : List Line → List ℕ → List ℕ → Type 0 where
   ended : Beside older newer [] [] []
   shared : {ls : List Line} {n o : List ℕ} (x : ℕ) → Beside older newer ls n o → Beside older newer ls (x ∷ n) (x ∷ o)
   differs : {ls : List Line} {n o : List ℕ} (l : Line) (p : Property) → excepted older newer l ≡ true → readProperty newer l ≡ accepted p → Beside older newer ls n o
       → Beside older newer (l ∷ ls)
-      (propertyText l (printString (p .type) ++ valuesJson (p .values)) ++ n)
-      (propertyText l (octets "\"unknown\"," ++ printString (l .value)) ++ o)
+      (propertyText l (paramsRead newer l) (printString (p .type) ++ valuesJson (p .values)) ++ n)
+      (propertyText l (withoutValue (l .params)) (octets "\"unknown\"," ++ printString (l .value)) ++ o)
 
 -- those that pass the test
 unfoldable pub those : {A : Type 0} → (A → Bool) → List A → List A

@@ -1,17 +1,18 @@
--- A property of a content line (01, numbers 7, 8, 9, Parameters and Which type).
+-- A property of a content line (01, numbers 7, 8, 9, Parameters and Which type; 02, [2]).
 use Prim.Native.Nat.{ℕ}
 use mathlib.Core.Bool.{Bool, true, not}
 use mathlib.Core.List.{List}
 use mathlib.Core.Option.{Option, none, some}
-use lib.Dec.{eqb}
-use Rattle.octets.specs.Basics.{octets, pick}
-use Rattle.octets.specs.Optional.{map?}
+use Rattle.octets.specs.Basics.{octets}
+use Rattle.octets.specs.Optional.{map?, then?}
 use Rattle.octets.specs.Classes.{lower}
 use Rattle.octets.specs.Answers.{Answer, then, orElse, unless}
-use Rattle.types.specs.Codes.{unprocessed, binary, typeName, codeNamed}
+use Rattle.types.specs.Codes.{typeName, codeNamed}
 use Rattle.types.specs.Table.{Row, Table, find}
+use Rattle.json.specs.Tree.{Json}
 use Rattle.content.specs.Line.{Param, Line}
-use Rattle.content.specs.Parameters.{nameTwice, valueType, withoutValue, isEncoded}
+use Rattle.content.specs.Parameters.{nameTwice, valueType, withoutValue, isEncoded, staying}
+use Rattle.values.specs.Base64.{binaryFits, isDecoded, textSent}
 use Rattle.values.specs.Read.{valuesOf}
 use Rattle.conversion_theory.specs.Tree.{Property, property}
 
@@ -30,15 +31,20 @@ unfoldable pub manyOf : Option Row → Bool
 manyOf (some r) = r .many
 manyOf none = true
 
--- number 8: binary has ENCODING=BASE64, another of the fourteen types has not
-unfoldable pub encodingFits : ℕ → Bool → Bool
-encodingFits c b = pick (eqb c unprocessed) true (pick (eqb c binary) b (not b))
+-- 02, [2]: whether the value is decoded, by its type and ENCODING
+unfoldable pub decodesIn : Option Row → Option (List ℕ) → List Param → Bool
+decodesIn row type params = isDecoded (codeOf row type) (isEncoded params)
+
+-- the values in the octets that are the value's text
+unfoldable pub valuesSent : Bool → List ℕ → ℕ → Bool → List ℕ → Option (List Json)
+valuesSent decodes name c many raw = then? (textSent decodes raw) (valuesOf name c many)
 
 -- a property by its name's row alone: its lowercase name, VALUE's type, the other parameters, the value as received
 unfoldable pub readAs : Option Row → List ℕ → Option (List ℕ) → List Param → List ℕ → Answer Property
 readAs row name type params raw =
-    unless 8 (encodingFits (codeOf row type) (isEncoded params)) (λ _.
-    orElse 9 (map? (property name params (typeOf row type)) (valuesOf name (codeOf row type) (manyOf row) raw)))
+    unless 8 (binaryFits (codeOf row type) (isEncoded params)) (λ _.
+    orElse 9 (map? (property name (staying (decodesIn row type params) params) (typeOf row type))
+    (valuesSent (decodesIn row type params) name (codeOf row type) (manyOf row) raw)))
 
 unfoldable pub readProperty : Table → Line → Answer Property
 readProperty t l =

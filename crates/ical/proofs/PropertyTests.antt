@@ -10,12 +10,13 @@ use lib.ListN.{length, take, drop}
 use borrow.Author.Tests.{eq-eqb}
 use lib.Dec.{leb}
 use Rattle.octets.specs.Basics.{octets, pick, _and_, _or_, all, same, single, filled}
-use Rattle.octets.specs.Optional.{isSome, holds, map?, guard}
+use Rattle.octets.specs.Optional.{isSome, holds, map?, then?, guard}
 use Rattle.octets.specs.Classes.{lowerNameOctet, isLowerName, lower, isName}
 use Rattle.octets.specs.Answers.{Answer, refused, accepted, then, orElse, unless, number}
 use Rattle.octets.specs.Pen.{pen, FrontKept}
 use Rattle.octets.specs.declared.Refusal.{Refusal}
 use Rattle.octets.proofs.Answers.{not-accepted}
+use Rattle.octets.proofs.Optional.{none-is}
 use Rattle.octets.proofs.Cases.{same?, never, both, and-true-right, and-false-right}
 use Rattle.octets.proofs.Classes.{lower-name, lower-name-stays}
 use Rattle.types.specs.Table.{Row, Table, find}
@@ -29,7 +30,11 @@ use Rattle.tape.proofs.Walks.{next-group}
 use Rattle.content.specs.Folding.{FoldPen}
 use Rattle.content.specs.Parameters.{isEncoded, mayReturn}
 use Rattle.content.specs.declared.fold.Folder.{Folder}
-use Rattle.values.specs.Sorts.{sortOf}
+use Rattle.values.specs.Sorts.{Sort, sortOf}
+use Rattle.values.specs.Base64.{binaryFits, isDecoded, textSent}
+use Rattle.values.specs.Decoding.{DecodedAs}
+use Rattle.values.specs.declared.base64.Decoding.{Decoding}
+use Rattle.values.specs.declared.base64.Decoding.the-variants.{Octets, Invalid as Undecoded}
 use Rattle.values.specs.Coded.{sortSaid}
 use Rattle.values.specs.declared.sorts.Sort.{Sort as SortCode}
 use Rattle.values.specs.Read.{readValues, valuesOf}
@@ -40,16 +45,17 @@ use Rattle.ical_values.specs.Valued.{ValuedAs}
 use Rattle.ical_values.specs.declared.Valued.{Valued}
 use Rattle.ical_values.specs.declared.Valued.the-variants.{Written, Invalid}
 use Rattle.conversion_theory.specs.Tree.{Property}
-use Rattle.conversion_theory.specs.Property.{codeOf, manyOf, encodingFits, readAs}
+use Rattle.conversion_theory.specs.Property.{codeOf, manyOf, decodesIn, valuesSent, readAs}
 use Rattle.conversion_theory.specs.Skeleton.{areParameters, isPropertyName, isProperty, paramsFrom, propertyFrom}
-use Rattle.conversion_theory.specs.Return.{isUnknown, statedType, writtenSort, firstOctets, takenBy, checked}
+use Rattle.conversion_theory.specs.Return.{isUnknown, statedType, encodingFits, writtenSort, firstOctets, takenBy, checked}
 use Rattle.conversion_theory.specs.ToIcal.{checkedAll}
 use Rattle.conversion_theory.proofs.FromJcal.{string-is}
 use Rattle.ical_properties.specs.PartPlaces.{InGroup, PartsAt}
 use Rattle.ical_properties.specs.declared.PropertyParts.{PropertyParts}
-use Rattle.ical_properties.specs.Ruled.{Rules}
+use Rattle.ical_properties.specs.Ruled.{Rules, fitsBy}
 use Rattle.ical_properties.specs.declared.Ruling.{Ruling}
-use Rattle.ical.specs.Writes.{standing, ValuesWritten}
+use Rattle.ical_properties.proofs.RowAnswers.{fits-ruled}
+use Rattle.ical.specs.Writes.{isTaken, standing, ValuesWritten}
 use Rattle.ical.specs.Converts.{checkedIn, Puts, Converts}
 use Rattle.ical.specs.declared.Conversion.{Conversion}
 use Rattle.ical.specs.declared.Conversion.the-variants.{Passed, Refused}
@@ -92,33 +98,57 @@ first-octets t i = same? (tagAt t i) tagEnd
     (λ e. rw (list-end t i e) (no-text t i (λ f. omega arith) (λ f. omega arith)))
     (λ q. sym (ap firstOctets (list-first t i (λ e. never (eq-eqb (tagAt t i) tagEnd e) q)) ∙ first-is (valueAt t i) (listOfItems (otherItems (itemsAt t i)))))
 
--- whether a value is what its name takes
-pub taken-by-sort : (s : SortCode) (n : List ℕ) (c : ℕ) (m : Bool) {raw got : List ℕ} → sortSaid s ≡ sortOf n c → got ≡ raw
-    → isSome (guard (λ vs. m or single vs) (readValues (sortSaid s) got)) ≡ isSome (valuesOf n c m raw)
-unfolding valuesOf
-taken-by-sort s n c m e f = rw (e, f)
+-- whether a value is what its name takes, as received or decoded
+abbrev valuesBy : Sort → Bool → List ℕ → Option (List Json)
+valuesBy k m s = guard (λ vs. m or single vs) (readValues k s)
+
+module _ (s : SortCode) (n : List ℕ) (c : ℕ) (m encoded : Bool) {raw got : List ℕ} {d : Bool} (e : sortSaid s ≡ sortOf n c) (f : got ≡ raw) (g : d ≡ isDecoded c encoded) where
+  pub taken-by-sort : d ≡ false → isSome (valuesBy (sortSaid s) m got) ≡ isSome (valuesSent (isDecoded c encoded) n c m raw)
+  unfolding valuesSent textSent then? valuesOf
+  taken-by-sort h = rw (e, f, sym g ∙ h)
+
+  pub taken-by-decoding : d ≡ true → isSome (then? (textSent true got) (valuesBy (sortSaid s) m)) ≡ isSome (valuesSent (isDecoded c encoded) n c m raw)
+  unfolding valuesSent valuesOf
+  taken-by-decoding h = rw (e, f, sym g ∙ h)
+
+-- what decoding tells, and the values in what is decoded, where there is room for it
+module _ (o : Option (List ℕ)) (room : Bool) (out : List ℕ) (r : Decoding) (d : DecodedAs room o out r) where
+  pub decoded-within : {n : ℕ} → r ≡ Octets n → n ≤ length out
+  decoded-within {n} z = let w : DecodedAs room o out (Octets n) = rw z at d in w .1 .0
+
+  module _ (k : Sort) (m : Bool) where
+    pub decoded-taken : {n : ℕ} → r ≡ Octets n → isSome (valuesBy k m (take (n - 0) (drop 0 out))) ≡ isSome (then? o (valuesBy k m))
+    unfolding then?
+    decoded-taken {n} z =
+        let w : DecodedAs room o out (Octets n) = rw z at d in
+        let e : n - 0 ≡ n = omega arith in
+        rw (e, w .1 .1)
+
+    pub not-decoded : room ≡ true → r ≡ Undecoded → false ≡ isSome (then? o (valuesBy k m))
+    unfolding then? isSome
+    not-decoded h z = let w : DecodedAs room o out Undecoded = rw z at d in rw (none-is o (rw h at w))
 
 -- the values of a ruling, where there is room for them
-module _ (k : Ruling) (n : List ℕ) where
-  pub not-taken : (vs : List Json) {b : Bool} → b ≡ (not (k .taken) or isSome (valuesOf n (k .code) (k .many) (firstOctets vs))) → b ≡ false → standing k n vs ≡ false
+module _ (k : Ruling) (n : List ℕ) (encoded : Bool) where
+  pub not-taken : (vs : List Json) {b : Bool} → b ≡ isTaken k n encoded vs → b ≡ false → standing k n encoded vs ≡ false
   unfolding standing
   not-taken vs e f = rw (sym e ∙ f) (and-false-right (valuesAre (k .many) (sortSaid (k .sort)) vs))
 
-  is-standing : (vs : List Json) {b x : Bool} → b ≡ (not (k .taken) or isSome (valuesOf n (k .code) (k .many) (firstOctets vs))) → b ≡ true → valuesAre (k .many) (sortSaid (k .sort)) vs ≡ x → standing k n vs ≡ x
+  is-standing : (vs : List Json) {b x : Bool} → b ≡ isTaken k n encoded vs → b ≡ true → valuesAre (k .many) (sortSaid (k .sort)) vs ≡ x → standing k n encoded vs ≡ x
   unfolding standing
   is-standing vs e f g = rw (sym e ∙ f, g) (and-true-right _)
 
-  pub stood : (t s : List ℕ) (i : ℕ) (f : FoldPen) (out : List ℕ) {b : Bool} (r : Valued) → b ≡ (not (k .taken) or isSome (valuesOf n (k .code) (k .many) (firstOctets (listAt t i)))) → b ≡ true
-      → length t ≤ length s → ValuedAs (hasRoom t s) (k .many) (sortSaid (k .sort)) t i f out r → ValuesWritten k n t i f out r
+  pub stood : (t s : List ℕ) (i : ℕ) (f : FoldPen) (out : List ℕ) {b : Bool} (r : Valued) → b ≡ isTaken k n encoded (listAt t i) → b ≡ true
+      → length t ≤ length s → ValuedAs (hasRoom t s) (k .many) (sortSaid (k .sort)) t i f out r → ValuesWritten k n encoded t i f out r
   stood t s i f out (Written e q) g h l v = (is-standing (listAt t i) g h (rw (room t s l) at (v .0)), v .1, v .2)
   stood t s i f out Invalid g h l v = (is-standing (listAt t i) g h (rw (room t s l) at (v .0)), v .1)
 
   -- by the answer
-  module _ (t : List ℕ) (i : ℕ) (f : FoldPen) (out : List ℕ) (r : Valued) (v : ValuesWritten k n t i f out r) where
-    pub stands-told : {e : ℕ} {q : Folder} → r ≡ Written e q → ValuesWritten k n t i f out (Written e q)
+  module _ (t : List ℕ) (i : ℕ) (f : FoldPen) (out : List ℕ) (r : Valued) (v : ValuesWritten k n encoded t i f out r) where
+    pub stands-told : {e : ℕ} {q : Folder} → r ≡ Written e q → ValuesWritten k n encoded t i f out (Written e q)
     stands-told z = rw z at v
 
-    pub invalid-told : r ≡ Invalid → ValuesWritten k n t i f out Invalid
+    pub invalid-told : r ≡ Invalid → ValuesWritten k n encoded t i f out Invalid
     invalid-told z = rw z at v
 
 -- nothing stands against it
@@ -143,22 +173,26 @@ option-unit f n (some a) = refl
 
 module _ (p : Property) where
   abbrev takes : Option Row → Bool
-  takes row = not (isUnknown (p .type) and isSome row) or isSome (valuesOf (p .name) (codeOf row (statedType (p .type))) (manyOf row) (firstOctets (p .values)))
+  takes row = not (isUnknown (p .type) and isSome row)
+      or isSome (valuesSent (isDecoded (codeOf row (statedType (p .type))) (isEncoded (p .params))) (p .name) (codeOf row (statedType (p .type))) (manyOf row) (firstOctets (p .values)))
 
-  taken-by : (r : Row) → encodingFits (codeOf (some r) none) (isEncoded (p .params)) ≡ true
-      → then (readAs (some r) (p .name) none (p .params) (firstOctets (p .values))) (λ _. ok)
-      ≡ unless 9 (isSome (valuesOf (p .name) (codeOf (some r) none) (manyOf (some r)) (firstOctets (p .values)))) (λ _. ok)
-  unfolding readAs unless
-  taken-by r k = rw k (option-unit _ 9 (valuesOf (p .name) (codeOf (some r) none) (manyOf (some r)) (firstOctets (p .values))))
+  abbrev fits : Option Row → Bool
+  fits row = encodingFits row (statedType (p .type)) (isEncoded (p .params))
 
-  taken-answer : (row : Option Row) (u : Bool) → isUnknown (p .type) ≡ u → encodingFits (codeOf row (statedType (p .type))) (isEncoded (p .params)) ≡ true
+  taken-by : (r : Row) → encodingFits (some r) none (isEncoded (p .params)) ≡ true
+      → then (takenBy (some r) p) (λ _. ok) ≡ unless 9 (isSome (valuesSent (decodesIn (some r) none (p .params)) (p .name) (codeOf (some r) none) (manyOf (some r)) (firstOctets (p .values)))) (λ _. ok)
+  unfolding takenBy readAs unless encodingFits
+  taken-by r h = rw (both (binaryFits (codeOf (some r) none) (isEncoded (p .params))) _ h .0)
+      (option-unit _ 9 (valuesSent (decodesIn (some r) none (p .params)) (p .name) (codeOf (some r) none) (manyOf (some r)) (firstOctets (p .values))))
+
+  taken-answer : (row : Option Row) (u : Bool) → isUnknown (p .type) ≡ u → fits row ≡ true
       → then (pick (isUnknown (p .type)) (takenBy row p) (accepted p)) (λ _. ok) ≡ unless 9 (takes row) (λ _. ok)
-  unfolding then unless takenBy isSome statedType
+  unfolding then unless takenBy isSome statedType decodesIn
   taken-answer row false u e = rw u
   taken-answer none true u e = rw u
   taken-answer (some r) true u e = let k = rw u at e in rw u (taken-by r k)
 
-  values-answer : (row : Option Row) (b : Bool) → valuesAre (manyOf row) (writtenSort p) (p .values) ≡ b → encodingFits (codeOf row (statedType (p .type))) (isEncoded (p .params)) ≡ true
+  values-answer : (row : Option Row) (b : Bool) → valuesAre (manyOf row) (writtenSort p) (p .values) ≡ b → fits row ≡ true
       → then (unless 9 (valuesAre (manyOf row) (writtenSort p) (p .values)) (λ _. pick (isUnknown (p .type)) (takenBy row p) (accepted p))) (λ _. ok)
       ≡ unless 9 (valuesAre (manyOf row) (writtenSort p) (p .values) and takes row) (λ _. ok)
   unfolding then unless
@@ -172,28 +206,30 @@ module _ (T : Table) (p : Property) where
   faulty-7 h = rw h
 
   module _ (a : all mayReturn (p .params) ≡ true) {k : Ruling} (g : Rules (find T (p .name)) (p .name) (p .type) k) where
-    fits-by : {b : Bool} → encodingFits (k .code) (isEncoded (p .params)) ≡ b → encodingFits (codeOf (find T (p .name)) (statedType (p .type))) (isEncoded (p .params)) ≡ b
-    fits-by e = ap (λ c. encodingFits c (isEncoded (p .params))) (sym (g .code)) ∙ e
+    abbrev fitting : Bool
+    fitting = fitsBy (k .code) (k .taken) (isEncoded (p .params))
 
-    pub faulty-8 : encodingFits (k .code) (isEncoded (p .params)) ≡ false → checkedIn T p ≡ refused 8
+    fits-by : {b : Bool} → fitting ≡ b → fits p (find T (p .name)) ≡ b
+    fits-by e = sym (fits-ruled g (isEncoded (p .params))) ∙ e
+
+    pub faulty-8 : fitting ≡ false → checkedIn T p ≡ refused 8
     unfolding checkedIn checked unless then
     faulty-8 h = rw (a, fits-by h)
 
-    first-passed : encodingFits (k .code) (isEncoded (p .params)) ≡ true
+    first-passed : fitting ≡ true
         → checkedIn T p ≡ then (unless 9 (valuesAre (manyOf (find T (p .name))) (writtenSort p) (p .values)) (λ _. pick (isUnknown (p .type)) (takenBy (find T (p .name)) p) (accepted p))) (λ _. ok)
     unfolding checkedIn checked unless
     first-passed h = rw (a, fits-by h)
 
-    stands-9 : encodingFits (k .code) (isEncoded (p .params)) ≡ true
-        → checkedIn T p ≡ unless 9 (standing k (p .name) (p .values)) (λ _. ok)
+    stands-9 : fitting ≡ true → checkedIn T p ≡ unless 9 (standing k (p .name) (isEncoded (p .params)) (p .values)) (λ _. ok)
     unfolding writtenSort standing
     stands-9 h = rw (g .many, g .sort, g .taken, g .code) (first-passed h ∙ values-answer p (find T (p .name)) (valuesAre (manyOf (find T (p .name))) (writtenSort p) (p .values)) refl (fits-by h))
 
-    pub faulty-9 : encodingFits (k .code) (isEncoded (p .params)) ≡ true → standing k (p .name) (p .values) ≡ false → checkedIn T p ≡ refused 9
+    pub faulty-9 : fitting ≡ true → standing k (p .name) (isEncoded (p .params)) (p .values) ≡ false → checkedIn T p ≡ refused 9
     unfolding unless
     faulty-9 h e = stands-9 h ∙ rw e
 
-    pub faultless : encodingFits (k .code) (isEncoded (p .params)) ≡ true → standing k (p .name) (p .values) ≡ true → checkedIn T p ≡ ok
+    pub faultless : fitting ≡ true → standing k (p .name) (isEncoded (p .params)) (p .values) ≡ true → checkedIn T p ≡ ok
     unfolding unless
     faultless h e = stands-9 h ∙ rw e
 
@@ -210,9 +246,9 @@ pub ruled-as : (T : Table) {n t : List ℕ} {k : Ruling} (j : Json) → isProper
 ruled-as T j h e f g = rw (e, f, stays-lower _ (name-lower j h), stays-lower _ (type-lower j h)) at g
 
 -- the values of a property in lowercase
-pub as-stood : (k : Ruling) (j : Json) → isProperty j ≡ true → {n : List ℕ} {l : List Json} {b : Bool} → n ≡ propertyFrom j .name → l ≡ propertyFrom j .values
-    → standing k (lower n) l ≡ b → standing k (propertyFrom j .name) (propertyFrom j .values) ≡ b
-as-stood k j h e f g = rw (e, f, stays-lower _ (name-lower j h)) at g
+pub as-stood : (k : Ruling) (j : Json) → isProperty j ≡ true → {n : List ℕ} {u : Bool} {l : List Json} {b : Bool} → n ≡ propertyFrom j .name → u ≡ isEncoded (propertyFrom j .params)
+    → l ≡ propertyFrom j .values → standing k (lower n) u l ≡ b → standing k (propertyFrom j .name) (isEncoded (propertyFrom j .params)) (propertyFrom j .values) ≡ b
+as-stood k j h e u f g = rw (e, u, f, stays-lower _ (name-lower j h)) at g
 
 pub kind-name : (j : Json) → isProperty j ≡ true → {t : List ℕ} → t ≡ propertyFrom j .type → isName t ≡ true
 kind-name j h e = rw e (lower-name _ (type-lower j h))
@@ -283,22 +319,25 @@ module _ (T : Table) {t : List ℕ} {i : ℕ} {p : PropertyParts} (h : isPropert
     ruled-there = ruled-as T (valueAt t i) h (x .name .part) (x .kind .part) g
 
   module _ {a : Bool} (e : a ≡ all mayReturn (paramsFrom (membersAt t (p .params)))) (f : a ≡ true) {k : Ruling} (g : RuledAt T t p k)
-      {b : Bool} (u : b ≡ isEncoded (paramsFrom (membersAt t (p .params)))) {c : Bool} (v : c ≡ encodingFits (k .code) b) where
+      {b : Bool} (u : b ≡ isEncoded (paramsFrom (membersAt t (p .params)))) {c : Bool} (v : c ≡ fitsBy (k .code) (k .taken) b) where
     may : all mayReturn (propertyFrom (valueAt t i) .params) ≡ true
     may = ap (all mayReturn) (sym (x .params)) ∙ sym e ∙ f
 
-    fits : {r : Bool} → c ≡ r → encodingFits (k .code) (isEncoded (propertyFrom (valueAt t i) .params)) ≡ r
-    fits z = ap (encodingFits (k .code)) (sym (u ∙ ap isEncoded (x .params))) ∙ sym v ∙ z
+    encodes : b ≡ isEncoded (propertyFrom (valueAt t i) .params)
+    encodes = u ∙ ap isEncoded (x .params)
+
+    fits-there : {r : Bool} → c ≡ r → fitsBy (k .code) (k .taken) (isEncoded (propertyFrom (valueAt t i) .params)) ≡ r
+    fits-there z = ap (fitsBy (k .code) (k .taken)) (sym encodes) ∙ sym v ∙ z
 
     pub refused-8 : c ≡ false → answered ≡ refused 8
-    refused-8 z = faulty-8 T _ may (ruled-there g) (fits z)
+    refused-8 z = faulty-8 T _ may (ruled-there g) (fits-there z)
 
     module _ (z : c ≡ true) where
-      pub refused-9 : standing k (lower (octetsIn t (p .name))) (listAt t (p .values)) ≡ false → answered ≡ refused 9
-      refused-9 s = faulty-9 T _ may (ruled-there g) (fits z) (as-stood k (valueAt t i) h (x .name .part) (x .values) s)
+      pub refused-9 : standing k (lower (octetsIn t (p .name))) b (listAt t (p .values)) ≡ false → answered ≡ refused 9
+      refused-9 s = faulty-9 T _ may (ruled-there g) (fits-there z) (as-stood k (valueAt t i) h (x .name .part) encodes (x .values) s)
 
-      pub passed : standing k (lower (octetsIn t (p .name))) (listAt t (p .values)) ≡ true → answered ≡ ok
-      passed s = faultless T _ may (ruled-there g) (fits z) (as-stood k (valueAt t i) h (x .name .part) (x .values) s)
+      pub passed : standing k (lower (octetsIn t (p .name))) b (listAt t (p .values)) ≡ true → answered ≡ ok
+      passed s = faultless T _ may (ruled-there g) (fits-there z) (as-stood k (valueAt t i) h (x .name .part) encodes (x .values) s)
 
 -- behind a property, from its values on
 pub behind-values : {t : List ℕ} {i v e : ℕ} → isProperty (valueAt t i) ≡ true → InGroup t i v → Left t v e → Next t i e

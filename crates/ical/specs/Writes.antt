@@ -13,11 +13,12 @@ use Rattle.tape.specs.Promise.{Left}
 use Rattle.content.specs.Line.{Param}
 use Rattle.content.specs.Write.{paramText, paramsText}
 use Rattle.content.specs.Folding.{FoldPen, folding, Folded}
+use Rattle.values.specs.Base64.{isDecoded}
 use Rattle.values.specs.Coded.{sortSaid}
-use Rattle.values.specs.Read.{valuesOf}
 use Rattle.values.specs.Write.{valuesAre, valuesText}
 use Rattle.ical_values.specs.declared.Valued.{Valued}
 use Rattle.ical_values.specs.declared.Valued.the-variants.{Written, Invalid}
+use Rattle.conversion_theory.specs.Property.{valuesSent}
 use Rattle.conversion_theory.specs.Return.{firstOctets}
 use Rattle.ical_properties.specs.declared.Ruling.{Ruling}
 
@@ -30,12 +31,16 @@ valueParamText false t = []
 unfoldable pub headText : List ℕ → Bool → List ℕ → List Param → List ℕ
 headText n b t ps = upper n ++ (valueParamText b t ++ (paramsText ps ++ octets ":"))
 
--- the values are what a ruling asks for under this name
-unfoldable pub standing : Ruling → List ℕ → List Json → Bool
-standing k n vs = valuesAre (k .many) (sortSaid (k .sort)) vs and (not (k .taken) or isSome (valuesOf n (k .code) (k .many) (firstOctets vs)))
+-- the first value, decoded where it is encoded, is what the name takes without VALUE, where a ruling asks for that
+abbrev pub isTaken : Ruling → List ℕ → Bool → List Json → Bool
+isTaken k n encoded vs = not (k .taken) or isSome (valuesSent (isDecoded (k .code) encoded) n (k .code) (k .many) (firstOctets vs))
+
+-- the values are what a ruling asks for under this name, with ENCODING=BASE64 or without
+unfoldable pub standing : Ruling → List ℕ → Bool → List Json → Bool
+standing k n encoded vs = valuesAre (k .many) (sortSaid (k .sort)) vs and isTaken k n encoded vs
 
 -- the values of the group at i stand, are written behind f and end before e; or they do not stand, and the buffer is as long and as before in front of
 -- the pen, and the code's choice behind
-abbrev pub ValuesWritten : Ruling → List ℕ → List ℕ → ℕ → FoldPen → List ℕ → Valued → Type 0
-ValuesWritten k n t i f out (Written e q) = (standing k n (listAt t i) ≡ true) × Folded f (valuesText (sortSaid (k .sort)) (listAt t i)) (folding out q) × Left t i e
-ValuesWritten k n t i f out Invalid = (standing k n (listAt t i) ≡ false) × FrontKept (f .pen) out
+abbrev pub ValuesWritten : Ruling → List ℕ → Bool → List ℕ → ℕ → FoldPen → List ℕ → Valued → Type 0
+ValuesWritten k n encoded t i f out (Written e q) = (standing k n encoded (listAt t i) ≡ true) × Folded f (valuesText (sortSaid (k .sort)) (listAt t i)) (folding out q) × Left t i e
+ValuesWritten k n encoded t i f out Invalid = (standing k n encoded (listAt t i) ≡ false) × FrontKept (f .pen) out

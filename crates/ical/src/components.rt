@@ -18,7 +18,7 @@ ghost use Rattle.conversion_theory.specs.Skeleton.{isComponent, componentFrom};
 ghost use Rattle.conversion_theory.specs.ToIcal.{checkedAll, componentLines};
 ghost use Rattle.ical.specs.Converts.{Converts};
 
-// Writes the component at `at`, which has at most `left` levels, up to the first property in fault. Recurrence rules are laid into `rule`.
+// Writes the component at `at`, which has at most `left` levels, up to the first property in fault. Recurrence rules and decoded values are laid into `rule`.
 pub(crate) fn convert_component(
     t: &[u8],
     at: usize,

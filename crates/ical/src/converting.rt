@@ -69,7 +69,7 @@ fn convert_tape(t: &[u8], rows: &[u8], out: &mut [u8], rule: &mut [u8]) -> Conve
     }
 }
 
-// Numbers 6 and 11, and then what is on the tape; `tape` and `rule` are memory to work in.
+// Numbers 6 and 11, and then what is on the tape; `tape` and `rule` are memory to work in, `rule` for the text of a recurrence object or for a decoded value.
 fn convert_text(
     text: &[u8],
     rows: &[u8],

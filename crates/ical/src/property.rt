@@ -17,29 +17,49 @@ use tape::END;
 use tape::after;
 use tape::tag;
 use tape::text_at;
+use values::Sort;
+use values::base64::Decoding;
+use values::base64::decode;
+use values::base64::is_decoded;
 use values::sort_of;
 ghost use mathlib.Core.Path.{_≡_};
 ghost use mathlib.Core.Bool.{true, not};
 ghost use mathlib.Core.List.{[], _∷_, map};
 ghost use Prim.Native.Nat.{_≤_};
 ghost use lib.ListN.{length};
-ghost use Rattle.octets.specs.Basics.{_or_};
+ghost use Rattle.octets.specs.Basics.{_or_, single};
 ghost use Rattle.octets.specs.Classes.{lower};
-ghost use Rattle.octets.specs.Optional.{isSome};
+ghost use Rattle.octets.specs.Optional.{then?, isSome, guard};
 ghost use Rattle.types.specs.Laid.{tableIn};
 ghost use Rattle.json.specs.Tree.{elements};
 ghost use Rattle.tape.specs.Decode.{valueAt, listAt};
 ghost use Rattle.content.specs.Folding.{folding};
-ghost use Rattle.values.specs.Read.{valuesOf};
+ghost use Rattle.values.specs.Base64.{isDecoded, textSent};
+ghost use Rattle.values.specs.Coded.{sortSaid};
+ghost use Rattle.values.specs.Read.{readValues};
 ghost use Rattle.conversion_theory.specs.Skeleton.{isListOf, isProperty, propertyFrom};
+ghost use Rattle.conversion_theory.specs.Property.{valuesSent};
 ghost use Rattle.conversion_theory.specs.Return.{firstOctets};
 ghost use Rattle.conversion_theory.specs.ToIcal.{checkedAll, propertyLine};
 ghost use Rattle.ical.specs.Writes.{ValuesWritten};
 ghost use Rattle.ical.specs.Converts.{checkedIn, Converts};
 
-// Whether the first value at `at` is what its name takes without VALUE, where it must be.
-fn is_taken(t: &[u8], name: &[u8], at: usize, k: Ruling) -> bool
-    ensures { λ r. ⌜ r ≡ (not (k .taken) or isSome (valuesOf (lower (now (name .entry))) (k .code) (k .many) (firstOctets (listAt (now (t .entry)) at)))) ⌝ }
+// Whether the value that is encoded in `raw` is of the sort, or several where there may be many; it is decoded into `rule`.
+fn holds_decoded(sort: Sort, many: bool, raw: &[u8], rule: &mut [u8]) -> bool
+    requires { ⌜ length (now raw) ≤ length (now rule) ⌝ }
+    ensures { λ r. ⌜ r ≡ isSome (then? (textSent true (now (raw .entry))) (λ s. guard (λ vs. many or single vs) (readValues (sortSaid sort) s))) ⌝ }
+{
+    let d = decode(raw, rule);
+    match d {
+        Decoding::Octets(n) => holds_values(sort, many, &rule[0..n]),
+        Decoding::Invalid => false,
+    }
+}
+
+// Whether the first value at `at`, decoded where it is encoded, is what its name takes without VALUE, where it must be.
+fn is_taken(t: &[u8], name: &[u8], at: usize, k: Ruling, encoded: bool, rule: &mut [u8]) -> bool
+    requires { ⌜ length (now t) ≤ length (now rule) ⌝ }
+    ensures { λ r. ⌜ r ≡ (not (k .taken) or isSome (valuesSent (isDecoded (k .code) encoded) (lower (now (name .entry))) (k .code) (k .many) (firstOctets (listAt (now (t .entry)) at)))) ⌝ }
 {
     if !k.taken {
         return true;
@@ -48,6 +68,9 @@ fn is_taken(t: &[u8], name: &[u8], at: usize, k: Ruling) -> bool
     let x = text_at(t, at);
     let from = x.from;
     let to = x.to;
+    if is_decoded(k.code, encoded) {
+        return holds_decoded(sort, k.many, &t[from..to], rule);
+    }
     holds_values(sort, k.many, &t[from..to])
 }
 
@@ -59,12 +82,13 @@ fn write_stood(
     name: &[u8],
     at: usize,
     k: Ruling,
+    encoded: bool,
     rule: &mut [u8],
 ) -> Valued
     requires { ⌜ length (now t) ≤ length (now rule) ⌝ }
-    ensures { λ r. ⌜ ValuesWritten k (lower (now (name .entry))) (now (t .entry)) at (folding (now (out .entry)) p) (now (out .exit)) r ⌝ }
+    ensures { λ r. ⌜ ValuesWritten k (lower (now (name .entry))) encoded (now (t .entry)) at (folding (now (out .entry)) p) (now (out .exit)) r ⌝ }
 {
-    if !is_taken(t, name, at, k) {
+    if !is_taken(t, name, at, k, encoded, rule) {
         return Valued::Invalid;
     }
     let sort = k.sort;
@@ -96,12 +120,13 @@ fn convert_property(
     let c = kind.from;
     let d = kind.to;
     let k = ruling_of(rows, &t[a..b], &t[c..d]);
-    if !encoding_fits(k.code, any_encodes(t, params)) {
+    let encoded = any_encodes(t, params);
+    if !encoding_fits(k.code, k.taken, encoded) {
         return Conversion::Refused(Refusal::BadEncoding);
     }
     let start = Folder { at: to, column: 0 };
     let h = write_head(out, start, &t[a..b], k.shown, &t[c..d], t, params);
-    let w = write_stood(out, h, t, &t[a..b], p.values, k, rule);
+    let w = write_stood(out, h, t, &t[a..b], p.values, k, encoded, rule);
     match w {
         Valued::Invalid => Conversion::Refused(Refusal::BadValue),
         Valued::Written(e, q) => {

@@ -6,21 +6,23 @@ use mathlib.Core.List.{List}
 use mathlib.Core.Option.{Option, none, some}
 use borrow.Author.Tests.{ne-eqb}
 use lib.Dec.{eqb}
-use Rattle.octets.specs.Basics.{octets, pick, _or_, same}
+use Rattle.octets.specs.Basics.{octets, pick, _and_, _or_, same}
 use Rattle.octets.specs.Optional.{isSome}
-use Rattle.types.specs.Codes.{unprocessed, binary, typeName, codeNamed}
+use Rattle.octets.proofs.Cases.{and-true-right, or-true-right}
+use Rattle.types.specs.Codes.{binary, typeName, codeNamed}
 use Rattle.types.specs.Table.{Row}
 use Rattle.types.specs.Laid.{rowFound}
 use Rattle.types.specs.declared.Lookup.{Lookup}
 use Rattle.types.specs.declared.Lookup.the-variants.{Listed, Unlisted}
+use Rattle.values.specs.Base64.{binaryFits, isDecoded}
 use Rattle.values.specs.Sorts.{sortOf}
 use Rattle.values.specs.Coded.{sortSaid}
 use Rattle.values.specs.declared.sorts.Sort.{Sort}
 use Rattle.values.specs.declared.sorts.Sort.the-variants.{Plain}
-use Rattle.conversion_theory.specs.Property.{typeOf, codeOf, manyOf, encodingFits}
-use Rattle.conversion_theory.specs.Return.{isUnknown, statedType, isDefault, shown}
+use Rattle.conversion_theory.specs.Property.{typeOf, codeOf, manyOf}
+use Rattle.conversion_theory.specs.Return.{isUnknown, statedType, statesPlain, encodingFits, isDefault, shown}
 use Rattle.conversion_theory.proofs.PropertyReading.{unprocessed-code}
-use Rattle.ical_properties.specs.Ruled.{Rules}
+use Rattle.ical_properties.specs.Ruled.{Rules, fitsBy}
 use Rattle.ical_properties.specs.declared.Ruling.{Ruling}
 
 abbrev row : ℕ → Bool → Row
@@ -67,14 +69,33 @@ rules-same e h = rw e h
 
 -- number 8
 module _ (c : ℕ) (b : Bool) where
-  pub fits-any : c ≡ unprocessed → encodingFits c b ≡ true
-  unfolding encodingFits
-  fits-any e = rw e
+  pub fits-binary : (t : Bool) → c ≡ binary → fitsBy c t b ≡ b
+  unfolding fitsBy binaryFits isDecoded
+  fits-binary t e = rw (e, or-true-right t, and-true-right b)
 
-  pub fits-binary : c ≡ binary → encodingFits c b ≡ b
-  unfolding encodingFits
-  fits-binary e = rw e
+  module _ (n : (c ≡ binary) → ⊥) where
+    pub fits-taken : {t : Bool} → t ≡ true → fitsBy c t b ≡ true
+    unfolding fitsBy binaryFits
+    fits-taken e = rw (ne-eqb c binary n, e)
 
-  pub fits-other : ((c ≡ unprocessed) → ⊥) → ((c ≡ binary) → ⊥) → encodingFits c b ≡ not b
-  unfolding encodingFits
-  fits-other n m = rw (ne-eqb c unprocessed n, ne-eqb c binary m)
+    pub fits-stated : {t : Bool} → t ≡ false → fitsBy c t b ≡ not (isDecoded c b)
+    unfolding fitsBy binaryFits
+    fits-stated e = rw (ne-eqb c binary n, e)
+
+-- by a ruling it is as by row and type
+fits-typed : (r : Option Row) (t : List ℕ) (b : Bool) → fitsBy (codeOf r (some t)) false b ≡ encodingFits r (some t) b
+unfolding fitsBy encodingFits statesPlain codeOf typeOf
+fits-typed r t b = refl
+
+fits-untyped : (r : Option Row) (b : Bool) → fitsBy (codeOf r none) (isSome r) b ≡ encodingFits r none b
+unfolding fitsBy encodingFits statesPlain binaryFits isDecoded isSome
+fits-untyped none b = rw unprocessed-code
+fits-untyped (some q) b = refl
+
+pub fits-ruled : {r : Option Row} {n t : List ℕ} {k : Ruling} → Rules r n t k → (b : Bool) → fitsBy (k .code) (k .taken) b ≡ encodingFits r (statedType t) b
+unfolding statedType
+fits-ruled {r} {n} {t} g b = rw (g .code, g .taken) (by (isUnknown t))
+  where
+    by : (u : Bool) → fitsBy (codeOf r (pick u none (some t))) (u and isSome r) b ≡ encodingFits r (pick u none (some t)) b
+    by false = fits-typed r t b
+    by true = fits-untyped r b

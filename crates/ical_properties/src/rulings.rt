@@ -6,6 +6,7 @@ use types::find;
 use types::is_unknown;
 use types::known_code;
 use values::Sort;
+use values::base64::is_decoded;
 use values::sort_of;
 ghost use mathlib.Core.Path.{_≡_};
 ghost use mathlib.Core.Bool.{false};
@@ -13,19 +14,20 @@ ghost use Rattle.octets.specs.Classes.{lower};
 ghost use Rattle.octets.specs.Basics.{octets};
 ghost use Rattle.types.specs.Table.{find};
 ghost use Rattle.types.specs.Laid.{tableIn};
-ghost use Rattle.conversion_theory.specs.Property.{encodingFits};
 ghost use Rattle.conversion_theory.specs.Return.{isUnknown};
-ghost use Rattle.ical_properties.specs.Ruled.{Rules};
+ghost use Rattle.ical_properties.specs.Ruled.{Rules, fitsBy};
 
-// Number 8: binary has ENCODING=BASE64, another of the fourteen types has not.
-pub fn encoding_fits(code: u8, encoded: bool) -> bool
-    ensures { λ r. ⌜ r ≡ encodingFits code encoded ⌝ }
+// Number 8: binary has ENCODING=BASE64; another of the fourteen types has it only where an "unknown" value must be what its name takes.
+pub fn encoding_fits(code: u8, taken: bool, encoded: bool) -> bool
+    ensures { λ r. ⌜ r ≡ fitsBy code taken encoded ⌝ }
 {
-    match code {
-        0 => true,
-        1 => encoded,
-        _ => !encoded,
+    if code == 1 {
+        return encoded;
     }
+    if taken {
+        return true;
+    }
+    !is_decoded(code, encoded)
 }
 
 // The ruling of an "unknown" value.

@@ -10,11 +10,9 @@ use Rattle.octets.specs.Pen.{Pen, pen, Wrote}
 use Rattle.octets.specs.Answers.{Answer, refused, then}
 use Rattle.octets.proofs.Cases.{never, both}
 use Rattle.octets.proofs.Pen.{then as behind-it, Leads, leads-start, leads-on, leads-same, leads-last}
-use Rattle.types.specs.Table.{Table}
 use Rattle.content.specs.Line.{Line, lineOf}
 use Rattle.conversion_theory.specs.Tree.{Property}
 use Rattle.conversion_theory.specs.Structure.{Event, begins, ends, carries, stray}
-use Rattle.conversion_theory.specs.Property.{readProperty}
 use Rattle.jcal_properties.specs.Placed.{Places as PlacesProperty}
 use Rattle.jcal_properties.specs.declared.Placed.{Placed}
 use Rattle.jcal_properties.specs.declared.Placed.the-variants.{At, Failed}
@@ -33,10 +31,10 @@ use Rattle.jcal.proofs.PropertyTests.{turn-passed, turn-failed}
 use Rattle.jcal.proofs.NextLines.{accepts-tested, next-tested}
 
 -- a comma and a property are an item
-pub item-placed : (t : Table) (l : Line) (first : Bool) (out : List ℕ) (r : Placed) {p m : Pen} → Wrote p (leadingComma first) m → PlacesProperty t l m out r → PlacesItem (readProperty t l) first p out r
+pub item-placed : (a : Answer Property) (first : Bool) (out : List ℕ) (r : Placed) {p m : Pen} → Wrote p (leadingComma first) m → PlacesProperty a m out r → PlacesItem a first p out r
 unfolding isAccepted propertyOr
-item-placed t l first out (At q) w z = record { accepts = rw (z .read); wrote = rw (z .read) (behind-it w (z .wrote)) }
-item-placed t l first out (Failed why) w z = z .0
+item-placed a first out (At q) w z = record { accepts = rw (z .read); wrote = rw (z .read) (behind-it w (z .wrote)) }
+item-placed a first out (Failed why) w z = z .0
 
 -- what stands next is found from an earlier line on
 pub finds-from : (s : List ℕ) (i j : ℕ) (es fs : List (Event Line)) (r : NextItem) → i ≤ j → es ≡ fs → Finds s j es r → Finds s i fs r

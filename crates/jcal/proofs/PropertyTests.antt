@@ -1,24 +1,31 @@
 -- The tests of the properties, line by line.
-use Prim.Native.Nat.{ℕ, _+_, _≤_}
+use Prim.Native.Nat.{ℕ, _+_, _-_, _≤_}
 use mathlib.Core.Path.{_≡_, refl, sym, ap, _∙_}
 use mathlib.Core.List.{List, [], _∷_}
-use lib.ListN.{length, drop}
+use native.Mathlib.Omega.{arith}
+use lib.ListN.{length, take, drop}
 use types.Run.{OneOf, miss}
 use denote.Enum.Declared.{tagOf}
 use Rattle.octets.specs.Answers.{Answer, refused, accepted, then, number}
 use Rattle.octets.specs.declared.Refusal.{Refusal}
+use Rattle.types.specs.Table.{Table}
 use Rattle.content.specs.Line.{Line, lineOf}
+use Rattle.content.specs.Reading.{roomForLines}
 use Rattle.conversion_theory.specs.Tree.{Property}
 use Rattle.conversion_theory.specs.Structure.{Event, begins, ends, carries, stray}
 use Rattle.conversion_theory.specs.Growth.{behindEvent, eachProperty}
+use Rattle.conversion_theory.specs.Property.{readProperty}
 use Rattle.jcal_properties.specs.Passed.{testSaid}
+use Rattle.jcal_properties.specs.Placed.{lineRead}
 use Rattle.jcal_properties.specs.declared.Tested.{Tested}
 use Rattle.jcal_properties.specs.declared.Tested.the-variants.{Passed, Failed}
+use Rattle.jcal_properties.proofs.PropertyParts.{line-fits}
 use Rattle.jcal.specs.Events.{eventAt, eventsIn, lineFrom, LineAt, lineTold, TellsLine}
 use Rattle.jcal.specs.Components.{eventTested, eachTested}
 use Rattle.jcal.specs.declared.events.LineKind.{LineKind}
 use Rattle.jcal.specs.declared.events.LineKind.the-variants.{Opens, Closes, Plain, Broken}
 use Rattle.jcal.proofs.events.LineKind.{the-type}
+use Rattle.jcal.proofs.LineKinds.{line-is}
 use Rattle.jcal.proofs.OpenComponents.{events-here, events-none}
 
 -- what a returned `Tested` says, where it is known which
@@ -66,6 +73,10 @@ module _ (f : Line → Answer Property) where
 
       pub turn-off : (n : ℕ) → refused n ≡ eventTested f (eventAt (lineFrom s i)) → refused n ≡ eachTested f (eventsIn (drop i s))
       turn-off n t = sym (ap (eachTested f) (events-here s i e h) ∙ turn-failed (eventAt (lineFrom s i)) (eventsIn (drop (e + 1) s)) n t)
+
+-- a line of a buffer, as a slice lends it
+pub line-read : (t : Table) (s : List ℕ) (i e : ℕ) → LineAt s i e → length s ≤ roomForLines → lineRead t (take (e - i) (drop i s)) ≡ readProperty t (lineOf (lineFrom s i))
+line-read t s i e h l = rw (line-is s i e h) (line-fits t (lineFrom s i) (unfold lineFrom in omega (arith, h .ends, h .high, l)))
 
 -- the test of a line of which is told
 module _ (f : Line → Answer Property) (s : List ℕ) (i e : ℕ) where

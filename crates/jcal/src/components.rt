@@ -3,13 +3,14 @@ ghost use mathlib.Core.Path.{_≡_};
 ghost use mathlib.Core.Bool.{true, false};
 ghost use mathlib.Core.List.{_++_};
 ghost use Prim.Native.Nat.{_+_, _≤_};
-ghost use lib.ListN.{drop};
+ghost use lib.ListN.{length, drop};
 ghost use Rattle.octets.specs.Basics.{octets};
 ghost use Rattle.octets.specs.Pen.{pen, Wrote};
 ghost use Rattle.octets.specs.Answers.{outcome, answer};
 ghost use Rattle.json.specs.Print.{print};
 ghost use Rattle.types.specs.Laid.{tableIn};
 ghost use Rattle.content.specs.Line.{lineOf};
+ghost use Rattle.content.specs.Reading.{roomForLines};
 ghost use Rattle.conversion_theory.specs.Tree.{levels};
 ghost use Rattle.conversion_theory.specs.Structure.{fresh, closed, nestAfter};
 ghost use Rattle.conversion_theory.specs.Property.{readProperty};
@@ -52,6 +53,7 @@ fn put_comma(out: &mut [u8], at: usize, first: bool) -> usize
 
 // Tests and writes a property as an item.
 fn place_item(line: &[u8], rows: &[u8], first: bool, out: &mut [u8], at: usize) -> Placed
+    requires { ⌜ length (now line) ≤ roomForLines ⌝ }
     ensures { λ r. ⌜ PlacesItem (readProperty (tableIn (now (rows .entry))) (lineOf (now (line .entry)))) first (pen (now (out .entry)) at) (now (out .exit)) r ⌝ }
 {
     let to = put_comma(out, at, first);
@@ -140,6 +142,7 @@ fn place_properties(
     out: &mut [u8],
     at: usize,
 ) -> NextItem
+    requires { ⌜ length (now buf) ≤ roomForLines ⌝ }
     requires { ⌜ ready (readProperty (tableIn (now rows))) in_order false (eventsIn (drop from (now buf))) ≡ true ⌝ }
     ensures { λ r. ⌜ PartPlaced (readProperty (tableIn (now (rows .entry)))) (now (buf .entry)) from (eventsIn (drop from (now (buf .entry)))) (eventsIn (drop from (now (buf .entry)))) (pen (now (out .entry)) at) (propertiesText (readProperty (tableIn (now (rows .entry)))) true (eventsIn (drop from (now (buf .entry)))) ++ octets ",[") (now (out .exit)) r ⌝ }
 {
@@ -182,6 +185,7 @@ fn place_component(
     out: &mut [u8],
     at: usize,
 ) -> NextItem
+    requires { ⌜ length (now buf) ≤ roomForLines ⌝ }
     requires { ⌜ Named (now buf) name e ⌝ }
     requires { ⌜ ready (readProperty (tableIn (now rows))) in_order false (eventsIn (drop (e + 1) (now buf))) ≡ true ⌝ }
     requires { ⌜ levels (componentAt (readProperty (tableIn (now rows))) (nameFrom (now buf) name) (eventsIn (drop (e + 1) (now buf)))) ≤ left ⌝ }
@@ -220,6 +224,7 @@ fn outermost_name(lines: &[u8], e: usize) -> usize
 
 // Converts lines that pair: tests 7, 8 and 9 if they are in order; other lines have passed these.
 pub(crate) fn place_calendar(lines: &[u8], rows: &[u8], in_order: bool, out: &mut [u8]) -> Converted
+    requires { ⌜ length (now lines) ≤ roomForLines ⌝ }
     requires { ⌜ nestAfter fresh (eventsIn (now lines)) ≡ closed ⌝ }
     requires { ⌜ ready (readProperty (tableIn (now rows))) in_order false (eventsIn (now lines)) ≡ true ⌝ }
     ensures { λ r. ⌜ outcome r (now (out .exit)) ≡ answer (propertiesJcal (readProperty (tableIn (now (rows .entry)))) (eventsIn (now (lines .entry)))) (now (out .entry)) ⌝ }

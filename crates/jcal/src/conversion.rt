@@ -6,6 +6,7 @@ ghost use Rattle.octets.specs.Limits.{mostText};
 ghost use Rattle.octets.specs.Answers.{outcome, answer};
 ghost use Rattle.types.specs.Laid.{tableIn, roomForRows};
 ghost use Rattle.content.specs.Lines.{linesOf};
+ghost use Rattle.content.specs.Reading.{roomForLines};
 ghost use Rattle.conversion_theory.specs.Structure.{fresh, closed, nestAfter};
 ghost use Rattle.conversion_theory.specs.Property.{readProperty};
 ghost use Rattle.conversion_theory.specs.ToJcal.{toJcal};
@@ -17,6 +18,7 @@ use crate::nesting::Structure;
 use crate::nesting::test_structure;
 use crate::testing::test_properties;
 use content::Lines;
+use content::ROOM_FOR_LINES;
 use content::read_lines;
 use jcal_properties::Tested;
 use octets::Converted;
@@ -32,10 +34,9 @@ const SHORT_TEXT: usize = 4096;
 // A buffer of lines has room for a text and an LF more.
 const ROOM_FOR_SHORT: usize = SHORT_TEXT + 1;
 
-const ROOM_FOR_LINES: usize = MOST_TEXT + 1;
-
 // Converts lines that pair: tests 7, 8 and 9. Lines that are not in order are tested before they are written.
 fn convert_paired(lines: &[u8], rows: &[u8], in_order: bool, out: &mut [u8]) -> Converted
+    requires { ⌜ length (now lines) ≤ roomForLines ⌝ }
     requires { ⌜ nestAfter fresh (eventsIn (now lines)) ≡ closed ⌝ }
     requires { ⌜ in_order ≡ ordered (eventsIn (now lines)) ⌝ }
     ensures { λ r. ⌜ outcome r (now (out .exit)) ≡ answer (propertiesJcal (readProperty (tableIn (now (rows .entry)))) (eventsIn (now (lines .entry)))) (now (out .entry)) ⌝ }
@@ -50,6 +51,7 @@ fn convert_paired(lines: &[u8], rows: &[u8], in_order: bool, out: &mut [u8]) -> 
 
 // Converts clean content lines: tests 5 and 6.
 fn convert_lines(lines: &[u8], rows: &[u8], out: &mut [u8]) -> Converted
+    requires { ⌜ length (now lines) ≤ roomForLines ⌝ }
     ensures { λ r. ⌜ outcome r (now (out .exit)) ≡ answer (eventsJcal (readProperty (tableIn (now (rows .entry)))) (eventsIn (now (lines .entry)))) (now (out .entry)) ⌝ }
 {
     match test_structure(lines) {
@@ -61,6 +63,7 @@ fn convert_lines(lines: &[u8], rows: &[u8], out: &mut [u8]) -> Converted
 // Converts a text whose lines have room in the buffer: tests 3 and 4.
 fn convert_text(text: &[u8], rows: &[u8], buf: &mut [u8], out: &mut [u8]) -> Converted
     requires { ⌜ length (now text) < length (now buf) ⌝ }
+    requires { ⌜ length (now buf) ≤ roomForLines ⌝ }
     ensures { λ r. ⌜ outcome r (now (out .exit)) ≡ answer (linesJcal (readProperty (tableIn (now (rows .entry)))) (linesOf (now (text .entry)))) (now (out .entry)) ⌝ }
 {
     match read_lines(text, buf) {
@@ -75,6 +78,7 @@ fn convert_text(text: &[u8], rows: &[u8], buf: &mut [u8], out: &mut [u8]) -> Con
 fn convert(text: &[u8], hex: &[u8], rows: &mut [u8], buf: &mut [u8], out: &mut [u8]) -> Converted
     requires { ⌜ roomForRows ≤ length (now rows) ⌝ }
     requires { ⌜ length (now text) < length (now buf) ⌝ }
+    requires { ⌜ length (now buf) ≤ roomForLines ⌝ }
     requires { ⌜ length (now text) ≤ mostText ⌝ }
     ensures { λ r. ⌜ outcome r (now (out .exit)) ≡ answer (toJcal (now (hex .entry)) (now (text .entry))) (now (out .entry)) ⌝ }
 {

@@ -2,6 +2,7 @@
 ghost use mathlib.Core.Path.{_≡_};
 ghost use mathlib.Core.List.{[]};
 ghost use mathlib.Core.Option.{none};
+ghost use Prim.Native.Nat.{_≤_};
 ghost use lib.ListN.{length};
 ghost use Rattle.octets.specs.Classes.{lower};
 ghost use Rattle.octets.specs.Basics.{pick};
@@ -9,18 +10,21 @@ ghost use Rattle.octets.specs.Answers.{refused, accepted, then};
 ghost use Rattle.octets.specs.Pen.{pen, Wrote};
 ghost use Rattle.json.specs.Print.{printString};
 ghost use Rattle.types.specs.Laid.{tableIn, rowFound};
-ghost use Rattle.content.specs.Line.{lineOf};
 ghost use Rattle.content.specs.Parts.{paramsIn};
 ghost use Rattle.content.specs.Parameters.{nameTwice};
 ghost use Rattle.content.specs.Kinds.{valueTypeSaid, Bounded};
-ghost use Rattle.values.specs.Read.{valuesOf};
-ghost use Rattle.conversion_theory.specs.Property.{typeOf, codeOf, manyOf, encodingFits, readProperty};
+ghost use Rattle.content.specs.Reading.{roomForLines};
+ghost use Rattle.values.specs.Base64.{binaryFits, textSent};
+ghost use Rattle.values.specs.Coded.{sortSaid};
+ghost use Rattle.conversion_theory.specs.Property.{typeOf, codeOf, manyOf, valuesSent};
+ghost use Rattle.jcal_values.specs.Attempts.{AttemptedIn};
 ghost use Rattle.jcal_properties.specs.Passed.{testSaid, paramsTested};
-ghost use Rattle.jcal_properties.specs.Placed.{Fronts, PlacesValues, Places};
+ghost use Rattle.jcal_properties.specs.Placed.{Fronts, PlacesValues, Places, lineRead};
 ghost use Rattle.jcal_properties.specs.Shown.{namedType, frontText};
 use crate::Placed;
 use crate::Tested;
 use crate::names::put_name;
+use content::ROOM_FOR_LINES;
 use content::ValueType;
 use content::is_encoded;
 use content::name_twice;
@@ -28,6 +32,7 @@ use content::parts_of;
 use content::put_params;
 use content::value_type;
 use jcal_texts::Attempt;
+use jcal_values::put_decoded;
 use jcal_values::put_tested;
 use octets::Refusal;
 use octets::put;
@@ -37,11 +42,13 @@ use types::code_named;
 use types::find;
 use types::known_code;
 use types::put_type_name;
+use values::Sort;
+use values::base64::is_decoded;
 use values::sort_of;
 
-// The code of the type of a property that is written up to its values, and the place behind; or why it is refused.
+// Of a property that is written up to its values: the code of its type, whether its value is decoded, and the place behind; or why it is refused.
 enum Fronted {
-    To(u8, usize),
+    To(u8, bool, usize),
     Failed(Refusal),
 }
 
@@ -77,15 +84,11 @@ fn is_many(found: Lookup) -> bool
     }
 }
 
-// Number 8: binary has ENCODING=BASE64, another of the fourteen types has not.
-fn encoding_fits(code: u8, encoded: bool) -> bool
-    ensures { λ r. ⌜ r ≡ encodingFits code encoded ⌝ }
+// Number 8: binary has ENCODING=BASE64.
+fn binary_fits(code: u8, encoded: bool) -> bool
+    ensures { λ r. ⌜ r ≡ binaryFits code encoded ⌝ }
 {
-    match code {
-        0 => true,
-        1 => encoded,
-        _ => !encoded,
-    }
+    if code == 1 { encoded } else { true }
 }
 
 // Number 7: no parameter name stands twice, and VALUE names a type where it stands.
@@ -102,14 +105,14 @@ fn params_fit(params: &[u8], kind: ValueType) -> bool
     }
 }
 
-// Writes a property up to its type.
-fn put_front(name: &[u8], params: &[u8], out: &mut [u8], at: usize) -> usize
-    ensures { λ r. ⌜ Wrote (pen (now (out .entry)) at) (frontText (now (name .entry)) (paramsIn (now (params .entry)))) (pen (now (out .exit)) r) ⌝ }
+// Writes a property up to its type, where its value is decoded or not.
+fn put_front(name: &[u8], params: &[u8], decodes: bool, out: &mut [u8], at: usize) -> usize
+    ensures { λ r. ⌜ Wrote (pen (now (out .entry)) at) (frontText (now (name .entry)) decodes (paramsIn (now (params .entry)))) (pen (now (out .exit)) r) ⌝ }
 {
     let a = put(out, at, b'[');
     let b = put_name(out, a, &*name);
     let c = put(out, b, b',');
-    let d = put_params(out, c, &*params);
+    let d = put_params(out, c, &*params, decodes);
     put(out, d, b',')
 }
 
@@ -139,20 +142,40 @@ fn put_type(found: Lookup, params: &[u8], kind: ValueType, out: &mut [u8], at: u
     }
 }
 
+// Tests and writes the values of a value, which is decoded first where it is sent as base64.
+fn put_sent(
+    found: Lookup,
+    decodes: bool,
+    sort: Sort,
+    value: &[u8],
+    out: &mut [u8],
+    at: usize,
+) -> Attempt
+    requires { ⌜ length (now value) ≤ roomForLines ⌝ }
+    ensures { λ r. ⌜ AttemptedIn (manyOf (rowFound found)) (sortSaid sort) (textSent decodes (now (value .entry))) (pen (now (out .entry)) at) (now (out .exit)) r ⌝ }
+{
+    let many = is_many(found);
+    if decodes {
+        return put_decoded(out, at, sort, many, &*value);
+    }
+    put_tested(out, at, sort, many, &*value)
+}
+
 // Tests the values by 9, writes them, and closes the property.
 fn place_values(
     found: Lookup,
     code: u8,
+    decodes: bool,
     name: &[u8],
     value: &[u8],
     out: &mut [u8],
     at: usize,
 ) -> Placed
-    ensures { λ r. ⌜ PlacesValues (valuesOf (lower (now (name .entry))) code (manyOf (rowFound found)) (now (value .entry))) (pen (now (out .entry)) at) (now (out .exit)) r ⌝ }
+    requires { ⌜ length (now value) ≤ roomForLines ⌝ }
+    ensures { λ r. ⌜ PlacesValues (valuesSent decodes (lower (now (name .entry))) code (manyOf (rowFound found)) (now (value .entry))) (pen (now (out .entry)) at) (now (out .exit)) r ⌝ }
 {
-    let sort = sort_of(name, code);
-    let many = is_many(found);
-    match put_tested(out, at, sort, many, value) {
+    let sort = sort_of(&*name, code);
+    match put_sent(found, decodes, sort, &*value, out, at) {
         Attempt::Written(q) => Placed::At(put(out, q, b']')),
         Attempt::Invalid => Placed::Failed(Refusal::BadValue),
     }
@@ -163,13 +186,13 @@ fn front_plain(found: Lookup, name: &[u8], out: &mut [u8], at: usize) -> Fronted
     ensures { λ r. ⌜ Fronts (rowFound found) (now (name .entry)) [] (pen (now (out .entry)) at) (now (out .exit)) r ⌝ }
 {
     let code = default_code(found);
-    if !encoding_fits(code, false) {
+    if !binary_fits(code, false) {
         return Fronted::Failed(Refusal::BadEncoding);
     }
     let a = put(out, at, b'[');
     let b = put_name(out, a, &*name);
     let c = put_all(out, b, b",{},");
-    Fronted::To(code, put_default(found, out, c))
+    Fronted::To(code, false, put_default(found, out, c))
 }
 
 // Tests a property with parameters by 7 and 8, and writes it up to its values.
@@ -181,11 +204,13 @@ fn front_given(found: Lookup, name: &[u8], params: &[u8], out: &mut [u8], at: us
         return Fronted::Failed(Refusal::BadParameter);
     }
     let code = code_of(found, &*params, kind);
-    if !encoding_fits(code, is_encoded(&*params)) {
+    let encoded = is_encoded(&*params);
+    if !binary_fits(code, encoded) {
         return Fronted::Failed(Refusal::BadEncoding);
     }
-    let a = put_front(&*name, &*params, out, at);
-    Fronted::To(code, put_type(found, &*params, kind, out, a))
+    let decodes = is_decoded(code, encoded);
+    let a = put_front(&*name, &*params, decodes, out, at);
+    Fronted::To(code, decodes, put_type(found, &*params, kind, out, a))
 }
 
 // Tests a property by 7 and 8, and writes it up to its values.
@@ -198,24 +223,29 @@ fn front(found: Lookup, name: &[u8], params: &[u8], out: &mut [u8], at: usize) -
     front_given(found, &*name, &*params, out, at)
 }
 
-// Tests a property by 7, 8 and 9, and writes it.
+// Tests a property by 7, 8 and 9, and writes it; a line that a buffer of lines has no room for is refused by 1.
 pub fn place_property(line: &[u8], rows: &[u8], out: &mut [u8], at: usize) -> Placed
-    ensures { λ r. ⌜ Places (tableIn (now (rows .entry))) (lineOf (now (line .entry))) (pen (now (out .entry)) at) (now (out .exit)) r ⌝ }
+    ensures { λ r. ⌜ Places (lineRead (tableIn (now (rows .entry))) (now (line .entry))) (pen (now (out .entry)) at) (now (out .exit)) r ⌝ }
 {
+    if ROOM_FOR_LINES < line.len() {
+        return Placed::Failed(Refusal::TextTooLong);
+    }
     let parts = parts_of(&*line);
     let n = parts.name;
     let colon = parts.colon;
     let v = parts.value;
     let found = find(&*rows, &line[0..n]);
     match front(found, &line[0..n], &line[n..colon], out, at) {
-        Fronted::To(code, b) => place_values(found, code, &line[0..n], &line[v..], out, b),
+        Fronted::To(code, decodes, b) => {
+            place_values(found, code, decodes, &line[0..n], &line[v..], out, b)
+        }
         Fronted::Failed(why) => Placed::Failed(why),
     }
 }
 
 // Tests a property by 7, 8 and 9 alone: it is written where there is no room.
 pub fn test_property(line: &[u8], rows: &[u8]) -> Tested
-    ensures { λ r. ⌜ testSaid r ≡ then (readProperty (tableIn (now (rows .entry))) (lineOf (now (line .entry)))) (λ _. accepted tt) ⌝ }
+    ensures { λ r. ⌜ testSaid r ≡ then (lineRead (tableIn (now (rows .entry))) (now (line .entry))) (λ _. accepted tt) ⌝ }
 {
     let mut none = [0u8; 1];
     match place_property(line, rows, &mut none, 0) {

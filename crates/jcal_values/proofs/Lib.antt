@@ -7,3 +7,4 @@ pub mod FormStrings
 pub mod BySort
 pub mod ValueLists
 pub mod TestedValues
+pub mod DecodedTexts

@@ -111,7 +111,7 @@ fn put_parts(out: &mut [u8], line: &[u8]) -> usize {
     let value = p.value;
     let a = put_all(out, 0, &line[0..name]);
     let b = put(out, a, b'|');
-    let c = content::put_params(out, b, &line[name..colon]);
+    let c = content::put_params(out, b, &line[name..colon], false);
     let d = put(out, c, b'|');
     let e = put_all(out, d, &line[value..]);
     put_told(out, e, &line[name..colon])

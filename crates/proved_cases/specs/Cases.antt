@@ -1,4 +1,4 @@
--- 01, Cases to prove together: one table, under one claim; with three of weekly and monthly rules (02, [1]).
+-- 01, Cases to prove together: one table, under one claim; with three of weekly and monthly rules (02, [1]) and two of encoded values (02, [2]).
 use Prim.Native.Nat.{ℕ}
 use mathlib.Core.Path.{_≡_}
 use mathlib.Core.List.{List, [], _∷_, _++_}
@@ -48,6 +48,13 @@ unlistedJcal = octets "[\"x-trough\",{},\"unknown\",\"20240229T060000Z\"]"
 abbrev pub listedJcal : List ℕ
 listedJcal = octets "[\"x-trough\",{},\"date-time\",\"2024-02-29T06:00:00Z\"]"
 
+-- its line with the value sent encoded, and its property in jCal without the row
+abbrev pub encoded : List ℕ
+encoded = octets "X-TROUGH;ENCODING=BASE64:MjAyNDAyMjlUMDYwMDAwWg=="
+
+abbrev pub encodedJcal : List ℕ
+encodedJcal = octets "[\"x-trough\",{\"encoding\":\"BASE64\"},\"unknown\",\"MjAyNDAyMjlUMDYwMDAwWg==\"]"
+
 -- the line that says the type, for a table without the row
 abbrev pub stated : List ℕ
 stated = octets "X-TROUGH;VALUE=DATE-TIME:20240229T060000Z"
@@ -73,6 +80,8 @@ cases =
     ∷ becomes noRows sent unlistedJcal
     ∷ becomes added sent listedJcal
     ∷ returns noRows listedJcal stated
+    ∷ becomes noRows (octets "DESCRIPTION;ENCODING=BASE64:SGF5XCwgdGhlbiB3YXRlcg==") (octets "[\"description\",{},\"text\",\"Hay, then water\"]")
+    ∷ refuses noRows (octets "DESCRIPTION;ENCODING=BASE64:SGF5CndhdGVy") 9
     ∷ pairs noRows (octets "BEGIN:VCALENDAR\r\nEND:VCALENDAR\r\n") (octets "[\"vcalendar\",[],[]]")
     ∷ []
 

@@ -1,12 +1,12 @@
 -- Binary values: groups of four octets, with paddings at the end.
-use Prim.Native.Nat.{ℕ, _-_, _%_}
-use mathlib.Core.Path.{_≡_, refl, ap, _∙_}
+use Prim.Native.Nat.{ℕ, _-_, _%_, _≤_}
+use mathlib.Core.Path.{_≡_, refl, sym, ap, _∙_}
 use mathlib.Core.Bool.{Bool, false}
 use mathlib.Core.List.{List, []}
 use native.Mathlib.Omega.{arith}
 use borrow.Author.Tests.{eq-eqb, ne-eqb}
 use lib.ListN.{length, getD, take, drop}
-use lib.Seq.{take-all}
+use lib.Seq.{length-take-le, take-all, take-take}
 use Rattle.octets.specs.Basics.{all}
 use Rattle.octets.proofs.Positions.{ended, upto}
 use Rattle.values.specs.Simple.{base64Octet, unpadded, binaryIs}
@@ -28,7 +28,13 @@ module _ (s : List ℕ) where
   no-groups h = rw (ne-eqb _ _ h)
 
   -- n octets stand before the last padding, and m before both
-  pub groups : (n m : ℕ) (r : Bool) → length s % 4 ≡ 0 → take n s ≡ unpadded s → take m (take (n - 0) (drop 0 s)) ≡ unpadded (take (n - 0) (drop 0 s))
-      → r ≡ all base64Octet (take (m - 0) (drop 0 (take (n - 0) (drop 0 s)))) → r ≡ binaryIs s
+  pub before-both : (n m : ℕ) → n ≤ length s → take n s ≡ unpadded s → m ≤ length (take (n - 0) (drop 0 s)) → take m (take (n - 0) (drop 0 s)) ≡ unpadded (take (n - 0) (drop 0 s))
+      → (m ≤ length s) × (take m s ≡ unpadded (unpadded s))
+  before-both n m h f k g =
+      let e = upto s n in
+      let l : m ≤ n = omega (arith, rw e at k, length-take-le n s h) in
+      (omega arith, sym (take-take m n s l) ∙ ap (take m) (sym e) ∙ g ∙ ap unpadded (e ∙ f))
+
+  pub groups : (n : ℕ) (r : Bool) → length s % 4 ≡ 0 → take n s ≡ unpadded (unpadded s) → r ≡ all base64Octet (take (n - 0) (drop 0 s)) → r ≡ binaryIs s
   unfolding binaryIs
-  groups n m r h f g e = rw (eq-eqb _ _ h) (e ∙ ap (all base64Octet) (upto (take (n - 0) (drop 0 s)) m ∙ g ∙ ap unpadded (upto s n ∙ f)))
+  groups n r h f e = rw (eq-eqb _ _ h) (e ∙ ap (all base64Octet) (upto s n ∙ f))

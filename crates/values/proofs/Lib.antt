@@ -8,6 +8,9 @@ pub mod RecurLaws
 pub mod ValueLaws
 pub mod Naming
 pub mod Binaries
+pub mod Sextets
+pub mod Decoded
+pub mod DecodedTypes
 pub mod Booleans
 pub mod Halves
 pub mod Floats

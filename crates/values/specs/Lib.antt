@@ -2,6 +2,7 @@
 pub mod Sorts
 pub mod Texts
 pub mod Simple
+pub mod Base64
 pub mod Recur
 pub mod Read
 pub mod Write
@@ -9,3 +10,4 @@ pub mod Write
 pub mod Coded
 pub mod Shown
 pub mod TextWalk
+pub mod Decoding

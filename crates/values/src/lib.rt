@@ -1,4 +1,5 @@
-// The fourteen value types: the sorts of values, and those that are neither dates, recurrence rules nor texts.
+// The fourteen value types: the sorts of values, those that are neither dates, recurrence rules nor texts, and the text of a value that is sent as base64.
+pub mod base64;
 pub mod simple;
 mod sorts;
 

@@ -72,6 +72,14 @@ fn unpadded(s: &[u8]) -> usize
     if s[n - 1] == b'=' { n - 1 } else { n }
 }
 
+// The octets before the paddings at the end, of which there are at most two.
+pub(crate) fn before_padding(s: &[u8]) -> usize
+    ensures { λ r. ⌜ (r ≤ length (now (s .entry))) × (take r (now (s .entry)) ≡ unpadded (unpadded (now (s .entry)))) ⌝ }
+{
+    let n = unpadded(s);
+    unpadded(&s[0..n])
+}
+
 // Base64 in whole groups of four, with at most two paddings at the end.
 pub fn is_binary(s: &[u8]) -> bool
     ensures { λ r. ⌜ r ≡ binaryIs (now (s .entry)) ⌝ }
@@ -79,10 +87,8 @@ pub fn is_binary(s: &[u8]) -> bool
     if s.len() % 4 != 0 {
         return false;
     }
-    let n = unpadded(s);
-    let first = &s[0..n];
-    let m = unpadded(first);
-    all_base64(&first[0..m])
+    let n = before_padding(s);
+    all_base64(&s[0..n])
 }
 
 pub fn is_boolean(s: &[u8]) -> bool

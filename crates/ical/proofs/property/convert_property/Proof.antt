@@ -42,6 +42,9 @@ part-write-head-end-2 c = c .before .before .before .before .before .before .bef
 write-head-requires : tie.Need-write-head-requires
 write-head-requires c κs = kind-name (valueAt (c .before .before .before .before .before .before .before .before .before .before .before .before .before .before .before .before .before .before .args .t .now) (c .before .before .before .before .before .before .before .before .before .before .before .before .before .before .before .before .before .before .args .at)) (c .before .before .before .before .before .before .before .before .before .before .before .before .before .before .before .before .before .before .pre .0) (c .before .before .before .before .before .before .before .before .before .before .before .before .before .property-parts .ensures .kind .part)
 
+sub-write-stood : tie.Need-sub-write-stood
+sub-write-stood c = c .before .before .before .before .before .before .before .before .before .before .before .before .before .before .before .before .before .property-parts .ensures .name .order
+
 part-write-stood-start : tie.Need-part-write-stood-start
 part-write-stood-start c = c .before .before .before .before .before .before .before .before .before .before .before .before .before .before .before .before .before .property-parts .ensures .name .order
 
@@ -53,12 +56,12 @@ write-stood-requires c κs = c .before .before .before .before .before .before .
 
 returns-3 : tie.Need-returns-3
 returns-3 c =
-    let w = invalid-told _ _ _ _ _ _ _ (c .before .before .before .before .before .before .write-stood .ensures) (c .enum-told .given .1) in
+    let w = invalid-told _ _ _ _ _ _ _ _ (c .before .before .before .before .before .before .write-stood .ensures) (c .enum-told .given .1) in
     (refused-9 _ (c .before .before .before .before .before .before .before .before .before .before .before .before .before .before .before .before .before .before .before .before .before .before .before .before .before .before .before .before .before .before .before .pre .0) (c .before .before .before .before .before .before .before .before .before .before .before .before .before .before .before .before .before .before .before .before .before .before .before .before .before .before .property-parts .ensures) (c .before .before .before .before .before .before .before .before .before .before .before .before .before .before .before .before .before .before .before .before .before .before .before .before .before .may-return .ensures) (not-false _ (c .before .before .before .before .before .before .before .before .before .before .before .before .before .before .before .before .before .before .before .before .before .before .before .before .if1 .left)) (c .before .before .before .before .before .before .before .before .before .before .before .before .before .before .before .before .before .before .before .ruling-of .ensures) (c .before .before .before .before .before .before .before .before .before .before .before .before .before .before .before .before .before .before .any-encodes .ensures) (c .before .before .before .before .before .before .before .before .before .before .before .before .before .before .before .before .before .encoding-fits .ensures) (not-false _ (c .before .before .before .before .before .before .before .before .before .before .before .before .before .before .before .before .if2 .left)) (w .0), front-behind (c .before .before .before .before .before .before .before .before .before .before .before .before .write-head .ensures .wrote) (w .1))
 
 returns-4 : tie.Need-returns-4
 returns-4 c =
-    let s = stands-told _ _ _ _ _ _ _ (c .before .before .before .before .before .before .before .before .before .before .before .write-stood .ensures) (c .before .before .before .before .before .w .given .1) in
+    let s = stands-told _ _ _ _ _ _ _ _ (c .before .before .before .before .before .before .before .before .before .before .before .write-stood .ensures) (c .before .before .before .before .before .w .given .1) in
     record {
       faultless = passed _ (c .before .before .before .before .before .before .before .before .before .before .before .before .before .before .before .before .before .before .before .before .before .before .before .before .before .before .before .before .before .before .before .before .before .before .before .before .pre .0) (c .before .before .before .before .before .before .before .before .before .before .before .before .before .before .before .before .before .before .before .before .before .before .before .before .before .before .before .before .before .before .before .property-parts .ensures) (c .before .before .before .before .before .before .before .before .before .before .before .before .before .before .before .before .before .before .before .before .before .before .before .before .before .before .before .before .before .before .may-return .ensures) (not-false _ (c .before .before .before .before .before .before .before .before .before .before .before .before .before .before .before .before .before .before .before .before .before .before .before .before .before .before .before .before .before .if1 .left)) (c .before .before .before .before .before .before .before .before .before .before .before .before .before .before .before .before .before .before .before .before .before .before .before .before .ruling-of .ensures) (c .before .before .before .before .before .before .before .before .before .before .before .before .before .before .before .before .before .before .before .before .before .before .before .any-encodes .ensures) (c .before .before .before .before .before .before .before .before .before .before .before .before .before .before .before .before .before .before .before .before .before .before .encoding-fits .ensures) (not-false _ (c .before .before .before .before .before .before .before .before .before .before .before .before .before .before .before .before .before .before .before .before .before .if2 .left)) (s .0);
       behind = behind-values (c .before .before .before .before .before .before .before .before .before .before .before .before .before .before .before .before .before .before .before .before .before .before .before .before .before .before .before .before .before .before .before .before .before .before .before .before .pre .0) (c .before .before .before .before .before .before .before .before .before .before .before .before .before .before .before .before .before .before .before .before .before .before .before .before .before .before .before .before .before .before .before .property-parts .ensures .within) (s .2);
@@ -70,7 +73,7 @@ convert-property-spec =
     tie.close
     (tie.spec
     (λ c κs. search needs) (λ c κs. search needs) returns (λ c. search needs) part-ruling-of-start part-ruling-of-end (λ c. search needs)
-    part-ruling-of-start-2 part-ruling-of-end-2 (λ c κs. search needs) (λ c κs. search needs) (λ c κs. search needs) returns-2 (λ c. search needs)
-    part-write-head-start part-write-head-end (λ c. search needs) part-write-head-start-2 part-write-head-end-2 write-head-requires
-    (λ c. search needs) part-write-stood-start part-write-stood-end write-stood-requires (λ c. search needs) (λ c. search needs)
+    part-ruling-of-start-2 part-ruling-of-end-2 (λ c κs. search needs) (λ c κs. search needs) (λ c κs. search needs) returns-2
+    (λ c. search needs) part-write-head-start part-write-head-end (λ c. search needs) part-write-head-start-2 part-write-head-end-2
+    write-head-requires sub-write-stood part-write-stood-start part-write-stood-end write-stood-requires (λ c. search needs) (λ c. search needs)
     (λ c κs. search needs) (λ c. search needs) (λ c. search needs) returns-3 (λ c. search needs) (λ c. search needs) returns-4)

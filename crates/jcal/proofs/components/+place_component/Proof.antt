@@ -53,7 +53,7 @@ place-component-loop-holds : (t : ℕ) → place-component-lts.Need-loop-holds (
 place-component-loop-holds t c =
     let at-place-properties = c .before .before in
     let at-start = at-place-properties .before .before .before .before .before .before .before .before .before in
-    (refl, going-start _ _ _ _ _ _ _ _ _ _ (at-place-properties .place-properties .result) (at-place-properties .place-properties .ensures) (at-start .pre .1 .1 .0) (at-start .pre .1 .1 .1))
+    (refl, going-start _ _ _ _ _ _ _ _ _ _ (at-place-properties .place-properties .result) (at-place-properties .place-properties .ensures) (at-start .pre .1 .1 .1 .0) (at-start .pre .1 .1 .1 .1))
 
 place-component-sub-place-component : (t : ℕ) → place-component-lts.Need-sub-place-component (claims-place-component t) (place-component-at t) place-component.Post place-component-Inv-loop place-component-μ-loop
 place-component-sub-place-component t c =
@@ -65,7 +65,8 @@ place-component-place-component-requires t c κs =
     let at-next = c .before .before .before .before .before .before in
     let at-loop = at-next .before .before in
     let g = rw (at-next .next .given .1) at (at-loop .loop .inv .1) in
-    (omega (arith, at-loop .before .before .before .before .before .before .before .before .before .before .before .before .pre .0, left-some _ _ _ _ _ _ _ _ _ _ _ _ _ g), (g .0, (sub-ready _ _ _ _ _ _ _ _ _ _ _ _ _ g, sub-few _ _ _ _ _ _ _ _ _ _ _ _ _ g)))
+    let at-start = at-loop .before .before .before .before .before .before .before .before .before .before .before .before in
+    (omega (arith, at-start .pre .0, left-some _ _ _ _ _ _ _ _ _ _ _ _ _ g), (at-start .pre .1 .0, (g .0, (sub-ready _ _ _ _ _ _ _ _ _ _ _ _ _ g, sub-few _ _ _ _ _ _ _ _ _ _ _ _ _ g))))
 
 place-component-loop-less : (t : ℕ) → place-component-lts.Need-loop-less (claims-place-component t) (place-component-at t) place-component.Post place-component-Inv-loop place-component-μ-loop
 place-component-loop-less t c =
@@ -96,9 +97,9 @@ pub +place-component-spec : {M : Type 1} → statement M
     (place-component-at t)
     place-component.Post
     place-component-Inv-loop place-component-μ-loop
-    (λ c κs. c .before .before .before .before .pre .1 .0)
-    (λ c. omega (arith, c .before .before .before .before .before .before .before .pre .1 .0 .high))
-    (λ c κs. c .before .before .before .before .before .before .before .before .pre .1 .1 .0)
+    (λ c κs. c .before .before .before .before .pre .1 .1 .0)
+    (λ c. omega (arith, c .before .before .before .before .before .before .before .pre .1 .1 .0 .high))
+    (λ c κs. let p = c .before .before .before .before .before .before .before .before .pre in (p .1 .0, p .1 .1 .1 .0))
     (place-component-loop-holds t)
     (λ c. search needs) (λ c κs. search needs)
     (place-component-sub-place-component t)

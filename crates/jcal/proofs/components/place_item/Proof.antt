@@ -1,7 +1,7 @@
 -- `jcal::components::place_item` meets its contract.
 use borrow.Author.Needs.{needs}
 use Rattle.types.specs.Laid.{tableIn}
-use Rattle.content.specs.Line.{lineOf}
+use Rattle.jcal_properties.proofs.PropertyParts.{line-fits}
 use Rattle.jcal.proofs.Properties.{item-placed}
 use Rattle.jcal.proofs.components.place_item.Statement.{statement}
 use Rattle.jcal.proofs.components.place_item.Tie as tie
@@ -11,7 +11,7 @@ returns c =
     let at-place-property = c .before .before in
     let at-put-comma = at-place-property .before .before .before .before in
     let at-start = at-put-comma .before .before .before .before .before in
-    item-placed (tableIn (at-start .args .rows .now)) (lineOf (at-start .args .line .now)) _ _ (at-place-property .place-property .result) (at-put-comma .put-comma .ensures) (at-place-property .place-property .ensures)
+    rw (line-fits (tableIn (at-start .args .rows .now)) (at-start .args .line .now) (at-start .pre)) at (item-placed _ _ _ (at-place-property .place-property .result) (at-put-comma .put-comma .ensures) (at-place-property .place-property .ensures))
 
 pub place-item-spec : {M : Type 1} → statement M
 place-item-spec =

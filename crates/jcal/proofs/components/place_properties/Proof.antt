@@ -84,7 +84,7 @@ pub place-properties-spec : {M : Type 1} → statement M
 place-properties-spec =
     tie.close
     (tie.spec
-    Inv-loop μ-loop (λ c. (refl, omega arith, held-start _ _ _ _ (c .before .before .before .pre)))
+    Inv-loop μ-loop (λ c. (refl, omega arith, held-start _ _ _ _ (c .before .before .before .pre .1)))
     (λ c κs. search needs) (λ c κs. search needs) (λ c. search needs) (λ c. omega arith) (λ c. omega arith)
     (λ c. omega arith) (λ c κs. search needs) (λ c. search needs) (λ c. omega arith) (λ c. omega arith) loop-again
     (λ c. search needs) (λ c. search needs) returns (λ c. search needs) (λ c. search needs) (λ c κs. search needs)

@@ -12,7 +12,7 @@ convert-paired-requires : tie.Need-convert-paired-requires
 convert-paired-requires c κs =
     let at-in-order = c .before .before in
     let p = structure-passed _ (at-in-order .before .before .test-structure .ensures) (at-in-order .in-order .given .1) in
-    (p .0, p .1)
+    (at-in-order .before .before .before .before .before .before .pre, (p .0, p .1))
 
 returns : tie.Need-returns
 returns c =

@@ -20,7 +20,7 @@ returns c =
 
 place-calendar-requires : tie.Need-place-calendar-requires
 place-calendar-requires c κs =
-    (c .before .before .before .before .before .pre .0, ⊎-elim (λ w. ready-tested _ _ _ (not-true _ (w .0 .taken)) (passed-as (w .1 .ensures) (w .3 .given .1))) (λ w. ready-ordered _ _ _ (not-false _ (w .left)) (c .before .before .before .before .before .pre .1)) (c .before .if1 .came))
+    (c .before .before .before .before .before .pre .0, (c .before .before .before .before .before .pre .1 .0, ⊎-elim (λ w. ready-tested _ _ _ (not-true _ (w .0 .taken)) (passed-as (w .1 .ensures) (w .3 .given .1))) (λ w. ready-ordered _ _ _ (not-false _ (w .left)) (c .before .before .before .before .before .pre .1 .1)) (c .before .if1 .came)))
 
 pub convert-paired-spec : {M : Type 1} → statement M
 convert-paired-spec =

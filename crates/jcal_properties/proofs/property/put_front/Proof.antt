@@ -11,7 +11,7 @@ returns c =
     let at-put-params = at-put3 .before .before .before .before in
     let at-put2 = at-put-params .before .before .before .before in
     let at-put-name = at-put2 .before .before .before .before in
-    as-text (then (then (then (then (at-put-name .before .before .before .before .put .ensures) (at-put-name .put-name .ensures)) (at-put2 .put2 .ensures)) (at-put-params .put-params .ensures)) (at-put3 .put3 .ensures)) (front-wrote _ _)
+    as-text (then (then (then (then (at-put-name .before .before .before .before .put .ensures) (at-put-name .put-name .ensures)) (at-put2 .put2 .ensures)) (at-put-params .put-params .ensures)) (at-put3 .put3 .ensures)) (front-wrote _ _ _)
 
 pub put-front-spec : {M : Type 1} → statement M
 put-front-spec =

@@ -9,6 +9,5 @@ is-binary-spec =
     tie.close
     (tie.spec
     (λ c. no-groups _ (c .if1 .taken))
-    (λ c κs. search needs) (λ c. search needs) (λ c. search needs) (λ c. search needs) (λ c κs. search needs) (λ c. search needs) (λ c. search needs)
-    (λ c. search needs) (λ c κs. search needs)
-    (λ c. groups _ (c .before .before .before .before .unpadded .result) (c .before .before .unpadded2 .result) _ (c .before .before .before .before .before .if1 .left) (c .before .before .before .before .unpadded .ensures .1) (c .before .before .unpadded2 .ensures .1) (c .all-base64 .ensures)))
+    (λ c κs. search needs) (λ c. search needs) (λ c. search needs) (λ c. search needs) (λ c κs. search needs)
+    (λ c. groups _ (c .before .before .before-padding .result) _ (c .before .before .before .if1 .left) (c .before .before .before-padding .ensures .1) (c .all-base64 .ensures)))
