@@ -178,7 +178,9 @@ fn beside_plain(name: &str, form: fn(&[u8]) -> Vec<u8>) {
             black_box(to_jcal(&texts[1], b));
         },
     );
-    println!("| {name} | {} | {:.1} | {} | {:.1} | {:.2} |", texts[0].len(), plain / 1000.0, texts[1].len(), encoded / 1000.0, plain / encoded);
+    let sent = [(plain, texts[0].len()), (encoded, texts[1].len())].map(|(ns, octets)| (octets, ns / 1000.0, octets as f64 * 1000.0 / ns));
+    let columns = sent.map(|(octets, us, speed)| format!("{octets} | {us:.1} | {speed:.0}")).join(" | ");
+    println!("| {name} | {columns} | {:.2} | {:.2} |", sent[1].2 / sent[0].2, plain / encoded);
 }
 
 /// The times of so many stops, and of one of them.
@@ -268,7 +270,7 @@ fn main() {
             convert(name, putrenski_to_jcal, other_to_jcal, &make(size));
         }
     }
-    println!("\n| a description to jCal | octets plain | µs | octets encoded | µs | ratio |\n|---|---|---|---|---|---|");
+    println!("\n| a description to jCal | octets plain | µs | MB/s | octets encoded | µs | MB/s | ratio of MB/s | of times |\n|---|---|---|---|---|---|---|---|---|");
     beside_plain("in one line", |text| text.to_vec());
     beside_plain("folded", folded_at_75);
     println!("\n| to iCalendar | octets | MB/s | other MB/s | ratio |\n|---|---|---|---|---|");
