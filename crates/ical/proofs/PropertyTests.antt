@@ -9,14 +9,13 @@ use native.Mathlib.Omega.{arith}
 use lib.ListN.{length, take, drop}
 use borrow.Author.Tests.{eq-eqb}
 use lib.Dec.{leb}
-use Rattle.octets.specs.Basics.{octets, pick, _and_, _or_, all, same, single, filled}
-use Rattle.octets.specs.Optional.{isSome, holds, map?, then?, guard}
+use Rattle.octets.specs.Basics.{octets, pick, _and_, _or_, all, same, filled}
+use Rattle.octets.specs.Optional.{isSome, holds, map?, then?}
 use Rattle.octets.specs.Classes.{lowerNameOctet, isLowerName, lower, isName}
 use Rattle.octets.specs.Answers.{Answer, refused, accepted, then, orElse, unless, number}
 use Rattle.octets.specs.Pen.{pen, FrontKept}
 use Rattle.octets.specs.declared.Refusal.{Refusal}
 use Rattle.octets.proofs.Answers.{not-accepted}
-use Rattle.octets.proofs.Optional.{none-is}
 use Rattle.octets.proofs.Cases.{same?, never, both, and-true-right, and-false-right}
 use Rattle.octets.proofs.Classes.{lower-name, lower-name-stays}
 use Rattle.types.specs.Table.{Row, Table, find}
@@ -37,8 +36,10 @@ use Rattle.values.specs.declared.base64.Decoding.{Decoding}
 use Rattle.values.specs.declared.base64.Decoding.the-variants.{Octets, Invalid as Undecoded}
 use Rattle.values.specs.Coded.{sortSaid}
 use Rattle.values.specs.declared.sorts.Sort.{Sort as SortCode}
-use Rattle.values.specs.Read.{readValues, valuesOf}
+use Rattle.values.specs.Read.{valuesOf}
 use Rattle.values.specs.Write.{valuesAre}
+use Rattle.values.proofs.Decoded.{told-octets, told-invalid}
+use Rattle.jcal_values.specs.Attempts.{valuesRead}
 use Rattle.ical_recur.specs.Room.{hasRoom}
 use Rattle.ical_recur.proofs.Room.{room}
 use Rattle.ical_values.specs.Valued.{ValuedAs}
@@ -99,34 +100,24 @@ first-octets t i = same? (tagAt t i) tagEnd
     (λ q. sym (ap firstOctets (list-first t i (λ e. never (eq-eqb (tagAt t i) tagEnd e) q)) ∙ first-is (valueAt t i) (listOfItems (otherItems (itemsAt t i)))))
 
 -- whether a value is what its name takes, as received or decoded
-abbrev valuesBy : Sort → Bool → List ℕ → Option (List Json)
-valuesBy k m s = guard (λ vs. m or single vs) (readValues k s)
-
 module _ (s : SortCode) (n : List ℕ) (c : ℕ) (m encoded : Bool) {raw got : List ℕ} {d : Bool} (e : sortSaid s ≡ sortOf n c) (f : got ≡ raw) (g : d ≡ isDecoded c encoded) where
-  pub taken-by-sort : d ≡ false → isSome (valuesBy (sortSaid s) m got) ≡ isSome (valuesSent (isDecoded c encoded) n c m raw)
+  pub taken-by-sort : d ≡ false → isSome (valuesRead m (sortSaid s) got) ≡ isSome (valuesSent (isDecoded c encoded) n c m raw)
   unfolding valuesSent textSent then? valuesOf
   taken-by-sort h = rw (e, f, sym g ∙ h)
 
-  pub taken-by-decoding : d ≡ true → isSome (then? (textSent true got) (valuesBy (sortSaid s) m)) ≡ isSome (valuesSent (isDecoded c encoded) n c m raw)
+  pub taken-by-decoding : d ≡ true → isSome (then? (textSent true got) (valuesRead m (sortSaid s))) ≡ isSome (valuesSent (isDecoded c encoded) n c m raw)
   unfolding valuesSent valuesOf
   taken-by-decoding h = rw (e, f, sym g ∙ h)
 
--- what decoding tells, and the values in what is decoded, where there is room for it
-module _ (o : Option (List ℕ)) (room : Bool) (out : List ℕ) (r : Decoding) (d : DecodedAs room o out r) where
-  pub decoded-within : {n : ℕ} → r ≡ Octets n → n ≤ length out
-  decoded-within {n} z = let w : DecodedAs room o out (Octets n) = rw z at d in w .1 .0
+-- the values in what is decoded, where there is room for it
+module _ (o : Option (List ℕ)) (room : Bool) (out : List ℕ) (r : Decoding) (d : DecodedAs room o out r) (k : Sort) (m : Bool) where
+  pub decoded-taken : {n : ℕ} → r ≡ Octets n → isSome (valuesRead m k (take (n - 0) (drop 0 out))) ≡ isSome (then? o (valuesRead m k))
+  unfolding then?
+  decoded-taken {n} z = let e : n - 0 ≡ n = omega arith in rw (e, told-octets room o out r d n z .1)
 
-  module _ (k : Sort) (m : Bool) where
-    pub decoded-taken : {n : ℕ} → r ≡ Octets n → isSome (valuesBy k m (take (n - 0) (drop 0 out))) ≡ isSome (then? o (valuesBy k m))
-    unfolding then?
-    decoded-taken {n} z =
-        let w : DecodedAs room o out (Octets n) = rw z at d in
-        let e : n - 0 ≡ n = omega arith in
-        rw (e, w .1 .1)
-
-    pub not-decoded : room ≡ true → r ≡ Undecoded → false ≡ isSome (then? o (valuesBy k m))
-    unfolding then? isSome
-    not-decoded h z = let w : DecodedAs room o out Undecoded = rw z at d in rw (none-is o (rw h at w))
+  pub none-taken : room ≡ true → r ≡ Undecoded → false ≡ isSome (then? o (valuesRead m k))
+  unfolding then? isSome
+  none-taken h z = rw (told-invalid room o out r d h z)
 
 -- the values of a ruling, where there is room for them
 module _ (k : Ruling) (n : List ℕ) (encoded : Bool) where

@@ -23,31 +23,28 @@ use values::base64::decode;
 use values::base64::is_decoded;
 use values::sort_of;
 ghost use mathlib.Core.Path.{_≡_};
-ghost use mathlib.Core.Bool.{true, not};
+ghost use mathlib.Core.Bool.{true};
 ghost use mathlib.Core.List.{[], _∷_, map};
 ghost use Prim.Native.Nat.{_≤_};
 ghost use lib.ListN.{length};
-ghost use Rattle.octets.specs.Basics.{_or_, single};
 ghost use Rattle.octets.specs.Classes.{lower};
-ghost use Rattle.octets.specs.Optional.{then?, isSome, guard};
+ghost use Rattle.octets.specs.Optional.{then?, isSome};
 ghost use Rattle.types.specs.Laid.{tableIn};
 ghost use Rattle.json.specs.Tree.{elements};
 ghost use Rattle.tape.specs.Decode.{valueAt, listAt};
 ghost use Rattle.content.specs.Folding.{folding};
-ghost use Rattle.values.specs.Base64.{isDecoded, textSent};
+ghost use Rattle.values.specs.Base64.{textSent};
 ghost use Rattle.values.specs.Coded.{sortSaid};
-ghost use Rattle.values.specs.Read.{readValues};
 ghost use Rattle.conversion_theory.specs.Skeleton.{isListOf, isProperty, propertyFrom};
-ghost use Rattle.conversion_theory.specs.Property.{valuesSent};
-ghost use Rattle.conversion_theory.specs.Return.{firstOctets};
 ghost use Rattle.conversion_theory.specs.ToIcal.{checkedAll, propertyLine};
-ghost use Rattle.ical.specs.Writes.{ValuesWritten};
+ghost use Rattle.jcal_values.specs.Attempts.{valuesRead};
+ghost use Rattle.ical.specs.Writes.{isTaken, ValuesWritten};
 ghost use Rattle.ical.specs.Converts.{checkedIn, Converts};
 
 // Whether the value that is encoded in `raw` is of the sort, or several where there may be many; it is decoded into `rule`.
 fn holds_decoded(sort: Sort, many: bool, raw: &[u8], rule: &mut [u8]) -> bool
     requires { ⌜ length (now raw) ≤ length (now rule) ⌝ }
-    ensures { λ r. ⌜ r ≡ isSome (then? (textSent true (now (raw .entry))) (λ s. guard (λ vs. many or single vs) (readValues (sortSaid sort) s))) ⌝ }
+    ensures { λ r. ⌜ r ≡ isSome (then? (textSent true (now (raw .entry))) (valuesRead many (sortSaid sort))) ⌝ }
 {
     let d = decode(raw, rule);
     match d {
@@ -59,7 +56,7 @@ fn holds_decoded(sort: Sort, many: bool, raw: &[u8], rule: &mut [u8]) -> bool
 // Whether the first value at `at`, decoded where it is encoded, is what its name takes without VALUE, where it must be.
 fn is_taken(t: &[u8], name: &[u8], at: usize, k: Ruling, encoded: bool, rule: &mut [u8]) -> bool
     requires { ⌜ length (now t) ≤ length (now rule) ⌝ }
-    ensures { λ r. ⌜ r ≡ (not (k .taken) or isSome (valuesSent (isDecoded (k .code) encoded) (lower (now (name .entry))) (k .code) (k .many) (firstOctets (listAt (now (t .entry)) at)))) ⌝ }
+    ensures { λ r. ⌜ r ≡ isTaken k (lower (now (name .entry))) encoded (listAt (now (t .entry)) at) ⌝ }
 {
     if !k.taken {
         return true;

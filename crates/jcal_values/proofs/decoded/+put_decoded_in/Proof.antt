@@ -1,6 +1,7 @@
 -- `jcal_values::decoded::put_decoded_in` meets its contract. The measure is what the memory lacks.
 use Prim.Native.Nat.{ℕ, _-_, _<_}
 use native.Mathlib.Omega.{arith}
+use borrow.Author.Tests.{le-leb}
 use lib.ListN.{length}
 use denote.Ref.{now}
 use borrow.Author.Needs.{needs}
@@ -10,7 +11,7 @@ use Rattle.octets.specs.Optional.{then?}
 use Rattle.octets.proofs.Limits.{most-text}
 use Rattle.octets.proofs.Pen.{front-same}
 use Rattle.octets.proofs.Positions.{upto}
-use Rattle.jcal_values.proofs.DecodedTexts.{no-text}
+use Rattle.values.proofs.Decoded.{told-octets, told-invalid}
 use Rattle.jcal_values.proofs.decoded.put_decoded_in.Reads as put-decoded-in
 use Rattle.jcal_values.proofs.decoded.put_decoded_in.Kinds as put-decoded-in-kinds
 use Rattle.jcal_values.proofs.decoded.+put_decoded_in.Lts-put_decoded_in as put-decoded-in-lts
@@ -46,23 +47,19 @@ returns : (t : ℕ) → put-decoded-in-lts.Need-returns (claims t) (put-decoded-
 returns t c = c .before .before .before .put-decoded-in .ensures
 
 part-put-tested-end : (t : ℕ) → put-decoded-in-lts.Need-part-put-tested-end (claims t) (put-decoded-in-at t) put-decoded-in.Post
-part-put-tested-end t c =
-    let d = rw (c .before .before .before .n .given .1) at (c .before .before .before .before .before .before .before .decode .ensures) in
-    omega (arith, d .1 .0)
+part-put-tested-end t c = omega (arith, told-octets _ _ _ _ (c .before .before .before .before .before .before .before .decode .ensures) _ (c .before .before .before .n .given .1) .0)
 
 returns-2 : (t : ℕ) → put-decoded-in-lts.Need-returns-2 (claims t) (put-decoded-in-at t) put-decoded-in.Post
 unfolding then?
 returns-2 t c =
     let n = c .before .before .before .before .before .before .before in
-    let d = rw (n .n .given .1) at (n .before .before .before .before .decode .ensures) in
-    rw (d .1 .1) (rw (upto _ (n .n .given .0 .0)) at (c .before .before .put-tested .ensures))
+    rw (told-octets _ _ _ _ (n .before .before .before .before .decode .ensures) _ (n .n .given .1) .1) (rw (upto _ (n .n .given .0 .0)) at (c .before .before .put-tested .ensures))
 
 returns-3 : (t : ℕ) → put-decoded-in-lts.Need-returns-3 (claims t) (put-decoded-in-at t) put-decoded-in.Post
 unfolding then?
 returns-3 t c =
     let b = c .before .before .before .before in
-    let d = rw (c .enum-told .given .1) at (b .decode .ensures) in
-    (rw (no-text _ (length (b .before .before .before .before .before .before .args .work .now)) (b .before .before .if1 .left) d), front-same)
+    (rw (told-invalid _ _ _ _ (b .decode .ensures) (le-leb _ _ (b .before .before .if1 .left)) (c .enum-told .given .1)), front-same)
 
 pub +put-decoded-in-spec : {M : Type 1} → statement M
 +put-decoded-in-spec = close μ-put-decoded-in λ t. put-decoded-in-lts.spec (claims t)
