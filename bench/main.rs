@@ -15,7 +15,7 @@ const ROOM: usize = 65_536;
 const TURNS: usize = 60;
 
 /// The level of the other implementation at which it answers as the library does.
-const LEVEL: u8 = 2;
+const LEVEL: u8 = 3;
 
 fn level() -> Level {
     Level::new(LEVEL).expect("the other implementation has the level")

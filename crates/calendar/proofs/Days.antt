@@ -14,7 +14,7 @@ use Rattle.octets.specs.Limits.{lastYear}
 use Rattle.octets.proofs.Cases.{cases, both, and-true}
 use Rattle.octets.proofs.Limits.{last-year}
 use Rattle.calendar.specs.Gregorian.{leapDay, months, monthDays, yearDays, isDay, sum, beforeYear, beforeMonth}
-use Rattle.calendar.proofs.Ranges.{below, alike, agree, ordered, order}
+use Rattle.calendar.proofs.Ranges.{below, alike, agree}
 
 -- what `isDay` tells
 pub record Day (y m d : ℕ) : Type 0 where
@@ -123,13 +123,14 @@ fromMarch m = (153 * ((m + 9) % 12) + 2) / 5
 abbrev fromJanuary : ℕ → ℕ → ℕ
 fromJanuary l m = sum (take (m - 1) (months l))
 
+-- a month by its place from January on
+back : (m : ℕ) → 1 ≤ m → m - 1 + 1 ≡ m
+back m p = omega arith
+
 month-early : (y m : ℕ) → 1 ≤ m → m ≤ 2 → beforeMonth y m + 306 ≡ fromMarch m
 unfolding beforeMonth
 month-early y m p q = rw (back m p) at (agree (λ i. fromJanuary (leapDay y) (i + 1) + 306) (λ i. fromMarch (i + 1)) 2 tested (m - 1) (omega arith))
   where
-    back : (m : ℕ) → 1 ≤ m → m - 1 + 1 ≡ m
-    back m p = omega arith
-
     tested : below (alike (λ i. fromJanuary (leapDay y) (i + 1) + 306) (λ i. fromMarch (i + 1))) 2 ≡ true
     tested = unfold below months sum fromMarch in leap-cases (λ l. below (alike (λ i. fromJanuary l (i + 1) + 306) (λ i. fromMarch (i + 1))) 2 ≡ true) y refl refl
 
@@ -184,16 +185,32 @@ pub record Bounds (y m d : ℕ) : Type 0 where
   pub day-from : 1 ≤ d
   pub day-to : d ≤ 31
 
--- a month has at most 31 days
-month-small : (y m : ℕ) → 1 ≤ m → m ≤ 12 → monthDays y m ≤ 31
-unfolding monthDays
-month-small y m p q = rw (back m p) at (order (λ i. getD (months (leapDay y)) (i + 1 - 1) 0) (λ i. 31) 12 tested (m - 1) (omega arith))
-  where
-    back : (m : ℕ) → 1 ≤ m → m - 1 + 1 ≡ m
-    back m p = omega arith
+-- the length of a month by formula; February has l days more than 28
+abbrev monthFormula : ℕ → ℕ → ℕ
+monthFormula l m = 30 + (m + m / 8) % 2 - (m + 9) % 12 / 11 * (2 - l)
 
-    tested : below (ordered (λ i. getD (months (leapDay y)) (i + 1 - 1) 0) (λ i. 31)) 12 ≡ true
-    tested = unfold below months in leap-cases (λ l. below (ordered (λ i. getD (months l) (i + 1 - 1) 0) (λ i. 31)) 12 ≡ true) y refl refl
+pub month-length : (y m : ℕ) → 1 ≤ m → m ≤ 12 → monthFormula (leapDay y) m ≡ monthDays y m
+unfolding monthDays
+month-length y m p q = rw (back m p) at (agree (λ i. monthFormula (leapDay y) (i + 1)) (λ i. getD (months (leapDay y)) (i + 1 - 1) 0) 12 tested (m - 1) (omega arith))
+  where
+    tested : below (alike (λ i. monthFormula (leapDay y) (i + 1)) (λ i. getD (months (leapDay y)) (i + 1 - 1) 0)) 12 ≡ true
+    tested = unfold below months in leap-cases (λ l. below (alike (λ i. monthFormula l (i + 1)) (λ i. getD (months l) (i + 1 - 1) 0)) 12 ≡ true) y refl refl
+
+-- what a month lacks of 30 days
+pub lack : (m l : ℕ) → (m + 9) % 12 / 11 * (2 - l) ≤ 2
+lack m l = at ((m + 9) % 12 / 11) (omega arith)
+  where
+    at : (k : ℕ) → k ≤ 1 → k * (2 - l) ≤ 2
+    at zero h = omega arith
+    at (suc zero) h = omega arith
+    at (suc (suc k)) h = absurd (omega arith)
+
+-- a month has 28 days at least, and at most 31
+pub month-bounds : (y m : ℕ) → 1 ≤ m → m ≤ 12 → (28 ≤ monthDays y m) × (monthDays y m ≤ 31)
+month-bounds y m p q = within _ _ _ (month-length y m p q) (lack m (leapDay y))
+  where
+    within : (a b n : ℕ) → 30 + a % 2 - b ≡ n → b ≤ 2 → (28 ≤ n) × (n ≤ 31)
+    within a b n e h = omega arith
 
 pub bounds : (y m d : ℕ) → isDay y m d ≡ true → Bounds y m d
 bounds y m d h =
@@ -203,23 +220,5 @@ bounds y m d h =
       month-from = f .month-from;
       month-to = f .month-to;
       day-from = f .day-from;
-      day-to = le-trans (f .day-to) (month-small y m (f .month-from) (f .month-to));
+      day-to = le-trans (f .day-to) (month-bounds y m (f .month-from) (f .month-to) .1);
     }
-
--- the lengths of the months without a table
-pub february : (y : ℕ) → 28 + leapDay y ≡ monthDays y 2
-unfolding monthDays months
-february y = refl
-
-pub other-month : (y m : ℕ) → 1 ≤ m → m ≤ 12 → (m ≡ 2 → ⊥) → 30 + (m + m / 8) % 2 ≡ monthDays y m
-unfolding monthDays
-other-month y m p q n = go (decLe m 1)
-  where
-    from-3 : below (alike (λ i. 30 + (i + 3 + (i + 3) / 8) % 2) (λ i. getD (months (leapDay y)) (i + 3 - 1) 0)) 10 ≡ true
-    from-3 = unfold below months in leap-cases (λ l. below (alike (λ i. 30 + (i + 3 + (i + 3) / 8) % 2) (λ i. getD (months l) (i + 3 - 1) 0)) 10 ≡ true) y refl refl
-
-    go : Dec (m ≤ 1) → 30 + (m + m / 8) % 2 ≡ getD (months (leapDay y)) (m - 1) 0
-    go (yes h) = let e : m ≡ 1 = omega arith in rw e (unfold months in refl)
-    go (no h) =
-        let g : m - 3 + 3 ≡ m = omega arith in
-        rw g at (agree (λ i. 30 + (i + 3 + (i + 3) / 8) % 2) (λ i. getD (months (leapDay y)) (i + 3 - 1) 0) 10 from-3 (m - 3) (omega arith))

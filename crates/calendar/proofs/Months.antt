@@ -1,40 +1,20 @@
--- Months: each has a day and at most 31, and the first of each that can be named is a day that can be named.
-use Prim.Native.Nat.{ℕ, _+_, _-_, _/_, _%_, _≤_, _<_}
-use mathlib.Core.Path.{_≡_, refl, sym}
+-- Months by number: the first of each that can be named is a day that can be named.
+use Prim.Native.Nat.{ℕ, _+_, _/_, _%_, _≤_, _<_}
+use mathlib.Core.Path.{_≡_, sym}
 use mathlib.Core.Bool.{Bool, true}
 use mathlib.Core.Option.{none, some}
 use native.Mathlib.Omega.{arith}
+use native.Mathlib.Nat.{le-trans}
 use borrow.Author.Tests.{lt-ltb, le-ltb}
-use lib.Dec.{ltb}
-use lib.ListN.{getD}
+use lib.Dec.{ltb, lit≤}
 use Rattle.octets.specs.Optional.{when}
 use Rattle.octets.proofs.Cases.{never}
 use Rattle.octets.proofs.Optional.{when-is}
 use Rattle.octets.proofs.Limits.{last-year}
-use Rattle.calendar.specs.Gregorian.{leapDay, months, monthDays, isDay, dateOn, dayNumber}
+use Rattle.calendar.specs.Gregorian.{monthDays, isDay, dateOn, dayNumber}
 use Rattle.calendar.specs.Answers.{monthCount, monthAt}
-use Rattle.calendar.proofs.Days.{Day, day-is, leap-cases}
+use Rattle.calendar.proofs.Days.{Day, day-is, month-bounds}
 use Rattle.calendar.proofs.Hours.{none-when}
-use Rattle.calendar.proofs.Ranges.{below, ordered, order}
-
-back : (m : ℕ) → 1 ≤ m → m - 1 + 1 ≡ m
-back m p = omega arith
-
--- a month has a day
-pub filled : (y m : ℕ) → 1 ≤ m → m ≤ 12 → 1 ≤ monthDays y m
-unfolding monthDays
-filled y m p q = rw (back m p) at (order (λ i. 1) (λ i. getD (months (leapDay y)) (i + 1 - 1) 0) 12 tested (m - 1) (omega arith))
-  where
-    tested : below (ordered (λ i. 1) (λ i. getD (months (leapDay y)) (i + 1 - 1) 0)) 12 ≡ true
-    tested = unfold below months in leap-cases (λ l. below (ordered (λ i. 1) (λ i. getD (months l) (i + 1 - 1) 0)) 12 ≡ true) y refl refl
-
--- and at most 31
-pub month-short : (y m : ℕ) → 1 ≤ m → m ≤ 12 → monthDays y m ≤ 31
-unfolding monthDays
-month-short y m p q = rw (back m p) at (order (λ i. getD (months (leapDay y)) (i + 1 - 1) 0) (λ i. 31) 12 tested (m - 1) (omega arith))
-  where
-    tested : below (ordered (λ i. getD (months (leapDay y)) (i + 1 - 1) 0) (λ i. 31)) 12 ≡ true
-    tested = unfold below months in leap-cases (λ l. below (ordered (λ i. getD (months l) (i + 1 - 1) 0) (λ i. 31)) 12 ≡ true) y refl refl
 
 pub month-count : monthCount ≡ 120000
 unfolding monthCount
@@ -47,7 +27,7 @@ first-day i h = record {
   month-from = omega arith;
   month-to = omega arith;
   day-from = omega arith;
-  day-to = filled (i / 12) (i % 12 + 1) (omega arith) (omega arith);
+  day-to = le-trans (lit≤ tt) (month-bounds (i / 12) (i % 12 + 1) (omega arith) (omega arith) .0);
 }
   where
     small : (i : ℕ) → i < 120000 → i / 12 ≤ 9999

@@ -144,15 +144,13 @@ fn leap_day(y: u32) -> u32
     0
 }
 
-// The length of a month.
+// The length of a month: 30 and 31 days in turn, up to July and again from August; February, the last month from March on, lacks two of 30, or one.
 fn month_days(y: u32, m: u32) -> u32
     requires { ⌜ (1 ≤ m) × (m ≤ 12) ⌝ }
     ensures { λ r. ⌜ r ≡ monthDays y m ⌝ }
 {
-    if m == 2 {
-        return 28 + leap_day(y);
-    }
-    30 + (m + m / 8) % 2
+    let k = (m + 9) % 12;
+    30 + (m + m / 8) % 2 - k / 11 * (2 - leap_day(y))
 }
 
 // There is such a day.
@@ -171,6 +169,10 @@ pub fn is_day(y: u32, m: u32, d: u32) -> bool
     }
     if d < 1 {
         return false;
+    }
+    // Every month has 28 days, so most dates do not ask for their month's length.
+    if d <= 28 {
+        return true;
     }
     d <= month_days(y, m)
 }

@@ -67,4 +67,5 @@ fn main() {
     run_file(b"values/vectors", Layer::Values);
     run_file(b"stops/index", Layer::Stops);
     run_file(b"weekly_monthly/index", Layer::Stops);
+    run_file(b"days/index", Layer::Stops);
 }

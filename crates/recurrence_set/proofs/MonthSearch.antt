@@ -22,9 +22,9 @@ use Rattle.calendar.specs.Answers.{monthCount, monthAt}
 use Rattle.calendar.specs.Sets.{has}
 use Rattle.calendar.specs.declared.dates.Date.{Date}
 use Rattle.calendar.specs.declared.rules.Rule.{Rule}
-use Rattle.calendar.proofs.Days.{Day, day-tells, day-is}
+use Rattle.calendar.proofs.Days.{Day, day-tells, day-is, month-bounds}
 use Rattle.calendar.proofs.Inverse.{sum-step, all-months, year-order, day-count, date-back, number-back, number-small}
-use Rattle.calendar.proofs.Months.{month-short, month-count, first-day}
+use Rattle.calendar.proofs.Months.{month-count, first-day}
 use Rattle.recurrence_set.specs.Lists.{due}
 use Rattle.recurrence_set.specs.Meets.{counts, ordinalServes, dayServes, monthlyMeets}
 use Rattle.recurrence_set.specs.Searches.{First, Least, MarksOnly, servesInMonth, namesNone, monthFirst, Counting}
@@ -92,7 +92,7 @@ module _ (k : ℕ) (h : k < dayCount) where
   pub day-range : (1 ≤ dateAt k .day) × (dateAt k .day ≤ 31)
   day-range =
       let n = named in
-      let s = month-short (dateAt k .year) (dateAt k .month) (n .month-from) (n .month-to) in
+      let s = month-bounds (dateAt k .year) (dateAt k .month) (n .month-from) (n .month-to) .1 in
       let t = n .day-to in
       (n .day-from, order _ _ t s)
     where
@@ -111,7 +111,7 @@ unfolding monthNumber
 first-month i = omega arith
 
 pub length-short : (i : ℕ) → lengthOf i ≤ 31
-length-short i = month-short (i / 12) (i % 12 + 1) (omega arith) (omega arith)
+length-short i = month-bounds (i / 12) (i % 12 + 1) (omega arith) (omega arith) .1
 
 pub month-first : (i : ℕ) → i < 120000 → monthFirst i ≡ dayNumber (firstOf i)
 unfolding monthFirst monthAt
