@@ -132,13 +132,13 @@ impl Month {
 fn leap_day(y: u32) -> u32
     ensures { λ r. ⌜ r ≡ leapDay y ⌝ }
 {
-    if y % 400 == 0 {
-        return 1;
-    }
-    if y % 100 == 0 {
+    if y % 4 != 0 {
         return 0;
     }
-    if y % 4 == 0 {
+    if y % 100 != 0 {
+        return 1;
+    }
+    if y % 400 == 0 {
         return 1;
     }
     0
