@@ -75,8 +75,12 @@ steps-4 y h = omega arith
 steps-100 : (y : ℕ) → y % 100 ≡ 0 → (y + 400) / 100 ≡ (y + 399) / 100 + 1
 steps-100 y h = omega arith
 
-by-4 : (y : ℕ) → y % 100 ≡ 0 → y % 4 ≡ 0
+-- what 100 divides 4 divides, and what 400 divides 100
+pub by-4 : (y : ℕ) → y % 100 ≡ 0 → y % 4 ≡ 0
 by-4 y h = omega arith
+
+pub by-100 : (y : ℕ) → y % 400 ≡ 0 → y % 100 ≡ 0
+by-100 y h = omega arith
 
 -- what a year adds to the count of leap days up to it
 leap-step : (y : ℕ) → leapDay y + ((y + 399) / 4 + (y + 399) / 400) + (y + 400) / 100 ≡ (y + 400) / 4 + (y + 400) / 400 + (y + 399) / 100
@@ -196,9 +200,9 @@ month-length y m p q = rw (back m p) at (agree (λ i. monthFormula (leapDay y) (
     tested : below (alike (λ i. monthFormula (leapDay y) (i + 1)) (λ i. getD (months (leapDay y)) (i + 1 - 1) 0)) 12 ≡ true
     tested = unfold below months in leap-cases (λ l. below (alike (λ i. monthFormula l (i + 1)) (λ i. getD (months l) (i + 1 - 1) 0)) 12 ≡ true) y refl refl
 
--- what a month lacks of 30 days
-pub lack : (m l : ℕ) → (m + 9) % 12 / 11 * (2 - l) ≤ 2
-lack m l = at ((m + 9) % 12 / 11) (omega arith)
+-- what a month lacks of 30 days is two at most
+pub lack-small : (m l : ℕ) → (m + 9) % 12 / 11 * (2 - l) ≤ 2
+lack-small m l = at ((m + 9) % 12 / 11) (omega arith)
   where
     at : (k : ℕ) → k ≤ 1 → k * (2 - l) ≤ 2
     at zero h = omega arith
@@ -207,7 +211,7 @@ lack m l = at ((m + 9) % 12 / 11) (omega arith)
 
 -- a month has 28 days at least, and at most 31
 pub month-bounds : (y m : ℕ) → 1 ≤ m → m ≤ 12 → (28 ≤ monthDays y m) × (monthDays y m ≤ 31)
-month-bounds y m p q = within _ _ _ (month-length y m p q) (lack m (leapDay y))
+month-bounds y m p q = within _ _ _ (month-length y m p q) (lack-small m (leapDay y))
   where
     within : (a b n : ℕ) → 30 + a % 2 - b ≡ n → b ≤ 2 → (28 ≤ n) × (n ≤ 31)
     within a b n e h = omega arith

@@ -144,7 +144,7 @@ fn leap_day(y: u32) -> u32
     0
 }
 
-// The length of a month: 30 and 31 days in turn, up to July and again from August; February, the last month from March on, lacks two of 30, or one.
+// The length of a month: 31 and 30 days in turn, up to July and again from August; February, the last month from March on, lacks two of 30, or one.
 fn month_days(y: u32, m: u32) -> u32
     requires { ⌜ (1 ≤ m) × (m ≤ 12) ⌝ }
     ensures { λ r. ⌜ r ≡ monthDays y m ⌝ }
