@@ -11,7 +11,7 @@ use crate::rules::{Weekday, weekday_of};
 use octets::{peek, sign_length, value_of};
 
 // Weekdays; the n-th of a month, and the n-th from its end; days of a month, from its front and from its end.
-#[derive(Drop)]
+#[derive(Clone, Copy)]
 pub struct ByDays {
     pub weekdays: u64,
     pub ordinals: u64,

@@ -6,7 +6,7 @@ ghost use Rattle.calendar.specs.Answers.{day_number_said, date_said, month_count
 
 use octets::LAST_YEAR;
 
-#[derive(Drop)]
+#[derive(Clone, Copy)]
 pub struct Date {
     pub year: u32,
     pub month: u32,
@@ -20,28 +20,28 @@ const YEARS: u32 = Date::LAST.year + 1;
 pub const DAY_COUNT: u32 = 365 * YEARS + YEARS / 4 - YEARS / 100 + YEARS / 400;
 
 // The number of a date's day, or that there is no such day.
-#[derive(Drop)]
+#[derive(Clone, Copy)]
 pub enum DayNumber {
     Day(u32),
     NoDate,
 }
 
 // The date of a day number, or that the number lies past the last day.
-#[derive(Drop)]
+#[derive(Clone, Copy)]
 pub enum DateAt {
     On(Date),
     Past,
 }
 
 // A month: the number of its first day, and how many days it has.
-#[derive(Drop)]
+#[derive(Clone, Copy)]
 pub struct Month {
     pub first: u32,
     pub days: u32,
 }
 
 // A month by its number, or that the number lies past the last month.
-#[derive(Drop)]
+#[derive(Clone, Copy)]
 pub enum MonthAt {
     Is(Month),
     Past,

@@ -1,4 +1,6 @@
 // Dates, moments, durations and recurrence rules.
+#![tactic(auto)]
+
 pub mod by_days;
 pub mod dates;
 pub mod durations;

@@ -9,14 +9,14 @@ use crate::texts::{extended_moment, is_clock, pair, year};
 
 const HOUR_COUNT: u64 = (DAY_COUNT as u64) * 24;
 
-#[derive(Drop)]
+#[derive(Clone, Copy)]
 pub enum Kind {
     Day,
     Local,
     Utc,
 }
 
-#[derive(Drop)]
+#[derive(Clone, Copy)]
 pub struct Moment {
     pub date: Date,
     pub hour: u32,
@@ -26,14 +26,14 @@ pub struct Moment {
 }
 
 // The moment that a text names, or that it names none.
-#[derive(Drop)]
+#[derive(Clone, Copy)]
 pub enum MomentRead {
     Is(Moment),
     NoMoment,
 }
 
 // A moment moved on, or that it lies past the last day then, or that there was no such moment to move.
-#[derive(Drop)]
+#[derive(Clone, Copy)]
 pub enum Moved {
     At(Moment),
     Past,

@@ -8,7 +8,7 @@ ghost use Rattle.calendar.specs.Walk.{before_first, word_place, key_names, word_
 use octets::same_name;
 
 // A part: its key's place among the keys (14: none), the length of its name, where its values begin, and where it ends.
-#[derive(Drop)]
+#[derive(Clone, Copy)]
 pub struct PartAt {
     pub key: usize,
     pub name: usize,
@@ -17,7 +17,7 @@ pub struct PartAt {
 }
 
 // Numbers: whether they may have a sign, their most digits, and their bounds without the sign.
-#[derive(Drop)]
+#[derive(Clone, Copy)]
 pub struct Bounds {
     pub signed: bool,
     pub most: usize,
@@ -26,7 +26,7 @@ pub struct Bounds {
 }
 
 // What the values of a part are.
-#[derive(Drop)]
+#[derive(Clone, Copy)]
 pub enum PartSort {
     Frequency,
     Moment,

@@ -15,7 +15,7 @@ use crate::moments::{Moment, MomentRead, read_moment};
 use crate::parts::{first_part, frequency_place, sort_of};
 use octets::{MOST_INTEGER, upper_octet, value_of};
 
-#[derive(Drop)]
+#[derive(Clone, Copy)]
 pub enum Frequency {
     Secondly,
     Minutely,
@@ -26,7 +26,7 @@ pub enum Frequency {
     Yearly,
 }
 
-#[derive(Drop)]
+#[derive(Clone, Copy)]
 pub enum Weekday {
     Sunday,
     Monday,
@@ -38,7 +38,7 @@ pub enum Weekday {
 }
 
 // A rule's end: a number of moments, a last moment, or none.
-#[derive(Drop)]
+#[derive(Clone, Copy)]
 pub enum End {
     Count(u32),
     Until(Moment),
@@ -46,7 +46,7 @@ pub enum End {
 }
 
 // Which BY parts there are.
-#[derive(Drop)]
+#[derive(Clone, Copy)]
 pub struct ByParts {
     pub second: bool,
     pub minute: bool,
@@ -59,7 +59,7 @@ pub struct ByParts {
     pub setpos: bool,
 }
 
-#[derive(Drop)]
+#[derive(Clone, Copy)]
 pub struct Rule {
     pub frequency: Frequency,
     pub interval: u32,
@@ -69,14 +69,14 @@ pub struct Rule {
     pub days: ByDays,
 }
 
-#[derive(Drop)]
+#[derive(Clone, Copy)]
 pub enum RuleRead {
     Is(Rule),
     NoRule,
 }
 
 // A rule while its parts are read, but for which BY parts there are.
-#[derive(Drop)]
+#[derive(Clone, Copy)]
 struct RuleHead {
     frequency: Frequency,
     interval: u32,

@@ -12,7 +12,7 @@ ghost use Rattle.calendar.specs.Texts.{form_of, form_is, form_text, octets_in, S
 use crate::dates::is_day;
 use octets::{is_digit, peek, put_all, upper_octet};
 
-#[derive(Drop)]
+#[derive(Clone, Copy)]
 pub enum Form {
     Date,
     Time,
@@ -21,7 +21,7 @@ pub enum Form {
 }
 
 // A short text; length 0 where there is none.
-#[derive(Drop)]
+#[derive(Clone, Copy)]
 pub struct ShortText {
     pub octets: [u8; 20],
     pub len: usize,

@@ -1,4 +1,6 @@
 // What the converters' programs share: a file that may be there, and a conversion's answer on standard output.
+#![tactic(auto)]
+
 ghost use Rattle.std.specs.Prelude.{◌≡◌, ◌≤◌, eqb, length, drop};
 ghost use Rattle.octets.specs.Answers.{outcome};
 ghost use Rattle.octets.specs.Basics.{all};

@@ -10,7 +10,7 @@ ghost use Rattle.content.specs.Folding.{folding, Folded};
 use octets::{MOST_COLUMNS, put, put_all, put_upper, upper_octet};
 
 // Where the next octet goes: its place in the buffer and its column in the line. A line begins at column 0.
-#[derive(Drop)]
+#[derive(Clone, Copy)]
 pub struct Folder {
     pub at: usize,
     pub column: usize,

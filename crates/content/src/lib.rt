@@ -1,4 +1,6 @@
 // iCalendar text: lines, content lines, parameters, folding.
+#![tactic(auto)]
+
 mod fold;
 mod write;
 

@@ -11,7 +11,7 @@ use crate::scan::next_bare;
 use octets::{is_name, same_name};
 
 // The type that VALUE names, by its bounds in the parameters, if there is a VALUE that names one.
-#[derive(Drop)]
+#[derive(Clone, Copy)]
 pub enum ValueType {
     Absent,
     Stated(usize, usize),

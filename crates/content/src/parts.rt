@@ -5,7 +5,7 @@ ghost use Rattle.content.specs.Parts.{Cut, CutParam, Inner};
 use crate::scan::next_bare;
 
 // The end of the name, the end of the parameters and the start of the value.
-#[derive(Drop)]
+#[derive(Clone, Copy)]
 pub struct Parts {
     pub name: usize,
     pub colon: usize,
@@ -13,7 +13,7 @@ pub struct Parts {
 }
 
 // The end of a parameter's name, the start of its values and their end.
-#[derive(Drop)]
+#[derive(Clone, Copy)]
 pub struct ParamParts {
     pub name: usize,
     pub values: usize,
@@ -21,7 +21,7 @@ pub struct ParamParts {
 }
 
 // Octets from a place up to another.
-#[derive(Drop)]
+#[derive(Clone, Copy)]
 pub struct Span {
     pub from: usize,
     pub end: usize,

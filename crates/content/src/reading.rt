@@ -5,7 +5,7 @@ use crate::form::all_formed;
 use crate::lines::{all_clean, unfold};
 
 // Where the lines in the buffer end, or why there are none.
-#[derive(Drop)]
+#[derive(Clone, Copy)]
 pub enum Lines {
     Laid(usize),
     NotClean,

@@ -11,7 +11,7 @@ use octets::{Converted, MOST_TEXT, put, put_all, put_decimal, same};
 const BLANK: u8 = 170;
 
 // Which conversion a folder's cases are for.
-#[derive(Drop)]
+#[derive(Clone, Copy)]
 pub(crate) enum Direction {
     ToJcal,
     ToIcal,

@@ -1,5 +1,7 @@
 // Runs both conversions: the cases of data/tojcal and data/tocal, then the four routes of a property that only the newer table lists. Prints what
 // fails, how many cases there are, and the routes.
+#![tactic(auto)]
+
 mod cases;
 mod routes;
 

@@ -1,1 +1,2 @@
 // The two conversions between iCalendar and jCal.
+#![tactic(auto)]

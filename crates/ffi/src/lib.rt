@@ -1,4 +1,6 @@
 // The library for other languages: the jobs on octet slices, each of which passes as a pointer and a length.
+#![tactic(auto)]
+
 ghost use Rattle.octets.specs.Answers.{answer};
 ghost use Rattle.octets.specs.Pen.{pen, Wrote};
 ghost use Rattle.stop_list.specs.Stops.{list_of};

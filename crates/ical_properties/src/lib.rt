@@ -1,4 +1,6 @@
 // A jCal property on the tape, on its way to iCalendar: its parts, what its row and type say, and its parameters, tested and written.
+#![tactic(auto)]
+
 mod params;
 mod places;
 mod rulings;
@@ -12,7 +14,7 @@ use values::Sort;
 pub use writing::write_params;
 
 // Where the parts of a property stand: its name, its parameters, its type, and its values up to the end of its array.
-#[derive(Drop)]
+#[derive(Clone, Copy)]
 pub struct PropertyParts {
     pub name: Text,
     pub params: usize,
@@ -22,7 +24,7 @@ pub struct PropertyParts {
 
 // What a property's row and type say: the code that number 8 goes by, one or many, the sort of the values,
 // whether VALUE is written, and whether an "unknown" value must be what its name takes.
-#[derive(Drop)]
+#[derive(Clone, Copy)]
 pub struct Ruling {
     pub code: u8,
     pub many: bool,

@@ -1,4 +1,6 @@
 // The recurrence object of jCal on the tape: tested by the recurrence reader, and written as a rule of iCalendar.
+#![tactic(auto)]
+
 mod kinds;
 mod rules;
 mod wording;
@@ -9,7 +11,7 @@ pub use rules::write_rule;
 pub use writing::fold_integer;
 
 // A rule written, and where the pen stands; or the value is none.
-#[derive(Drop)]
+#[derive(Clone, Copy)]
 pub enum Ruled {
     Written(Folder),
     NoRule,

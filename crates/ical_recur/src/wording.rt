@@ -21,7 +21,7 @@ use tape::{ARRAY, END, NUMBER, STRING, after, tag, text_at};
 const KEYS: usize = 14;
 
 // Where the next octet goes, and the place on the tape that was reached; or it is none of a rule.
-#[derive(Drop)]
+#[derive(Clone, Copy)]
 pub enum RuleLaid {
     To(usize, usize),
     Invalid,

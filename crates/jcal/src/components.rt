@@ -22,7 +22,7 @@ use octets::{Converted, MOST_LEVELS, Refusal, finish, put, put_all, refuse};
 
 // What stands next in a component, with the place of the next octet to write: a sub-component, by the place of its name and the end of that line,
 // or the END of the component, by the line behind it. Or why a property is refused.
-#[derive(Drop)]
+#[derive(Clone, Copy)]
 pub(crate) enum NextItem {
     Sub(usize, usize, usize),
     Close(usize, usize),

@@ -11,7 +11,7 @@ use content::line_end;
 use octets::{is_name, same_name};
 
 // BEGIN or END with the place of the component's name, a property, or a BEGIN or END that is neither.
-#[derive(Drop)]
+#[derive(Clone, Copy)]
 pub(crate) enum LineKind {
     Opens(usize),
     Closes(usize),

@@ -1,4 +1,6 @@
 // The conversion of iCalendar to jCal.
+#![tactic(auto)]
+
 mod components;
 mod conversion;
 mod events;

@@ -12,7 +12,7 @@ use crate::events::{LineKind, end_at, kind_at};
 use octets::{MOST_LEVELS, Refusal, same_name};
 
 // Before the first line; in a component with so many around it; behind the outermost one; or refused.
-#[derive(Drop)]
+#[derive(Clone, Copy)]
 enum Nesting {
     Unbegun,
     Within(usize),
@@ -21,7 +21,7 @@ enum Nesting {
 }
 
 // BEGIN and END pair, and the lines are in order or not; or they are refused.
-#[derive(Drop)]
+#[derive(Clone, Copy)]
 pub(crate) enum Structure {
     Paired(bool),
     Failed(Refusal),

@@ -1,4 +1,6 @@
 // A property of a content line on its way to jCal: its tests, and its JSON.
+#![tactic(auto)]
+
 mod names;
 mod property;
 
@@ -7,14 +9,14 @@ use octets::Refusal;
 pub use property::{place_property, test_property};
 
 // What tests answer.
-#[derive(Drop)]
+#[derive(Clone, Copy)]
 pub enum Tested {
     Passed,
     Failed(Refusal),
 }
 
 // The place behind a property that is written, or why it is refused.
-#[derive(Drop)]
+#[derive(Clone, Copy)]
 pub enum Placed {
     At(usize),
     Failed(Refusal),

@@ -32,7 +32,7 @@ use values::base64::is_decoded;
 use values::{Sort, sort_of};
 
 // Of a property that is written up to its values: the code of its type, whether its value is decoded, and the place behind; or why it is refused.
-#[derive(Drop)]
+#[derive(Clone, Copy)]
 enum Fronted {
     To(u8, bool, usize),
     Failed(Refusal),

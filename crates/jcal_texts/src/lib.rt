@@ -1,4 +1,6 @@
 // Text values: escapes, and the separators between texts. Octets that are written as they stand go run by run.
+#![tactic(auto)]
+
 ghost use Rattle.std.specs.Prelude.{◌≡◌, false, map, ◌≤◌, ◌<◌, length};
 ghost use Rattle.octets.specs.Basics.{◌or◌, single};
 ghost use Rattle.octets.specs.Classes.{upper};
@@ -16,21 +18,21 @@ use json::put_escaped;
 use octets::{Class, is_plain_octet, long_run_end, peek, put, put_all, upper_octet};
 
 // What a writer that tests answers: where the next octet goes, or that the value does not stand.
-#[derive(Drop)]
+#[derive(Clone, Copy)]
 pub enum Attempt {
     Written(usize),
     Invalid,
 }
 
 // What the writer of texts answers: where the next octet goes and how many texts there are, or that one is no text.
-#[derive(Drop)]
+#[derive(Clone, Copy)]
 enum Texts {
     Written(usize, usize),
     Invalid,
 }
 
 // What stands in a text: an octet, with the place behind it; a bare separator; or what is not allowed.
-#[derive(Drop)]
+#[derive(Clone, Copy)]
 enum Step {
     Octet(u8, usize),
     Separator,

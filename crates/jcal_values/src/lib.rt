@@ -1,4 +1,6 @@
 // The values of a property for jCal: which raw values stand, and how they stand in a property's array.
+#![tactic(auto)]
+
 mod decoded;
 mod forms;
 mod raw;

@@ -1,4 +1,6 @@
 // JSON: a reader onto a tape, and strings written.
+#![tactic(auto)]
+
 mod numbers;
 mod quoting;
 mod scanning;
@@ -9,7 +11,7 @@ pub use quoting::{put_escaped, put_string};
 pub use values::parse;
 
 // What `parse` answers: the length of the tape, or why there is none.
-#[derive(Drop)]
+#[derive(Clone, Copy)]
 pub enum Parsed {
     Tape(usize),
     TooDeep,
@@ -18,7 +20,7 @@ pub enum Parsed {
 }
 
 // What a reader answers: it read up to a place of the text and wrote up to a place of the tape; or why it did not.
-#[derive(Drop)]
+#[derive(Clone, Copy)]
 pub(crate) enum JsonRead {
     Read(usize, usize),
     TooDeep,
@@ -26,7 +28,7 @@ pub(crate) enum JsonRead {
 }
 
 // A place that was looked for.
-#[derive(Drop)]
+#[derive(Clone, Copy)]
 pub(crate) enum PlaceFound {
     At(usize),
     Nothing,

@@ -1,5 +1,7 @@
 // Runs the cases of the layers below the conversions: JSON, content lines, values, the stop list. A file of data/ has a case in each line. Prints for
 // each file what fails, and how many cases there are.
+#![tactic(auto)]
+
 mod content_cases;
 mod json_cases;
 mod parts;
@@ -9,7 +11,7 @@ mod values_cases;
 use parts::before;
 
 // What the cases of a file are for.
-#[derive(Drop)]
+#[derive(Clone, Copy)]
 enum Layer {
     Json,
     Texts,

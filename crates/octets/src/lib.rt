@@ -1,4 +1,6 @@
 // Octets: the limits of a conversion, refusals and answers, and the pen that writes into lent buffers.
+#![tactic(auto)]
+
 mod encoding;
 mod names;
 mod numbers;
@@ -43,7 +45,7 @@ pub const MOST_INTEGER: u32 = 2147483647;
 pub const LAST_YEAR: u16 = 9999;
 
 // A refusal; the definition `number` gives its number.
-#[derive(Drop)]
+#[derive(Clone, Copy)]
 pub enum Refusal {
     TextTooLong,
     RowsMalformed,
@@ -63,7 +65,7 @@ pub enum Refusal {
 }
 
 // What a conversion answers: the length of what it wrote, or why it refused.
-#[derive(Drop)]
+#[derive(Clone, Copy)]
 pub enum Converted {
     Written(usize),
     Refused(Refusal),

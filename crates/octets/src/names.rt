@@ -9,7 +9,7 @@ ghost use Rattle.octets.specs.Pen.{pen, Wrote};
 use crate::writing::put;
 
 // A class of octets that a whole slice can be tested for, and whose runs are looked for.
-#[derive(Drop)]
+#[derive(Clone, Copy)]
 pub enum Class {
     Digit,
     Name,
@@ -177,7 +177,7 @@ pub fn lower_octet(c: u8) -> u8
 }
 
 // The case that a slice is written in, or that names compare in.
-#[derive(Drop)]
+#[derive(Clone, Copy)]
 pub enum Case {
     Upper,
     Lower,

@@ -13,7 +13,7 @@ pub const SLOTS: usize = 16640;
 const WIDE: usize = 4294967296;
 
 // What became of a name that is entered into a table: it stood there, a free slot holds it now, or no slot can.
-#[derive(Drop)]
+#[derive(Clone, Copy)]
 pub enum Entering {
     Seen,
     Stored,

@@ -1,1 +1,2 @@
 // 01's cases to prove together.
+#![tactic(auto)]

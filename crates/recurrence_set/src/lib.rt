@@ -1,4 +1,6 @@
 // The recurrence set of a rule: the moments that meet it from a start on, found one after the other.
+#![tactic(auto)]
+
 mod months;
 mod sets;
 mod weeks;
@@ -19,7 +21,7 @@ use weeks::weekly_from;
 
 // A rule with its start, the start's place, and how many places there are up to the rule's end. Places are hours from the first day on for HOURLY,
 // days for all else.
-#[derive(Drop)]
+#[derive(Clone, Copy)]
 pub struct Series {
     pub rule: Rule,
     pub start: Moment,

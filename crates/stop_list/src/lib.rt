@@ -1,4 +1,6 @@
 // The stop list: the moments of a recurrence rule, in a lent list of records, or one after the other.
+#![tactic(auto)]
+
 pub mod plans;
 pub mod runs;
 
@@ -13,13 +15,13 @@ use calendar::moments::{Kind, Moment, Moved};
 use octets::Refusal;
 use recurrence_set::Series;
 
-#[derive(Drop)]
+#[derive(Clone, Copy)]
 pub struct Stop {
     pub moment: Moment,
 }
 
 // A stop moved on, or that it lies past the last day then, or that there was no such moment to move.
-#[derive(Drop)]
+#[derive(Clone, Copy)]
 pub enum StopMoved {
     At(Stop),
     Past,
@@ -56,7 +58,7 @@ impl Stop {
 }
 
 // How many stops were listed, or why none were.
-#[derive(Drop)]
+#[derive(Clone, Copy)]
 pub enum Listed {
     Stops(usize),
     Refused(Refusal),

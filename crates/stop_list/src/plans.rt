@@ -14,7 +14,7 @@ use calendar::rules::{ByParts, End, Frequency, Rule, RuleRead, read_rule};
 use octets::Refusal;
 use recurrence_set::{Series, series_of};
 
-#[derive(Drop)]
+#[derive(Clone, Copy)]
 pub struct Plan {
     pub listed: Listed,
     pub series: Series,

@@ -7,7 +7,7 @@ use crate::Stop;
 use recurrence_set::{Series, first_from, moment_at};
 
 // Where a run of stops of a series is: whether there is a stop, its number, the room for stops, which it is, and its place.
-#[derive(Drop)]
+#[derive(Clone, Copy)]
 pub struct Run {
     pub more: bool,
     pub at: usize,

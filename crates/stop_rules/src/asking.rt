@@ -14,14 +14,14 @@ use calendar::rules::{ByParts, End, Frequency, Rule, RuleRead, read_rule};
 use octets::Refusal;
 
 // A moment to start at, and a rule that is served from there.
-#[derive(Drop)]
+#[derive(Clone, Copy)]
 pub struct Ask {
     pub start: Moment,
     pub rule: Rule,
 }
 
 // What is asked for, or why it is refused.
-#[derive(Drop)]
+#[derive(Clone, Copy)]
 pub enum Asked {
     For(Ask),
     Refused(Refusal),

@@ -1,4 +1,6 @@
 // The records and answers of a stop list, and what a start and a rule ask of it.
+#![tactic(auto)]
+
 pub mod asking;
 
 ghost use mathlib.Core.Path.{◌≡◌};
@@ -11,13 +13,13 @@ use calendar::dates::Date;
 use calendar::moments::{Kind, Moment, Moved};
 use octets::Refusal;
 
-#[derive(Drop)]
+#[derive(Clone, Copy)]
 pub struct Stop {
     pub moment: Moment,
 }
 
 // A stop moved on, or that it lies past the last day then, or that there was no such moment to move.
-#[derive(Drop)]
+#[derive(Clone, Copy)]
 pub enum StopMoved {
     At(Stop),
     Past,
@@ -54,7 +56,7 @@ impl Stop {
 }
 
 // How many stops were listed, or why none were.
-#[derive(Drop)]
+#[derive(Clone, Copy)]
 pub enum Listed {
     Stops(usize),
     Refused(Refusal),

@@ -1,4 +1,5 @@
 // Lists the stops of a rule: reads a start, a rule and the most stops from standard input, a line each.
+#![tactic(auto)]
 
 fn main() {
     let mut text = [0u8; console::ROOM_FOR_TEXT];

@@ -1,4 +1,6 @@
 // What `stops` prints: its three lines of input, and the stops that they ask for.
+#![tactic(auto)]
+
 ghost use Rattle.std.specs.Prelude.{◌≡◌, ◌++◌, ◌+◌, ◌-◌, ◌*◌, ◌/◌, ◌%◌, ◌≤◌, ◌<◌, min, length, take};
 ghost use Rattle.octets.specs.Pen.{pen, Wrote};
 ghost use Rattle.calendar.specs.declared.moments.Kind.TheVariants.{Utc};
@@ -19,14 +21,14 @@ use stop_list::runs::{Run, advance};
 use stop_list::{Listed, Stop, list_stops};
 
 // The number of most stops, or that there is none.
-#[derive(Drop)]
+#[derive(Clone, Copy)]
 pub enum Most {
     Is(usize),
     NoNumber,
 }
 
 // What was listed, and the records that were lent for it.
-#[derive(Drop)]
+#[derive(Clone, Copy)]
 pub struct Page {
     pub listed: Listed,
     pub list: [Stop; 64],

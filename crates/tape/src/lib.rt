@@ -1,4 +1,6 @@
 // Navigation over the tape of a JSON value.
+#![tactic(auto)]
+
 mod keys;
 mod sounding;
 mod walking;
@@ -24,7 +26,7 @@ pub const OBJECT: u8 = 6;
 pub const END: u8 = 255;
 
 // The octets of a number or a string, and the place behind it.
-#[derive(Drop)]
+#[derive(Clone, Copy)]
 pub struct Text {
     pub from: usize,
     pub to: usize,

@@ -8,7 +8,7 @@ use super::{END, NUMBER, OBJECT, STRING};
 use octets::{find, is_free};
 
 // A turn of the scan: the place that it goes on from, or that something is not sound.
-#[derive(Drop)]
+#[derive(Clone, Copy)]
 pub enum Scanned {
     To(usize),
     Unsound,

@@ -1,4 +1,5 @@
 // Turns jCal on standard input into iCalendar, by the default types and the rows of rows.hex in the working directory, if there is one.
+#![tactic(auto)]
 
 fn main() {
     let mut text = [0u8; console::ROOM_FOR_TEXT];

@@ -1,4 +1,6 @@
 // The table of types: the default rows and those of rows.hex, and the types' names.
+#![tactic(auto)]
+
 mod codes;
 mod rows;
 mod table;
@@ -17,7 +19,7 @@ const MOST_DIGITS: usize = 2 * MOST_FRAME;
 pub const ROOM_FOR_ROWS: usize = (1 + MOST_FRAME) * octets::MOST_ROWS;
 
 // What a table says of a name: the code of its type, and whether it may have many values.
-#[derive(Drop)]
+#[derive(Clone, Copy)]
 pub enum Lookup {
     Listed(u8, bool),
     Unlisted,

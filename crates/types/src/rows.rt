@@ -20,7 +20,7 @@ use octets::{
 };
 
 // Where laying out rows came to.
-#[derive(Drop)]
+#[derive(Clone, Copy)]
 enum RowsLaid {
     Upto(usize),
     Malformed,

@@ -8,7 +8,7 @@ use crate::simple::before_padding;
 use octets::{all_plain, is_utf8};
 
 // How many octets at the front of the lent buffer are the decoded text; or the value does not stand, or the buffer is too short.
-#[derive(Drop)]
+#[derive(Clone, Copy)]
 pub enum Decoding {
     Octets(usize),
     Invalid,

@@ -1,4 +1,6 @@
 // The fourteen value types: the sorts of values, those that are neither dates, recurrence rules nor texts, and the text of a value that is sent as base64.
+#![tactic(auto)]
+
 pub mod base64;
 pub mod simple;
 mod sorts;

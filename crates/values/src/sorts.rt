@@ -8,7 +8,7 @@ use octets::same_name;
 use types::does_split;
 
 // Unprocessed values, URIs and cal-addresses are plain; GEO as float and REQUEST-STATUS as text have sorts of their own.
-#[derive(Drop)]
+#[derive(Clone, Copy)]
 pub enum Sort {
     Plain,
     Binary,

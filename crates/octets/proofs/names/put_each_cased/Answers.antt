@@ -1,0 +1,16 @@
+-- `octets::put_each_cased` meets its contract.
+use Prim.Native.Nat.{◌-◌}
+use mathlib.Core.Path.{refl}
+use native.Mathlib.Omega.{arith}
+use Rattle.octets.proofs.Pen.{leads-start, leads-on, leads-end}
+use Rattle.octets.proofs.Positions.{here, ended}
+use Rattle.octets.proofs.names.put_each_cased.Goals as goal
+
+pub loop-i-init : goal.loop-i-init
+loop-i-init c = (omega arith, refl, leads-start)
+
+pub loop-i-preserved : goal.loop-i-preserved
+loop-i-preserved c = (omega arith, omega arith, leads-on c.loop-i.invariant.2 c.put-to.ensures (rw (here _ _ c.loop-i-test.true, c.turn.ensures)))
+
+pub returns : goal.returns
+returns c = leads-end c.loop-i.invariant.2 (rw (ended _ _ c.loop-i-test.false))
