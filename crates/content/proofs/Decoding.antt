@@ -13,8 +13,8 @@ use Rattle.octets.specs.Basics.{octets, pick}
 use Rattle.octets.proofs.Cases.{same?, both}
 use Rattle.octets.proofs.Positions.{here, ended, first_of}
 use Rattle.octets.proofs.Runs.{run-left}
-use Rattle.json.specs.Print.{escaped, quoted}
-use Rattle.json.proofs.Quotes.{escaped-bare}
+use Rattle.json_text.specs.Print.{escaped, quoted}
+use Rattle.json_text.proofs.Quotes.{escaped-bare}
 use Rattle.content.specs.Carets.{decoded_octet, caret_after, decoded_from, decoded}
 use Rattle.octets.specs.Groups.{as_is_octet, param_as_is}
 use Rattle.octets.specs.Search.{ClassRun}

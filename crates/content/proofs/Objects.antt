@@ -12,8 +12,8 @@ use Rattle.octets.specs.Pen.{Pen, Wrote}
 use Rattle.octets.proofs.Cases.{cases}
 use Rattle.octets.proofs.Pen.{then}
 use Rattle.octets.proofs.Positions.{here, ended, from, upto}
-use Rattle.json.specs.Tree.{str, obj, items_of}
-use Rattle.json.specs.Print.{escaped, quoted, print_string, print_key, print, first_item, more_items, first_member, more_members}
+use Rattle.json_text.specs.Tree.{str, obj, items_of}
+use Rattle.json_text.specs.Print.{escaped, quoted, print_string, print_key, print, first_item, more_items, first_member, more_members}
 use Rattle.content.specs.Line.{Param, param_value, pieces}
 use Rattle.content.specs.Carets.{decoded}
 use Rattle.content.specs.Scan.{until_bare}

@@ -4,7 +4,7 @@ use Rattle.std.proofs.Math.Option.{Option, none, some}
 use Rattle.octets.specs.Basics.{octets, pick, ◌and◌, all, any, same, twice}
 use Rattle.octets.specs.Classes.{is_name, upper, lower, text_octet}
 use Rattle.octets.specs.Answers.{Answer, refused, accepted}
-use Rattle.json.specs.Tree.{Json, str, arr, Members, no_members, member, items_of}
+use Rattle.json_text.specs.Tree.{Json, str, arr, Members, no_members, member, items_of}
 use Rattle.content.specs.Line.{Param, name_of}
 
 unfoldable pub called : List ℕ → Param → Bool

@@ -3,8 +3,8 @@ ghost use Rattle.std.specs.Prelude.{◌≡◌, false, [], ◌++◌, map, ◌≤�
 ghost use Rattle.octets.specs.Basics.{octets, pick};
 ghost use Rattle.octets.specs.Classes.{lower};
 ghost use Rattle.octets.specs.Pen.{pen, Wrote};
-ghost use Rattle.json.specs.Tree.{str, obj, items_of};
-ghost use Rattle.json.specs.Print.{quoted, print_string, print_key, more_items, print};
+ghost use Rattle.json_text.specs.Tree.{str, obj, items_of};
+ghost use Rattle.json_text.specs.Print.{quoted, print_string, print_key, more_items, print};
 ghost use Rattle.content.specs.Line.{pieces, param_value};
 ghost use Rattle.content.specs.Carets.{decoded};
 ghost use Rattle.content.specs.Parts.{params_in, param_at, CutParam};
@@ -14,7 +14,7 @@ ghost use Rattle.content.specs.Object.{left_out, stands_for, octets_read};
 use crate::params::is_base64;
 use crate::parts::{ParamParts, inner, param_at};
 use crate::scan::next_bare;
-use json::put_escaped;
+use json_text::put_escaped;
 use octets::{Class, lower_octet, peek, put, put_all, run_end, same_name};
 
 // The octet that `c` stands for, where `d` follows it.

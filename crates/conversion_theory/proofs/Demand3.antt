@@ -4,7 +4,7 @@ use Rattle.octets.specs.Answers.{accepted}
 use Rattle.octets.proofs.Answers.{accepted-same}
 use Rattle.types.specs.Rows.{table_of, Keeps}
 use Rattle.types.proofs.Tables.{Well-formed, well-formed}
-use Rattle.json.specs.Print.{print}
+use Rattle.json_text.specs.Print.{print}
 use Rattle.content.specs.Lines.{lines_of}
 use Rattle.content.specs.Fold.{text_of}
 use Rattle.conversion_theory.specs.Tree.{Component}

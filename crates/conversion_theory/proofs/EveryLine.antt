@@ -15,10 +15,10 @@ use Rattle.octets.proofs.Cases.{both, All-weaker, All-append, All-front, All-bac
 use Rattle.octets.proofs.Answers.{not-accepted, accepted-same, then-accepted, unless-accepted}
 use Rattle.types.specs.Table.{Table, find}
 use Rattle.types.specs.Rows.{table_of}
-use Rattle.json.specs.Tree.{Json}
-use Rattle.json.specs.Reads.{Out, ok, deep, bad}
-use Rattle.json.specs.Reader.{parse_text}
-use Rattle.json.proofs.Decoding.{Decoded, parse-decoded}
+use Rattle.json_text.specs.Tree.{Json}
+use Rattle.json_text.specs.Reads.{Out, ok, deep, bad}
+use Rattle.json_text.specs.Reader.{parse_text}
+use Rattle.json_text.proofs.Decoding.{Decoded, parse-decoded}
 use Rattle.content.specs.Line.{Param}
 use Rattle.content.specs.Lines.{lines_of}
 use Rattle.content.specs.Parameters.{called, is_encoded, may_return}

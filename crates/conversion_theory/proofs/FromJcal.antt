@@ -14,8 +14,8 @@ use Rattle.octets.specs.Utf8.{utf8}
 use Rattle.octets.specs.Answers.{accepted, unless}
 use Rattle.octets.proofs.Cases.{never, both, and-true}
 use Rattle.octets.proofs.Answers.{accepted-same, unless-accepted}
-use Rattle.json.specs.Tree.{Json, Members, no_members, member, string?, array?, object?, list_of_items, octets_of, elements, element, members}
-use Rattle.json.proofs.Decoding.{Decoded}
+use Rattle.json_text.specs.Tree.{Json, Members, no_members, member, string?, array?, object?, list_of_items, octets_of, elements, element, members}
+use Rattle.json_text.proofs.Decoding.{Decoded}
 use Rattle.tape.specs.Sound.{sound}
 use Rattle.content.specs.Line.{Param}
 use Rattle.content.proofs.Written.{Writable}

@@ -12,8 +12,8 @@ use Rattle.octets.specs.Classes.{lower}
 use Rattle.octets.specs.Answers.{accepted}
 use Rattle.octets.proofs.Cases.{cases, never, both}
 use Rattle.types.specs.Table.{Table, find}
-use Rattle.json.specs.Tree.{Json, str, items_of}
-use Rattle.json.specs.Print.{escaped, quoted, print_string, print, first_item, more_items, values_json}
+use Rattle.json_text.specs.Tree.{Json, str, items_of}
+use Rattle.json_text.specs.Print.{escaped, quoted, print_string, print, first_item, more_items, values_json}
 use Rattle.content.specs.Line.{Param, Line}
 use Rattle.content.specs.Parameters.{called, value_type, without_value}
 use Rattle.values.proofs.Arrays.{items-json}

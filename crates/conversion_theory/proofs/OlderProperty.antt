@@ -14,7 +14,7 @@ use Rattle.types.specs.Codes.{code_named}
 use Rattle.types.specs.Table.{Row, Table, find}
 use Rattle.types.specs.Rows.{Keeps}
 use Rattle.types.proofs.Tables.{Well-formed, kept-found}
-use Rattle.json.specs.Tree.{Json, str}
+use Rattle.json_text.specs.Tree.{Json, str}
 use Rattle.content.specs.Line.{Param, Line}
 use Rattle.content.specs.Parameters.{called, value_type, without_value}
 use Rattle.values.specs.Base64.{binary_fits, is_decoded}

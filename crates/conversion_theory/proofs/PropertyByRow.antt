@@ -19,7 +19,7 @@ use Rattle.octets.proofs.Answers.{accepted-same}
 use Rattle.types.specs.Codes.{type_name, code_named}
 use Rattle.types.specs.Table.{Row}
 use Rattle.types.proofs.Types.{code-of-name, name-of-code, not-unknown, name-lower}
-use Rattle.json.specs.Tree.{Json, str, string?, number?, octets_of}
+use Rattle.json_text.specs.Tree.{Json, str, string?, number?, octets_of}
 use Rattle.content.specs.Line.{Param}
 use Rattle.content.specs.Parameters.{is_encoded, staying, may_return}
 use Rattle.values.specs.Base64.{binary_fits, is_decoded, text_sent}

@@ -13,7 +13,7 @@ use Rattle.octets.specs.Classes.{between, is_upper, is_name, is_lower_name, lowe
 use Rattle.octets.specs.Utf8.{utf8}
 use Rattle.octets.proofs.Cases.{never, both, neither}
 use Rattle.octets.proofs.Classes.{lower-name, name-lower}
-use Rattle.json.specs.Tree.{Json, str, list_of_items, string?, number?, array?, object?, octets_of, elements, element, members}
+use Rattle.json_text.specs.Tree.{Json, str, list_of_items, string?, number?, array?, object?, octets_of, elements, element, members}
 use Rattle.tape.specs.Sound.{has_key, distinct_keys}
 use Rattle.content.specs.Line.{Param}
 use Rattle.content.specs.Parameters.{name_twice, plain_or, members_of}

@@ -12,7 +12,7 @@ use Rattle.octets.proofs.Optional.{map_is, then_is}
 use Rattle.octets.proofs.Answers.{then-accepted, or_else-accepted, unless-accepted}
 use Rattle.types.specs.Codes.{unprocessed, type_names, place_from, code_named}
 use Rattle.types.specs.Table.{Row, Table, find}
-use Rattle.json.specs.Tree.{Json}
+use Rattle.json_text.specs.Tree.{Json}
 use Rattle.content.specs.Line.{Param, Line}
 use Rattle.content.specs.Parameters.{name_twice, value_type, without_value, is_encoded, staying}
 use Rattle.values.specs.Base64.{binary_fits, text_sent}

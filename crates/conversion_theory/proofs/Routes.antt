@@ -11,7 +11,7 @@ use Rattle.octets.specs.Limits.{most_text}
 use Rattle.octets.specs.Answers.{Answer, accepted, then, unless, Settled, settled, answer}
 use Rattle.types.specs.Table.{Table, find}
 use Rattle.types.specs.Rows.{table_of}
-use Rattle.json.specs.Print.{print}
+use Rattle.json_text.specs.Print.{print}
 use Rattle.content.specs.Fold.{text_of}
 use Rattle.content.specs.Lines.{lines_of}
 use Rattle.conversion_theory.specs.Tree.{Property, Component, Forest, properties_of, properties_in}

@@ -14,11 +14,11 @@ use Rattle.octets.specs.Utf8.{utf8}
 use Rattle.octets.specs.Answers.{Answer, accepted, unless}
 use Rattle.octets.proofs.Cases.{and-true}
 use Rattle.octets.proofs.Limits.{most-levels, most-open}
-use Rattle.json.specs.Tree.{str, list_of_items, string?, number?, array?, octets_of, elements, element}
-use Rattle.json.specs.Reads.{ok}
-use Rattle.json.specs.Reader.{parse_text}
-use Rattle.json.specs.Print.{print}
-use Rattle.json.proofs.Printing.{parse-print}
+use Rattle.json_text.specs.Tree.{str, list_of_items, string?, number?, array?, octets_of, elements, element}
+use Rattle.json_text.specs.Reads.{ok}
+use Rattle.json_text.specs.Reader.{parse_text}
+use Rattle.json_text.specs.Print.{print}
+use Rattle.json_text.proofs.Printing.{parse-print}
 use Rattle.octets.proofs.Classes.{lower-name}
 use Rattle.values.proofs.Neat.{Neat, n-str, n-arr, NeatItems, n-none, n-item, neat-more, neat-items, neat-printable, neat-depth, neat-sound, neat-utf8}
 use Rattle.values.proofs.TextLaws.{list-items}

@@ -9,8 +9,8 @@ use Rattle.octets.specs.Limits.{most_text}
 use Rattle.octets.specs.Answers.{Answer, accepted, then, settled, answer}
 use Rattle.types.specs.Table.{Table, find}
 use Rattle.types.specs.Rows.{table_of, Keeps}
-use Rattle.json.specs.Tree.{str, obj}
-use Rattle.json.specs.Print.{print, print_string, values_json}
+use Rattle.json_text.specs.Tree.{str, obj}
+use Rattle.json_text.specs.Print.{print, print_string, values_json}
 use Rattle.content.specs.Line.{Param, Line, line_of}
 use Rattle.content.specs.Lines.{lines_of}
 use Rattle.content.specs.Parameters.{called, without_value, staying, members_of}

@@ -1,6 +1,6 @@
 -- A component as jCal (RFC 7265 3.2 to 3.5; 01, Lines and Parameters).
 use Rattle.std.specs.Prelude.{map}
-use Rattle.json.specs.Tree.{Json, str, arr, obj, Items, no_items, item, items_of}
+use Rattle.json_text.specs.Tree.{Json, str, arr, obj, Items, no_items, item, items_of}
 use Rattle.content.specs.Parameters.{members_of}
 use Rattle.conversion_theory.specs.Tree.{Property, Component, component, Forest, leaf, grow}
 

@@ -7,7 +7,7 @@ use Rattle.octets.specs.Classes.{lower}
 use Rattle.octets.specs.Answers.{Answer, then, or_else, unless}
 use Rattle.types.specs.Codes.{type_name, code_named}
 use Rattle.types.specs.Table.{Row, Table, find}
-use Rattle.json.specs.Tree.{Json}
+use Rattle.json_text.specs.Tree.{Json}
 use Rattle.content.specs.Line.{Param, Line}
 use Rattle.content.specs.Parameters.{name_twice, value_type, without_value, is_encoded, staying}
 use Rattle.values.specs.Base64.{binary_fits, is_decoded, text_sent}

@@ -6,7 +6,7 @@ use Rattle.octets.specs.Classes.{upper}
 use Rattle.octets.specs.Answers.{Answer, accepted, unless}
 use Rattle.types.specs.Codes.{code_named}
 use Rattle.types.specs.Table.{Row}
-use Rattle.json.specs.Tree.{Json, octets_of}
+use Rattle.json_text.specs.Tree.{Json, octets_of}
 use Rattle.content.specs.Line.{Param}
 use Rattle.content.specs.Parameters.{is_encoded, may_return}
 use Rattle.content.specs.Write.{line_text}

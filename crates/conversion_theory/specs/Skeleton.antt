@@ -5,7 +5,7 @@ use Rattle.octets.specs.Optional.{is_some, holds, given}
 use Rattle.octets.specs.Classes.{is_lower_name}
 use Rattle.octets.specs.Limits.{most_levels, most_open}
 use Rattle.octets.specs.Answers.{Answer, accepted, unless}
-use Rattle.json.specs.Tree.{Json, Members, no_members, member, string?, array?, object?, list_of_items, octets_of, elements, element, members}
+use Rattle.json_text.specs.Tree.{Json, Members, no_members, member, string?, array?, object?, list_of_items, octets_of, elements, element, members}
 use Rattle.tape.specs.Sound.{sound}
 use Rattle.content.specs.Line.{Param}
 use Rattle.conversion_theory.specs.Tree.{Property, property, Component, component, leaf, forest_of, levels}

@@ -7,9 +7,9 @@ use Rattle.octets.specs.Limits.{most_text}
 use Rattle.octets.specs.Answers.{Answer, refused, accepted, then, unless}
 use Rattle.types.specs.Table.{Table, find}
 use Rattle.types.specs.Rows.{table_of}
-use Rattle.json.specs.Tree.{Json}
-use Rattle.json.specs.Reads.{Out, ok, deep, bad}
-use Rattle.json.specs.Reader.{parse_text}
+use Rattle.json_text.specs.Tree.{Json}
+use Rattle.json_text.specs.Reads.{Out, ok, deep, bad}
+use Rattle.json_text.specs.Reader.{parse_text}
 use Rattle.content.specs.Fold.{text_of}
 use Rattle.conversion_theory.specs.Tree.{Property, Component, component, Forest, leaf, grow, properties_of}
 use Rattle.conversion_theory.specs.Skeleton.{calendar_of}

@@ -4,7 +4,7 @@ use Rattle.octets.specs.Limits.{most_text}
 use Rattle.octets.specs.Answers.{Answer, accepted, then, unless}
 use Rattle.types.specs.Table.{Table}
 use Rattle.types.specs.Rows.{table_of}
-use Rattle.json.specs.Print.{print}
+use Rattle.json_text.specs.Print.{print}
 use Rattle.content.specs.Lines.{lines_of}
 use Rattle.content.specs.Form.{content_lines}
 use Rattle.content.specs.Line.{Line, line_of}

@@ -1,6 +1,6 @@
 -- 01's reading of a calendar: a component is its name, its properties in order, then its sub-components in order, all as jCal holds them.
 use Rattle.std.specs.Prelude.{ℕ, zero, suc, max, List, [], ◌∷◌, ◌++◌}
-use Rattle.json.specs.Tree.{Json}
+use Rattle.json_text.specs.Tree.{Json}
 use Rattle.content.specs.Line.{Param}
 
 -- lowercase name, parameters without VALUE, lowercase type, values

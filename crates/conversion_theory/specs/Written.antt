@@ -3,8 +3,8 @@ use Rattle.std.specs.Prelude.{ℕ, ◌≡◌, List}
 use Rattle.octets.specs.Answers.{accepted}
 use Rattle.types.specs.Table.{Table}
 use Rattle.types.specs.Rows.{table_of}
-use Rattle.json.specs.Tree.{Json}
-use Rattle.json.specs.Reader.{parse_text}
+use Rattle.json_text.specs.Tree.{Json}
+use Rattle.json_text.specs.Reader.{parse_text}
 use Rattle.content.specs.Lines.{lines_of}
 use Rattle.content.specs.Fold.{text_of}
 use Rattle.content.specs.Physical.{Physical}

@@ -7,8 +7,8 @@ use mathlib.Core.List.{List}
 use borrow.Author.Tests.{eq-eqb}
 use Rattle.octets.specs.Basics.{all}
 use Rattle.octets.proofs.Cases.{same?, never, both}
-use Rattle.json.specs.Tree.{Json, elements}
-use Rattle.json.specs.Tape.{tag_array, tag_end}
+use Rattle.json_text.specs.Tree.{Json, elements}
+use Rattle.json_text.specs.Tape.{tag_array, tag_end}
 use Rattle.tape.specs.Decode.{tag_at, value_at, list_at}
 use Rattle.tape.specs.Promise.{After, Next}
 use Rattle.tape.proofs.Values.{list-first, list-next}

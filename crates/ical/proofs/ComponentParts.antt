@@ -13,8 +13,8 @@ use Rattle.octets.specs.Classes.{is_lower_name}
 use Rattle.octets.specs.Answers.{refused}
 use Rattle.octets.proofs.Cases.{never, both}
 use Rattle.types.specs.Table.{Table}
-use Rattle.json.specs.Tree.{Json, string?, array?, list_of_items, octets_of, elements, element}
-use Rattle.json.specs.Tape.{tag_array, tag_end}
+use Rattle.json_text.specs.Tree.{Json, string?, array?, list_of_items, octets_of, elements, element}
+use Rattle.json_text.specs.Tape.{tag_array, tag_end}
 use Rattle.tape.specs.Decode.{other_items, tag_at, value_at, items_at, list_at}
 use Rattle.tape.specs.Promise.{After, Next, Left}
 use Rattle.tape.proofs.Values.{list-end, list-first, list-next}

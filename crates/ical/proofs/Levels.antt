@@ -7,7 +7,7 @@ use native.Mathlib.Omega.{arith}
 use Rattle.octets.specs.Basics.{all}
 use Rattle.octets.specs.Optional.{holds, given}
 use Rattle.octets.proofs.Cases.{never, both}
-use Rattle.json.specs.Tree.{Json, array?, list_of_items, elements, element}
+use Rattle.json_text.specs.Tree.{Json, array?, list_of_items, elements, element}
 use Rattle.values.proofs.CleanValues.{holds-is}
 use Rattle.conversion_theory.specs.Tree.{levels, levels_in, forest_of}
 use Rattle.conversion_theory.specs.Skeleton.{is_list_of, is_component, component_from}

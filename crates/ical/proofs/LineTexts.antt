@@ -10,8 +10,8 @@ use Rattle.octets.specs.Classes.{is_name, upper}
 use Rattle.octets.specs.Optional.{is_some}
 use Rattle.octets.proofs.Classes.{name-upper}
 use Rattle.types.specs.Table.{Table, find}
-use Rattle.json.specs.Tree.{Json, octets_of, elements, element}
-use Rattle.json.specs.Tape.{tag_end}
+use Rattle.json_text.specs.Tree.{Json, octets_of, elements, element}
+use Rattle.json_text.specs.Tape.{tag_end}
 use Rattle.tape.specs.Decode.{tag_at, value_at, list_at, members_at}
 use Rattle.tape.specs.Promise.{After, Next, TextAt}
 use Rattle.tape.specs.declared.Text.{Text}

@@ -7,14 +7,14 @@ use borrow.Author.Tests.{le-leb, leb-true}
 use lib.Dec.{leb}
 use lib.ListN.{length, drop}
 use Rattle.octets.proofs.Cases.{cases}
-use Rattle.json.specs.Tree.{Json}
-use Rattle.json.specs.Reads.{Out, ok, deep, bad}
-use Rattle.json.specs.Reader.{parse_text}
-use Rattle.json.specs.Tape.{ser}
-use Rattle.json.specs.Parse.{Taped, taped, blank, parsed_onto, most_tape}
-use Rattle.json.specs.declared.Parsed.{Parsed}
-use Rattle.json.specs.declared.Parsed.TheVariants.{Tape, TooDeep, NotJson, NoRoom}
-use Rattle.json.proofs.Sizes.{tape-enough}
+use Rattle.json_text.specs.Tree.{Json}
+use Rattle.json_text.specs.Reads.{Out, ok, deep, bad}
+use Rattle.json_text.specs.Reader.{parse_text}
+use Rattle.json_text.specs.Tape.{ser}
+use Rattle.json_text.specs.Parse.{Taped, taped, blank, parsed_onto, most_tape}
+use Rattle.json_text.specs.declared.Parsed.{Parsed}
+use Rattle.json_text.specs.declared.Parsed.TheVariants.{Tape, TooDeep, NotJson, NoRoom}
+use Rattle.json_text.proofs.Sizes.{tape-enough}
 
 pub record IsTape (o : Out Json) (t₀ t : List ℕ) (n : ℕ) : Type 0 where
   pub it : Json

@@ -19,8 +19,8 @@ use Rattle.octets.proofs.Answers.{not-accepted}
 use Rattle.octets.proofs.Cases.{same?, never, both, and-true-right, and-false-right}
 use Rattle.octets.proofs.Classes.{lower-name, lower-name-stays}
 use Rattle.types.specs.Table.{Row, Table, find}
-use Rattle.json.specs.Tree.{Json, string?, array?, object?, list_of_items, octets_of, elements, element}
-use Rattle.json.specs.Tape.{tag_end}
+use Rattle.json_text.specs.Tree.{Json, string?, array?, object?, list_of_items, octets_of, elements, element}
+use Rattle.json_text.specs.Tape.{tag_end}
 use Rattle.tape.specs.Decode.{other_items, tag_at, value_at, items_at, list_at, members_at}
 use Rattle.tape.specs.Promise.{Next, Left}
 use Rattle.tape.specs.declared.Text.{Text}

@@ -21,15 +21,15 @@ use Rattle.types.specs.Table.{Table}
 use Rattle.types.specs.Rows.{table_of}
 use Rattle.types.specs.Laid.{table_in, laid_of, room_for_rows}
 use Rattle.types.proofs.Reading.{rows_written, rows-refused}
-use Rattle.json.specs.Parse.{most_tape}
+use Rattle.json_text.specs.Parse.{most_tape}
 use Rattle.ical_skeleton.specs.Checks.{Shapes}
 use Rattle.ical_skeleton.specs.declared.Shape.{Shape}
 use Rattle.ical_skeleton.specs.declared.Shape.TheVariants.{Calendar, Other}
-use Rattle.json.specs.Tree.{Json, element, octets_of}
-use Rattle.json.specs.Reads.{Out, deep, bad}
-use Rattle.json.specs.Reader.{parse_text}
-use Rattle.json.specs.Tape.{ser}
-use Rattle.json.proofs.Decoding.{parse-fine}
+use Rattle.json_text.specs.Tree.{Json, element, octets_of}
+use Rattle.json_text.specs.Reads.{Out, deep, bad}
+use Rattle.json_text.specs.Reader.{parse_text}
+use Rattle.json_text.specs.Tape.{ser}
+use Rattle.json_text.proofs.Decoding.{parse-fine}
 use Rattle.tape.specs.Decode.{value_at}
 use Rattle.tape.specs.Sound.{sound}
 use Rattle.tape.specs.Scan.{sound_tape}

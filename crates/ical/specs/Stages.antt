@@ -4,7 +4,7 @@ use Rattle.octets.specs.Basics.{◌and◌}
 use Rattle.octets.specs.Limits.{most_levels, most_open}
 use Rattle.octets.specs.Answers.{Answer, accepted, then, unless}
 use Rattle.types.specs.Table.{Table}
-use Rattle.json.specs.Reader.{parse_text}
+use Rattle.json_text.specs.Reader.{parse_text}
 use Rattle.tape.specs.Decode.{value_at}
 use Rattle.tape.specs.Scan.{sound_tape}
 use Rattle.content.specs.Fold.{text_of}

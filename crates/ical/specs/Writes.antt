@@ -4,7 +4,7 @@ use Rattle.octets.specs.Basics.{octets, ◌and◌, ◌or◌}
 use Rattle.octets.specs.Classes.{upper}
 use Rattle.octets.specs.Optional.{is_some}
 use Rattle.octets.specs.Pen.{FrontKept}
-use Rattle.json.specs.Tree.{Json}
+use Rattle.json_text.specs.Tree.{Json}
 use Rattle.tape.specs.Decode.{list_at}
 use Rattle.tape.specs.Promise.{Left}
 use Rattle.content.specs.Line.{Param}

@@ -4,7 +4,7 @@ ghost use Rattle.octets.specs.Answers.{answer, outcome};
 ghost use Rattle.octets.specs.Limits.{most_text};
 ghost use Rattle.octets.specs.Utf8.{utf8};
 ghost use Rattle.types.specs.Laid.{table_in, room_for_rows};
-ghost use Rattle.json.specs.Parse.{most_tape};
+ghost use Rattle.json_text.specs.Parse.{most_tape};
 ghost use Rattle.conversion_theory.specs.ToIcal.{component_lines, to_ical};
 ghost use Rattle.ical.specs.Converts.{Converts};
 ghost use Rattle.ical.specs.Stages.{short_jcal, middle_jcal, component_on, judged, tape_text, parsed_text};
@@ -12,7 +12,7 @@ ghost use Rattle.ical.specs.Stages.{short_jcal, middle_jcal, component_on, judge
 use super::Conversion;
 use super::components::convert_component;
 use ical_skeleton::{Shape, shape_of};
-use json::{Parsed, parse};
+use json_text::{Parsed, parse};
 use octets::{Converted, MOST_LEVELS, MOST_TEXT, Refusal, finish, is_utf8, refuse};
 use tape::is_sound;
 use types::{ROOM_FOR_ROWS, read_rows};

@@ -3,7 +3,7 @@ ghost use Rattle.std.specs.Prelude.{◌≡◌, true, [], ◌∷◌, map, ◌≤�
 ghost use Rattle.octets.specs.Classes.{lower};
 ghost use Rattle.octets.specs.Optional.{then?, is_some};
 ghost use Rattle.types.specs.Laid.{table_in};
-ghost use Rattle.json.specs.Tree.{elements};
+ghost use Rattle.json_text.specs.Tree.{elements};
 ghost use Rattle.tape.specs.Decode.{value_at, list_at};
 ghost use Rattle.content.specs.Folding.{folding};
 ghost use Rattle.values.specs.Base64.{text_sent};

@@ -10,8 +10,8 @@ use Rattle.octets.specs.Classes.{between, is_lower, upper_octet, text_octet, upp
 use Rattle.octets.specs.Optional.{given}
 use Rattle.octets.specs.Pieces.{joined}
 use Rattle.octets.proofs.Cases.{and-true-right}
-use Rattle.json.specs.Tree.{octets_of}
-use Rattle.json.specs.Tape.{tag_string, tag_end}
+use Rattle.json_text.specs.Tree.{octets_of}
+use Rattle.json_text.specs.Tape.{tag_string, tag_end}
 use Rattle.tape.specs.Decode.{other_items, paired, tag_at, value_at, items_at, list_at, members_at}
 use Rattle.tape.specs.Promise.{Next, TextAt}
 use Rattle.tape.specs.declared.Text.{Text}

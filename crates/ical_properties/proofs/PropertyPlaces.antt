@@ -4,8 +4,8 @@ use mathlib.Core.Path.{◌≡◌, sym, ap, ◌∙◌}
 use mathlib.Core.List.{List}
 use native.Mathlib.Omega.{arith}
 use lib.ListN.{length, drop, get_or}
-use Rattle.json.specs.Tree.{Json, null, octets_of, elements, element, members}
-use Rattle.json.specs.Tape.{tag_array, tag_object}
+use Rattle.json_text.specs.Tree.{Json, null, octets_of, elements, element, members}
+use Rattle.json_text.specs.Tape.{tag_array, tag_object}
 use Rattle.tape.specs.Decode.{pop, view, tag_at, value_at, list_at}
 use Rattle.tape.specs.Promise.{After, Next, TextAt}
 use Rattle.tape.specs.declared.Text.{Text}

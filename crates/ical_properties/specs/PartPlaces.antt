@@ -1,7 +1,7 @@
 -- What is promised of the places of a property's parts.
 use Rattle.std.specs.Prelude.{ℕ, ◌+◌, ◌-◌, ◌≤◌, ◌≡◌, List, length, take, drop}
-use Rattle.json.specs.Tree.{elements, members}
-use Rattle.json.specs.Tape.{tag_array}
+use Rattle.json_text.specs.Tree.{elements, members}
+use Rattle.json_text.specs.Tape.{tag_array}
 use Rattle.tape.specs.Decode.{pop, view, tag_at, value_at, list_at, members_at}
 use Rattle.tape.specs.declared.Text.{Text}
 use Rattle.conversion_theory.specs.Skeleton.{params_from, property_from}

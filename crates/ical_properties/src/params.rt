@@ -3,7 +3,7 @@ ghost use Rattle.std.specs.Prelude.{◌≡◌};
 ghost use Rattle.octets.specs.Basics.{octets, ◌and◌, all, same};
 ghost use Rattle.octets.specs.Classes.{text_octet};
 ghost use Rattle.content.specs.Parameters.{is_base64, is_encoded, may_return};
-ghost use Rattle.json.specs.Tape.{tag_string};
+ghost use Rattle.json_text.specs.Tape.{tag_string};
 ghost use Rattle.tape.specs.Decode.{tag_at, value_at, members_at};
 ghost use Rattle.conversion_theory.specs.Skeleton.{values_from, params_from};
 

@@ -1,7 +1,7 @@
 // Parameters written through the folding pen.
 ghost use Rattle.std.specs.Prelude.{◌≡◌, map};
-ghost use Rattle.json.specs.Tree.{octets_of};
-ghost use Rattle.json.specs.Tape.{tag_string};
+ghost use Rattle.json_text.specs.Tree.{octets_of};
+ghost use Rattle.json_text.specs.Tape.{tag_string};
 ghost use Rattle.tape.specs.Decode.{tag_at, value_at, list_at, members_at};
 ghost use Rattle.content.specs.Write.{more_values, params_text};
 ghost use Rattle.content.specs.Folding.{folding, Folded};

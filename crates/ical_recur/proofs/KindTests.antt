@@ -11,8 +11,8 @@ use Rattle.octets.proofs.Cases.{and_assoc, never}
 use Rattle.calendar.specs.Recurrence.{PartSort, frequency, moment, count, weekday, ordinal, numbers, several}
 use Rattle.calendar.specs.Walk.{key_place, key_at}
 use Rattle.calendar.proofs.RuleParts.{key-known, key-unknown}
-use Rattle.json.specs.Tree.{Json, num, str, arr, Items, item, Members, member, string?, number?, array?}
-use Rattle.json.specs.Tape.{tag_number, tag_string, tag_array, tag_end}
+use Rattle.json_text.specs.Tree.{Json, num, str, arr, Items, item, Members, member, string?, number?, array?}
+use Rattle.json_text.specs.Tape.{tag_number, tag_string, tag_array, tag_end}
 use Rattle.tape.specs.Decode.{tag_at, value_at, items_at, members_at}
 use Rattle.tape.specs.Promise.{After, Next, TextAt}
 use Rattle.tape.specs.declared.Text.{Text}

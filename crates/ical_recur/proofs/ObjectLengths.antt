@@ -19,8 +19,8 @@ use Rattle.octets.proofs.Decimal.{trim-length}
 use Rattle.calendar.specs.Forms.{date_time_form, Slot, digit, sign, letter, added, keeps, basic}
 use Rattle.calendar.specs.Dates.{date_time_text, moment_text}
 use Rattle.calendar.specs.Recurrence.{PartSort, frequency, moment, count, weekday, ordinal, numbers, Key, key_named}
-use Rattle.json.specs.Tree.{Json, null, falsity, truth, num, str, arr, obj, Items, no_items, item, no_members, member, string?, number?, array?, octets_of}
-use Rattle.json.specs.Tape.{tag_false, tag_true, tag_number, tag_string, tag_array, tag_object, tag_end}
+use Rattle.json_text.specs.Tree.{Json, null, falsity, truth, num, str, arr, obj, Items, no_items, item, no_members, member, string?, number?, array?, octets_of}
+use Rattle.json_text.specs.Tape.{tag_false, tag_true, tag_number, tag_string, tag_array, tag_object, tag_end}
 use Rattle.tape.specs.Decode.{paired, valued, Groups, last, group, top, pop, push, text_at_front, in_text, groups, view, items_at, members_at}
 use Rattle.values.specs.Recur.{string_text, item_text, item_texts, value_texts, member_text, member_texts}
 use Rattle.ical_recur.specs.Wording.{items_text, part_values_text, object_text}

@@ -11,8 +11,8 @@ use Rattle.octets.specs.Pieces.{joined}
 use Rattle.calendar.specs.Recurrence.{PartSort}
 use Rattle.calendar.specs.Walk.{key_place, key_at}
 use Rattle.calendar.proofs.RuleParts.{key-known}
-use Rattle.json.specs.Tree.{Json, num, str, arr, Items, no_items, item, member, string?, number?, array?}
-use Rattle.json.specs.Tape.{tag_array, tag_end}
+use Rattle.json_text.specs.Tree.{Json, num, str, arr, Items, no_items, item, member, string?, number?, array?}
+use Rattle.json_text.specs.Tape.{tag_array, tag_end}
 use Rattle.tape.specs.Decode.{other_items, paired, tag_at, value_at, items_at, members_at}
 use Rattle.tape.specs.Promise.{After, Next}
 use Rattle.tape.specs.declared.Text.{Text}

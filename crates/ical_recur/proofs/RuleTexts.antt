@@ -14,7 +14,7 @@ use Rattle.octets.proofs.Positions.{upto}
 use Rattle.calendar.specs.Recurrence.{parts_of}
 use Rattle.calendar.specs.Walk.{rule_shown}
 use Rattle.calendar.proofs.WrittenItems.{rule-shown}
-use Rattle.json.specs.Tape.{tag_object}
+use Rattle.json_text.specs.Tape.{tag_object}
 use Rattle.tape.specs.Decode.{tag_at, value_at, members_at}
 use Rattle.tape.specs.Promise.{After}
 use Rattle.tape.proofs.Values.{no-object}

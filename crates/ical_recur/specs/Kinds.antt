@@ -4,7 +4,7 @@ use Rattle.octets.specs.Basics.{◌and◌}
 use Rattle.octets.specs.Optional.{holds}
 use Rattle.octets.specs.Classes.{is_lower_name, upper}
 use Rattle.calendar.specs.Recurrence.{PartSort, frequency, moment, count, weekday, ordinal, numbers, Key, key_named}
-use Rattle.json.specs.Tree.{Json}
+use Rattle.json_text.specs.Tree.{Json}
 use Rattle.values.specs.Recur.{is_word, is_integer, is_until, kind_is}
 
 -- one value of a part

@@ -3,7 +3,7 @@ use Rattle.std.specs.Prelude.{ℕ, List}
 use Prim.Native.Char.{code}
 use Rattle.octets.specs.Pieces.{joined}
 use Rattle.calendar.specs.Recurrence.{PartSort}
-use Rattle.json.specs.Tree.{Json, Items, Members}
+use Rattle.json_text.specs.Tree.{Json, Items, Members}
 use Rattle.values.specs.Recur.{item_texts, value_texts, member_texts}
 
 -- the values of an array, and what a part has

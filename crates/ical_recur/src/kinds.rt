@@ -2,7 +2,7 @@
 ghost use Rattle.std.specs.Prelude.{◌≡◌};
 ghost use Rattle.octets.specs.Basics.{all};
 ghost use Rattle.calendar.specs.Walk.{part_sort_said};
-ghost use Rattle.json.specs.Tree.{num, str};
+ghost use Rattle.json_text.specs.Tree.{num, str};
 ghost use Rattle.values.specs.Recur.{word_octet};
 ghost use Rattle.ical_recur.specs.Kinds.{item_is};
 

@@ -2,7 +2,7 @@
 ghost use Rattle.std.specs.Prelude.{◌≡◌};
 ghost use Rattle.octets.specs.Pen.{pen, Wrote};
 ghost use Rattle.calendar.specs.Walk.{part_sort_said};
-ghost use Rattle.json.specs.Tape.{tag_end};
+ghost use Rattle.json_text.specs.Tape.{tag_end};
 ghost use Rattle.tape.specs.Decode.{tag_at, value_at, items_at, members_at};
 ghost use Rattle.tape.specs.Promise.{Next, Left};
 ghost use Rattle.values.specs.Recur.{some_items, kind_is, kinds_are, string_text, item_text, member_text};

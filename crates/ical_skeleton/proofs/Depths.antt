@@ -12,8 +12,8 @@ use Rattle.octets.specs.Basics.{octets, ◌and◌, same}
 use Rattle.octets.specs.Limits.{most_open}
 use Rattle.octets.proofs.Cases.{same?, never}
 use Rattle.octets.specs.Optional.{is_some}
-use Rattle.json.specs.Tree.{Json, elements, element}
-use Rattle.json.specs.Tape.{tag_array, tag_end}
+use Rattle.json_text.specs.Tree.{Json, elements, element}
+use Rattle.json_text.specs.Tape.{tag_array, tag_end}
 use Rattle.tape.specs.Decode.{tag_at, value_at, list_at}
 use Rattle.tape.specs.Promise.{After, Next, TextAt}
 use Rattle.tape.specs.declared.Text.{Text}

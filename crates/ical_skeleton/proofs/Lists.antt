@@ -6,8 +6,8 @@ use mathlib.Core.Logic.{inl}
 use mathlib.Core.List.{List}
 use Rattle.octets.specs.Basics.{all}
 use Rattle.octets.specs.Optional.{holds}
-use Rattle.json.specs.Tree.{Json}
-use Rattle.json.specs.Tape.{tag_array, tag_end}
+use Rattle.json_text.specs.Tree.{Json}
+use Rattle.json_text.specs.Tape.{tag_array, tag_end}
 use Rattle.tape.specs.Decode.{tag_at, value_at, list_at}
 use Rattle.tape.specs.Promise.{After, Next}
 use Rattle.tape.proofs.Values.{no-array, list-end, list-next, list-first}

@@ -11,8 +11,8 @@ use Rattle.octets.specs.Basics.{octets, filled, same}
 use Rattle.octets.specs.Optional.{is_some, holds}
 use Rattle.octets.specs.Classes.{is_lower_name}
 use Rattle.octets.proofs.Cases.{same?, never, and-false-right, and-true-right}
-use Rattle.json.specs.Tree.{string?, object?, octets_of, elements}
-use Rattle.json.specs.Tape.{tag_string, tag_array, tag_object, tag_end}
+use Rattle.json_text.specs.Tree.{string?, object?, octets_of, elements}
+use Rattle.json_text.specs.Tape.{tag_string, tag_array, tag_object, tag_end}
 use Rattle.tape.specs.Decode.{tag_at, value_at, members_at}
 use Rattle.tape.specs.Promise.{After, Next, TextAt}
 use Rattle.tape.specs.declared.Text.{Text}

@@ -11,8 +11,8 @@ use lib.ListN.{length}
 use Rattle.octets.specs.Optional.{is_some, holds}
 use Rattle.octets.specs.Classes.{is_lower_name}
 use Rattle.octets.proofs.Cases.{never}
-use Rattle.json.specs.Tree.{string?, array?, object?, elements, element}
-use Rattle.json.specs.Tape.{tag_array, tag_end}
+use Rattle.json_text.specs.Tree.{string?, array?, object?, elements, element}
+use Rattle.json_text.specs.Tape.{tag_array, tag_end}
 use Rattle.tape.specs.Decode.{tag_at, value_at, list_at}
 use Rattle.tape.specs.Promise.{After, Next, Left}
 use Rattle.tape.proofs.Tags.{on-tape}

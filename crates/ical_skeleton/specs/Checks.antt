@@ -3,8 +3,8 @@ use Rattle.std.specs.Prelude.{ℕ, suc, ◌+◌, ◌≤◌, ◌≡◌, Bool, tru
 use Rattle.octets.specs.Optional.{holds}
 use Rattle.octets.specs.Classes.{is_lower_name}
 use Rattle.octets.specs.Limits.{most_open}
-use Rattle.json.specs.Tree.{string?, elements, element}
-use Rattle.json.specs.Tape.{tag_array}
+use Rattle.json_text.specs.Tree.{string?, elements, element}
+use Rattle.json_text.specs.Tape.{tag_array}
 use Rattle.tape.specs.Decode.{pop, view, tag_at, value_at, list_at}
 use Rattle.tape.specs.Promise.{Next}
 use Rattle.conversion_theory.specs.Tree.{levels}

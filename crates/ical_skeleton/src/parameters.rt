@@ -1,7 +1,7 @@
 // Names and parameters of the skeleton.
 ghost use Rattle.octets.specs.Optional.{holds};
 ghost use Rattle.octets.specs.Classes.{is_lower_name};
-ghost use Rattle.json.specs.Tree.{string?, object?};
+ghost use Rattle.json_text.specs.Tree.{string?, object?};
 ghost use Rattle.tape.specs.Decode.{value_at};
 ghost use Rattle.conversion_theory.specs.Skeleton.{is_json_string, is_list_of, is_parameter, are_parameters, is_property_name};
 ghost use Rattle.ical_skeleton.specs.Checks.{Checks};

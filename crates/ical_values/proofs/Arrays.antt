@@ -15,8 +15,8 @@ use Rattle.octets.specs.Pieces.{joined}
 use Rattle.octets.proofs.Cases.{cases, and-true-right, and-false-right}
 use Rattle.calendar.specs.Dates.{date_time_is, date_time_text}
 use Rattle.calendar.specs.Durations.{period_end_is, period_end_text, forward_is}
-use Rattle.json.specs.Tree.{Json, null, octets_of, array?}
-use Rattle.json.specs.Tape.{tag_array, tag_end}
+use Rattle.json_text.specs.Tree.{Json, null, octets_of, array?}
+use Rattle.json_text.specs.Tape.{tag_array, tag_end}
 use Rattle.tape.specs.Decode.{tag_at, value_at, list_at}
 use Rattle.tape.specs.Promise.{After, Next}
 use Rattle.tape.proofs.Values.{no-array, list-head, list-tail, list-end, list-first, list-next}

@@ -7,8 +7,8 @@ use native.Mathlib.Omega.{arith}
 use Rattle.octets.specs.Basics.{octets}
 use Rattle.octets.specs.Optional.{is_some, holds, given}
 use Rattle.octets.specs.Classes.{upper}
-use Rattle.json.specs.Tree.{null, num, str}
-use Rattle.json.specs.Tape.{tag_false, tag_true, tag_number, tag_string, tag_end}
+use Rattle.json_text.specs.Tree.{null, num, str}
+use Rattle.json_text.specs.Tape.{tag_false, tag_true, tag_number, tag_string, tag_end}
 use Rattle.tape.specs.Decode.{tag_at, text_at, value_at}
 use Rattle.tape.specs.Promise.{TextAt}
 use Rattle.tape.specs.declared.Text.{Text}

@@ -9,8 +9,8 @@ use Rattle.octets.specs.Optional.{holds}
 use Rattle.octets.specs.Classes.{between}
 use Rattle.octets.proofs.Cases.{and-false-right}
 use Rattle.types.specs.Codes as typed
-use Rattle.json.specs.Tree.{null, object?}
-use Rattle.json.specs.Tape.{tag_end}
+use Rattle.json_text.specs.Tree.{null, object?}
+use Rattle.json_text.specs.Tape.{tag_end}
 use Rattle.content.specs.Folding.{FoldPen, Folded}
 use Rattle.tape.specs.Decode.{tag_at, value_at, list_at}
 use Rattle.tape.specs.Promise.{After, Next, Left}

@@ -13,7 +13,7 @@ use lib.ListN.{get_or}
 use Rattle.octets.specs.Basics.{◌and◌, ◌or◌, all}
 use Rattle.octets.specs.Optional.{is_some, holds}
 use Rattle.octets.proofs.Cases.{both, either}
-use Rattle.json.specs.Tree.{Json, num, str, string?, number?, boolean?, array?, object?}
+use Rattle.json_text.specs.Tree.{Json, num, str, string?, number?, boolean?, array?, object?}
 use Rattle.values.specs.contracts.sorts.Sort.{the_type}
 use Rattle.values.specs.Coded.{sort_said}
 use Rattle.values.specs.Write.{is_string, is_lettered, is_number, is_array, value_is}

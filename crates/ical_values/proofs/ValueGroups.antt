@@ -9,8 +9,8 @@ use borrow.Author.Tests.{eqb-false}
 use Rattle.octets.specs.Basics.{◌or◌, all, filled, single}
 use Rattle.octets.specs.Pieces.{joined}
 use Rattle.octets.proofs.Cases.{never, same?, and-false-right, and-true-right, or-false-right, or_true_right}
-use Rattle.json.specs.Tree.{Json, null, list_of_items}
-use Rattle.json.specs.Tape.{tag_end}
+use Rattle.json_text.specs.Tree.{Json, null, list_of_items}
+use Rattle.json_text.specs.Tape.{tag_end}
 use Rattle.tape.specs.Decode.{other_items, tag_at, value_at, items_at, list_at}
 use Rattle.tape.specs.Promise.{After, Next, Left}
 use Rattle.content.specs.Folding.{FoldPen, Folded}

@@ -3,7 +3,7 @@ use Rattle.std.specs.Prelude.{ℕ, Bool, true, false, List, map, ltb, length}
 use Prim.Native.Char.{code}
 use Rattle.octets.specs.Basics.{◌and◌, all}
 use Rattle.octets.specs.Pieces.{joined}
-use Rattle.json.specs.Tree.{Json, elements}
+use Rattle.json_text.specs.Tree.{Json, elements}
 use Rattle.values.specs.Sorts.{Sort, plain, binary, boolean, date, date_time, duration, float, geo, integer, period, recur, text, status, time, utc_offset}
 use Rattle.values.specs.Write.{is_array, value_is, value_text}
 

@@ -5,7 +5,7 @@ use Rattle.octets.specs.Basics.{◌and◌, ◌or◌, all, single}
 use Rattle.octets.specs.Pen.{FrontKept}
 use Rattle.octets.specs.Pieces.{joined}
 use Rattle.content.specs.Folding.{FoldPen, folding, Folded}
-use Rattle.json.specs.Tree.{Json}
+use Rattle.json_text.specs.Tree.{Json}
 use Rattle.tape.specs.Decode.{value_at, list_at}
 use Rattle.tape.specs.Promise.{Next, Left}
 use Rattle.values.specs.Sorts.{Sort}

@@ -4,7 +4,7 @@ ghost use Rattle.octets.specs.Classes.{upper};
 ghost use Rattle.calendar.specs.Durations.{period_end_is, period_end_text};
 ghost use Rattle.calendar.specs.Texts.{form_is, form_text};
 ghost use Rattle.content.specs.Folding.{folding};
-ghost use Rattle.json.specs.Tree.{num, str};
+ghost use Rattle.json_text.specs.Tree.{num, str};
 ghost use Rattle.values.specs.Coded.{sort_said};
 ghost use Rattle.values.specs.Write.{value_is, value_text};
 ghost use Rattle.ical_values.specs.Valued.{FoldedIf};

@@ -2,7 +2,7 @@
 ghost use Rattle.std.specs.Prelude.{◌≡◌, true};
 ghost use Rattle.content.specs.Folding.{folding};
 ghost use Rattle.tape.specs.Decode.{tag_at};
-ghost use Rattle.json.specs.Tape.{tag_number, tag_string};
+ghost use Rattle.json_text.specs.Tape.{tag_number, tag_string};
 ghost use Rattle.values.specs.Sorts.{boolean, period};
 ghost use Rattle.values.specs.Coded.{sort_said};
 ghost use Rattle.ical_values.specs.Parts.{simple};

@@ -3,7 +3,7 @@ ghost use Rattle.std.specs.Prelude.{◌≡◌, true, false};
 ghost use Rattle.octets.specs.Basics.{◌and◌};
 ghost use Rattle.content.specs.Folding.{folding};
 ghost use Rattle.tape.specs.Decode.{tag_at};
-ghost use Rattle.json.specs.Tape.{tag_end};
+ghost use Rattle.json_text.specs.Tape.{tag_end};
 ghost use Rattle.values.specs.Sorts.{sort_splits};
 ghost use Rattle.values.specs.Write.{value_is, value_text};
 ghost use Rattle.values.specs.Coded.{sort_said};

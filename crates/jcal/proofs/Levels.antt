@@ -9,8 +9,8 @@ use Rattle.octets.specs.Basics.{octets, all}
 use Rattle.octets.specs.Answers.{Answer, refused, accepted}
 use Rattle.octets.proofs.Cases.{never, both}
 use Rattle.octets.proofs.Answers.{not-accepted, accepted-same, then-accepted}
-use Rattle.json.specs.Tree.{Json, Items, no_items, item, items_of}
-use Rattle.json.specs.Print.{print, first_item, more_items}
+use Rattle.json_text.specs.Tree.{Json, Items, no_items, item, items_of}
+use Rattle.json_text.specs.Print.{print, first_item, more_items}
 use Rattle.content.specs.Line.{Line}
 use Rattle.conversion_theory.specs.Tree.{Property, leaf, grow, levels, levels_in}
 use Rattle.conversion_theory.specs.Structure.{Event, begins, ends, carries, stray}

@@ -7,7 +7,7 @@ use lib.ListN.{length, drop}
 use Rattle.octets.specs.Basics.{octets, ◌and◌}
 use Rattle.octets.specs.Answers.{Answer}
 use Rattle.octets.proofs.Cases.{never, both, and_assoc, and-true-right}
-use Rattle.json.specs.Tree.{items_of}
+use Rattle.json_text.specs.Tree.{items_of}
 use Rattle.content.specs.Line.{Line}
 use Rattle.conversion_theory.specs.Tree.{Property}
 use Rattle.conversion_theory.specs.Structure.{Event, begins, ends, carries, stray}

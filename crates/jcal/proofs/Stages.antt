@@ -18,7 +18,7 @@ use Rattle.octets.specs.declared.Converted.TheVariants.{Written, Refused}
 use Rattle.octets.proofs.Cases.{never}
 use Rattle.octets.proofs.Positions.{upto}
 use Rattle.octets.proofs.Answers.{not-accepted, accepted-same, finished-answer, refused-alike}
-use Rattle.json.specs.Print.{print}
+use Rattle.json_text.specs.Print.{print}
 use Rattle.types.specs.Rows.{table_of}
 use Rattle.types.specs.Table.{Table}
 use Rattle.types.specs.Laid.{table_in, laid_of, room_for_rows}

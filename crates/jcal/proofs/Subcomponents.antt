@@ -9,7 +9,7 @@ use Rattle.octets.specs.Basics.{octets, all}
 use Rattle.octets.specs.Pen.{Pen, pen, Wrote}
 use Rattle.octets.specs.Answers.{Answer, refused, number}
 use Rattle.octets.proofs.Pen.{then, as-text, Leads, leads-start, leads-on, leads-same, leads-last}
-use Rattle.json.specs.Print.{print}
+use Rattle.json_text.specs.Print.{print}
 use Rattle.content.specs.Line.{Line}
 use Rattle.conversion_theory.specs.Tree.{Property, Component, levels, levels_in}
 use Rattle.conversion_theory.specs.Structure.{Event, begins, ends}

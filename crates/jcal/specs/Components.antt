@@ -2,8 +2,8 @@
 use Rattle.std.specs.Prelude.{ℕ, zero, suc, Bool, true, false, List, [], ◌∷◌, ◌++◌, map}
 use Rattle.octets.specs.Basics.{octets, pick}
 use Rattle.octets.specs.Answers.{Answer, refused, accepted, then}
-use Rattle.json.specs.Tree.{Items, items_of}
-use Rattle.json.specs.Print.{first_item, more_items, print_string}
+use Rattle.json_text.specs.Tree.{Items, items_of}
+use Rattle.json_text.specs.Print.{first_item, more_items, print_string}
 use Rattle.content.specs.Line.{Line}
 use Rattle.conversion_theory.specs.Tree.{Property, property, Component, component}
 use Rattle.conversion_theory.specs.Structure.{Event, begins, ends, carries, stray}

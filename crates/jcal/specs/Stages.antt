@@ -1,7 +1,7 @@
 -- The conversion from each of its tests on, as the code goes from one to the next.
 use Rattle.std.specs.Prelude.{ℕ, List}
 use Rattle.octets.specs.Answers.{Answer, accepted, then}
-use Rattle.json.specs.Print.{print}
+use Rattle.json_text.specs.Print.{print}
 use Rattle.content.specs.Line.{Line}
 use Rattle.conversion_theory.specs.Tree.{Property}
 use Rattle.conversion_theory.specs.Structure.{Event, structured}

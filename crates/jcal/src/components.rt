@@ -3,7 +3,7 @@ ghost use Rattle.std.specs.Prelude.{◌≡◌, true, false, ◌++◌, ◌+◌, �
 ghost use Rattle.octets.specs.Basics.{octets};
 ghost use Rattle.octets.specs.Pen.{pen, Wrote};
 ghost use Rattle.octets.specs.Answers.{outcome, answer};
-ghost use Rattle.json.specs.Print.{print};
+ghost use Rattle.json_text.specs.Print.{print};
 ghost use Rattle.types.specs.Laid.{table_in};
 ghost use Rattle.content.specs.Line.{line_of};
 ghost use Rattle.content.specs.Reading.{room_for_lines};

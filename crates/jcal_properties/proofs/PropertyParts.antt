@@ -20,8 +20,8 @@ use Rattle.octets.proofs.Classes.{same-is, name-lower as name-lowers}
 use Rattle.octets.proofs.Answers.{not-accepted}
 use Rattle.octets.proofs.Pen.{then as behind, as-text, front-behind as kept-behind}
 use Rattle.octets.proofs.Positions.{upto, from}
-use Rattle.json.specs.Tree.{Json, obj}
-use Rattle.json.specs.Print.{quoted, print_string, print, first_item, more_items, first_member, values_json}
+use Rattle.json_text.specs.Tree.{Json, obj}
+use Rattle.json_text.specs.Print.{quoted, print_string, print, first_item, more_items, first_member, values_json}
 use Rattle.types.specs.Codes.{unprocessed, binary, type_name}
 use Rattle.types.specs.Table.{Row, Table, find}
 use Rattle.types.proofs.Types.{name-lower, nameless}

@@ -8,8 +8,8 @@ use Rattle.octets.specs.Classes.{lower}
 use Rattle.octets.specs.Optional.{map?}
 use Rattle.octets.specs.Answers.{Answer, refused, accepted, or_else, unless, number}
 use Rattle.octets.specs.Pen.{Pen, pen, Wrote, FrontKept}
-use Rattle.json.specs.Tree.{Json}
-use Rattle.json.specs.Print.{print, print_string, values_json}
+use Rattle.json_text.specs.Tree.{Json}
+use Rattle.json_text.specs.Print.{print, print_string, values_json}
 use Rattle.types.specs.Table.{Row, Table, find}
 use Rattle.content.specs.Line.{Param, Line, line_of}
 use Rattle.content.specs.Parameters.{without_value, staying}

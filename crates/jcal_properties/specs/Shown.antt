@@ -4,8 +4,8 @@ use Rattle.std.proofs.Math.Option.{Option, none}
 use Rattle.octets.specs.Basics.{octets}
 use Rattle.octets.specs.Classes.{lower}
 use Rattle.octets.specs.Answers.{Answer, refused, accepted}
-use Rattle.json.specs.Tree.{obj}
-use Rattle.json.specs.Print.{print, print_string}
+use Rattle.json_text.specs.Tree.{obj}
+use Rattle.json_text.specs.Print.{print, print_string}
 use Rattle.content.specs.Line.{Param}
 use Rattle.content.specs.Parameters.{without_value, staying, members_of}
 

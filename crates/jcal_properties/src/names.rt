@@ -1,9 +1,9 @@
 // Names in lowercase as JSON strings.
 ghost use Rattle.octets.specs.Classes.{lower};
 ghost use Rattle.octets.specs.Pen.{pen, Wrote};
-ghost use Rattle.json.specs.Print.{print_string};
+ghost use Rattle.json_text.specs.Print.{print_string};
 
-use json::put_escaped;
+use json_text::put_escaped;
 use octets::{is_name, lower_octet, put, put_lower};
 
 // Writes a text in lowercase as a string, octet by octet.

@@ -5,7 +5,7 @@ ghost use Rattle.octets.specs.Classes.{lower};
 ghost use Rattle.octets.specs.Basics.{pick};
 ghost use Rattle.octets.specs.Answers.{refused, accepted, then};
 ghost use Rattle.octets.specs.Pen.{pen, Wrote};
-ghost use Rattle.json.specs.Print.{print_string};
+ghost use Rattle.json_text.specs.Print.{print_string};
 ghost use Rattle.types.specs.Laid.{table_in, row_found};
 ghost use Rattle.content.specs.Parts.{params_in};
 ghost use Rattle.content.specs.Parameters.{name_twice};

@@ -14,8 +14,8 @@ use Rattle.octets.specs.Optional.{map?, when, guard}
 use Rattle.octets.specs.Pen.{Pen, pen, Wrote}
 use Rattle.octets.proofs.Pen.{then, as-text, front-behind, front-wrote}
 use Rattle.values.specs.TextWalk.{texts, texts_from}
-use Rattle.json.specs.Tree.{Json, str, arr, items_of}
-use Rattle.json.specs.Print.{quoted, print_string, print, first_item, values_json}
+use Rattle.json_text.specs.Tree.{Json, str, arr, items_of}
+use Rattle.json_text.specs.Print.{quoted, print_string, print, first_item, values_json}
 use Rattle.values.specs.Read.{two_or_three, read_status}
 use Rattle.values.proofs.Arrays.{items-json}
 use Rattle.values.proofs.TextWalk.{fields-walked}

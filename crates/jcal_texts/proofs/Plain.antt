@@ -16,8 +16,8 @@ use Rattle.octets.proofs.Classes.{as-is-plain}
 use Rattle.octets.proofs.Pen.{nothing, then, Leads, leads-start, leads-on, leads-last, front-wrote}
 use Rattle.octets.proofs.Positions.{here, ended, part-rest}
 use Rattle.octets.proofs.Runs.{run-passes}
-use Rattle.json.specs.Tree.{Json, str}
-use Rattle.json.specs.Print.{escaped, quoted, print_string, print}
+use Rattle.json_text.specs.Tree.{Json, str}
+use Rattle.json_text.specs.Print.{escaped, quoted, print_string, print}
 use Rattle.values.specs.Read.{read_plain}
 use Rattle.jcal_texts.proofs.TextRuns.{quoted-run}
 

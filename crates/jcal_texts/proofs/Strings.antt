@@ -5,7 +5,7 @@ use mathlib.Core.Path.{◌≡◌}
 use mathlib.Core.List.{List, [], ◌∷◌, ◌++◌, map}
 use lib.ListN.{length, get_or, drop}
 use Rattle.octets.proofs.Positions.{here, ended}
-use Rattle.json.specs.Print.{escaped, quoted}
+use Rattle.json_text.specs.Print.{escaped, quoted}
 
 module _ (f : ℕ → ℕ) (s : List ℕ) (i : ℕ) where
   pub mapped-on : i < length s → quoted (map f (drop i s)) ≡ escaped (f (get_or s i 0)) ++ quoted (map f (drop (i + 1) s))

@@ -22,8 +22,8 @@ use Rattle.octets.proofs.Classes.{as-is-plain}
 use Rattle.octets.proofs.Pen.{nothing, then, Leads, leads-start, leads-on, leads-last, front-wrote}
 use Rattle.octets.proofs.Positions.{here, ended, part-rest, past_end}
 use Rattle.values.specs.TextWalk.{Act, add, next, escape, stop, act, escapes, done, texts_from}
-use Rattle.json.specs.Tree.{str}
-use Rattle.json.specs.Print.{escaped, quoted, print_string, print, values_json}
+use Rattle.json_text.specs.Tree.{str}
+use Rattle.json_text.specs.Print.{escaped, quoted, print_string, print, values_json}
 use Rattle.jcal_texts.specs.Trying.{WroteTexts, StandsFor, StepsAt}
 use Rattle.jcal_texts.specs.declared.Texts.TheVariants.{Written, Invalid as NoTexts}
 use Rattle.jcal_texts.specs.declared.Step.TheVariants.{Octet, Separator, Invalid as Wrong}

@@ -6,8 +6,8 @@ use Rattle.octets.specs.Optional.{map?}
 use Rattle.octets.specs.Pen.{Pen, pen, Wrote, FrontKept}
 use Rattle.octets.specs.Pieces.{onto}
 use Rattle.values.specs.TextWalk.{add, stop, act, texts_from}
-use Rattle.json.specs.Tree.{str}
-use Rattle.json.specs.Print.{quoted, values_json}
+use Rattle.json_text.specs.Tree.{str}
+use Rattle.json_text.specs.Print.{quoted, values_json}
 use Rattle.jcal_texts.specs.declared.Attempt.{Attempt}
 use Rattle.jcal_texts.specs.declared.Attempt.TheVariants.{Written, Invalid}
 use Rattle.jcal_texts.specs.declared.Texts.{Texts}

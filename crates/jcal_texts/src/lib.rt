@@ -9,12 +9,12 @@ ghost use Rattle.octets.specs.Optional.{map?, guard};
 ghost use Rattle.octets.specs.Pen.{pen, Wrote};
 ghost use Rattle.octets.specs.Search.{ClassRun};
 ghost use Rattle.values.specs.TextWalk.{texts_from, texts};
-ghost use Rattle.json.specs.Tree.{str};
-ghost use Rattle.json.specs.Print.{print_string, print, values_json};
+ghost use Rattle.json_text.specs.Tree.{str};
+ghost use Rattle.json_text.specs.Print.{print_string, print, values_json};
 ghost use Rattle.values.specs.Read.{read_plain, read_status};
 ghost use Rattle.jcal_texts.specs.Trying.{Tried, WroteTexts, StandsFor, StepsAt};
 
-use json::put_escaped;
+use json_text::put_escaped;
 use octets::{Class, is_plain_octet, long_run_end, peek, put, put_all, upper_octet};
 
 // What a writer that tests answers: where the next octet goes, or that the value does not stand.

@@ -7,7 +7,7 @@ use Rattle.octets.specs.Optional.{map?, each}
 use Rattle.octets.specs.Classes.{between}
 use Rattle.types.specs.Codes as typed
 use Rattle.values.specs.TextWalk.{texts}
-use Rattle.json.specs.Tree.{str}
+use Rattle.json_text.specs.Tree.{str}
 use Rattle.values.specs.Sorts.{Sort, plain, binary, boolean, date, date_time, duration, float, geo, integer, period, recur, text, status, time, utc_offset, sort_splits, is_text}
 use Rattle.values.specs.Read.{read_one, values_in, read_values}
 use Rattle.values.proofs.TextWalk.{texts-read}

@@ -21,8 +21,8 @@ use Rattle.calendar.specs.declared.texts.Form.{Form}
 use Rattle.calendar.specs.declared.texts.ShortText.{ShortText}
 use Rattle.calendar.proofs.Fixed.{says_none, says_some, form_for}
 use Rattle.calendar.proofs.Readback.{form-fitted}
-use Rattle.json.specs.Tree.{Json, str}
-use Rattle.json.specs.Print.{print_string, print}
+use Rattle.json_text.specs.Tree.{Json, str}
+use Rattle.json_text.specs.Print.{print_string, print}
 use Rattle.jcal_values.proofs.Quoting.{quoted-bare, bare-class}
 
 -- a place that takes such octets alone

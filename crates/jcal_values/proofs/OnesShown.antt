@@ -16,8 +16,8 @@ use Rattle.calendar.specs.Dates.{date_time_of}
 use Rattle.calendar.specs.Durations.{duration_is, duration_of, forward_is, period_end_of}
 use Rattle.calendar.specs.Walk.{before_first}
 use Rattle.calendar.proofs.Pieces.{split-upper}
-use Rattle.json.specs.Tree.{Json, num, str, arr, truth, falsity, no_items, item}
-use Rattle.json.specs.Print.{print_string, print, first_item, more_items}
+use Rattle.json_text.specs.Tree.{Json, num, str, arr, truth, falsity, no_items, item}
+use Rattle.json_text.specs.Print.{print_string, print, first_item, more_items}
 use Rattle.values.specs.Simple.{binary_is, boolean_of, float_of, integer_of}
 use Rattle.values.specs.Read.{read_binary, as_string, as_number, geo_of, read_geo, period_of, read_period}
 use Rattle.values.specs.Shown.{behind_first, string_shown, boolean_shown, float_shown, array_shown, geo_shown, end_shown, period_shown, is_pair}

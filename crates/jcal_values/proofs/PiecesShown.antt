@@ -14,8 +14,8 @@ use Rattle.octets.proofs.Pieces.{split-filled}
 use Rattle.octets.proofs.Positions.{from, upto}
 use Rattle.calendar.specs.Walk.{before_first}
 use Rattle.calendar.proofs.Pieces.{before-take, split-more, split-last, scanned}
-use Rattle.json.specs.Tree.{Json, arr, items_of}
-use Rattle.json.specs.Print.{print, first_item, values_json}
+use Rattle.json_text.specs.Tree.{Json, arr, items_of}
+use Rattle.json_text.specs.Print.{print, first_item, values_json}
 use Rattle.values.specs.Shown.{list_shown}
 use Rattle.values.proofs.Arrays.{items-json}
 

@@ -12,8 +12,8 @@ use Rattle.octets.specs.Optional.{is_some, given}
 use Rattle.octets.proofs.Cases.{cases, never, both, apart}
 use Rattle.calendar.specs.Texts.{octets_in, text_said, Says}
 use Rattle.calendar.specs.declared.texts.ShortText.{ShortText}
-use Rattle.json.specs.Print.{quoted, print_string}
-use Rattle.json.proofs.Quotes.{escaped-bare}
+use Rattle.json_text.specs.Print.{quoted, print_string}
+use Rattle.json_text.proofs.Quotes.{escaped-bare}
 use Rattle.octets.specs.Groups.{as_is_octet}
 use Rattle.values.specs.Shown.{string_shown}
 

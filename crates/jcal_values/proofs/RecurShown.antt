@@ -27,8 +27,8 @@ use Rattle.calendar.proofs.Octets.{item_octet}
 use Rattle.calendar.proofs.Pieces.{before-all, split-more, split-last, comma-uncased, semicolon-uncased, split-upper}
 use Rattle.calendar.proofs.WrittenItems.{item-shown}
 use Rattle.calendar.proofs.RuleParts.{read_part, read_parts, rule-parts, walked}
-use Rattle.json.specs.Tree.{Json, arr, obj, items_of}
-use Rattle.json.specs.Print.{print_string, print_key, print, first_member, more_members}
+use Rattle.json_text.specs.Tree.{Json, arr, obj, items_of}
+use Rattle.json_text.specs.Print.{print_string, print_key, print, first_member, more_members}
 use Rattle.content.specs.Parameters.{plain_or}
 use Rattle.values.specs.Recur.{item_json, part_members, recur_of}
 use Rattle.values.specs.Shown.{string_shown, item_json_shown, list_shown, items_shown, key_shown, part_json_shown, recur_shown}

@@ -8,8 +8,8 @@ use Rattle.octets.specs.Optional.{is_some}
 use Rattle.octets.specs.Pen.{Pen, pen, Wrote}
 use Rattle.octets.proofs.Optional.{some_is, none_is}
 use Rattle.octets.proofs.Pen.{as-text, front-wrote}
-use Rattle.json.specs.Tree.{Json}
-use Rattle.json.specs.Print.{print}
+use Rattle.json_text.specs.Tree.{Json}
+use Rattle.json_text.specs.Print.{print}
 use Rattle.jcal_texts.specs.Trying.{Tried}
 use Rattle.jcal_texts.specs.declared.Attempt.{Attempt}
 use Rattle.jcal_values.specs.Attempts.{answered}

@@ -19,8 +19,8 @@ use Rattle.octets.proofs.Pen.{nothing, then, Leads, leads-start, leads-on, leads
 use Rattle.octets.proofs.Pieces.{split-filled}
 use Rattle.octets.proofs.Positions.{from, upto}
 use Rattle.calendar.proofs.Pieces.{before-le}
-use Rattle.json.specs.Tree.{Json}
-use Rattle.json.specs.Print.{print, values_json}
+use Rattle.json_text.specs.Tree.{Json}
+use Rattle.json_text.specs.Print.{print, values_json}
 use Rattle.jcal_texts.specs.Trying.{Tried}
 use Rattle.jcal_texts.specs.declared.Attempt.TheVariants.{Invalid}
 use Rattle.jcal_texts.proofs.Reading.{Going, going_start, going_on}

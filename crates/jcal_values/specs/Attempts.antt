@@ -4,8 +4,8 @@ use Rattle.std.proofs.Math.Option.{Option, none}
 use Rattle.octets.specs.Basics.{pick, ◌or◌, single}
 use Rattle.octets.specs.Optional.{then?, guard}
 use Rattle.octets.specs.Pen.{Pen}
-use Rattle.json.specs.Tree.{Json}
-use Rattle.json.specs.Print.{values_json}
+use Rattle.json_text.specs.Tree.{Json}
+use Rattle.json_text.specs.Print.{values_json}
 use Rattle.content.specs.Reading.{room_for_lines}
 use Rattle.values.specs.Base64.{text_sent}
 use Rattle.values.specs.Sorts.{Sort}

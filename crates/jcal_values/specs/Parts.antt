@@ -6,7 +6,7 @@ use Rattle.octets.specs.Basics.{octets, pick}
 use Rattle.octets.specs.Pieces.{split}
 use Rattle.calendar.specs.Recurrence.{PartSort}
 use Rattle.calendar.specs.Walk.{before_first, item_shown}
-use Rattle.json.specs.Tree.{Json}
+use Rattle.json_text.specs.Tree.{Json}
 use Rattle.values.specs.Sorts.{Sort, is_text}
 use Rattle.values.specs.Read.{read_one}
 use Rattle.values.specs.Shown.{list_shown}

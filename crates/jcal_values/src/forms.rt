@@ -4,15 +4,15 @@ ghost use Rattle.octets.specs.Classes.{upper};
 ghost use Rattle.octets.specs.Optional.{map?};
 ghost use Rattle.octets.specs.Pen.{pen, Wrote};
 ghost use Rattle.calendar.specs.Texts.{form_of, octets_in};
-ghost use Rattle.json.specs.Tree.{str};
-ghost use Rattle.json.specs.Print.{print_string, print};
+ghost use Rattle.json_text.specs.Tree.{str};
+ghost use Rattle.json_text.specs.Print.{print_string, print};
 ghost use Rattle.values.specs.Shown.{string_shown, end_shown, period_shown};
 ghost use Rattle.jcal_texts.specs.Trying.{Tried};
 
 use calendar::parts::find;
 use calendar::texts::{Form, ShortText, extended, is_basic};
 use jcal_texts::{Attempt, put_upper_string};
-use json::put_string;
+use json_text::put_string;
 use octets::{put, put_all};
 use values::simple::past;
 

@@ -3,7 +3,7 @@ ghost use Rattle.std.specs.Prelude.{◌≡◌};
 ghost use Rattle.octets.specs.Basics.{◌or◌, single};
 ghost use Rattle.octets.specs.Optional.{is_some, guard, each};
 ghost use Rattle.octets.specs.Pen.{pen};
-ghost use Rattle.json.specs.Print.{values_json};
+ghost use Rattle.json_text.specs.Print.{values_json};
 ghost use Rattle.values.specs.Sorts.{sort_splits};
 ghost use Rattle.values.specs.Read.{read_values};
 ghost use Rattle.values.specs.Coded.{sort_said};

@@ -1,7 +1,7 @@
 // One value by itself, by its sort, tested and written as jCal has it.
 ghost use Rattle.std.specs.Prelude.{◌≡◌};
 ghost use Rattle.octets.specs.Pen.{pen};
-ghost use Rattle.json.specs.Print.{print};
+ghost use Rattle.json_text.specs.Print.{print};
 ghost use Rattle.values.specs.Coded.{sort_said};
 ghost use Rattle.jcal_values.specs.Parts.{read_alone};
 ghost use Rattle.jcal_texts.specs.Trying.{Tried};
@@ -13,7 +13,7 @@ use calendar::durations::is_duration;
 use calendar::rules::is_rule;
 use calendar::texts::Form;
 use jcal_texts::{Attempt, put_tested_plain, put_tested_status, put_upper_string};
-use json::put_string;
+use json_text::put_string;
 use octets::put_integer_text;
 use values::Sort;
 use values::simple::{

@@ -2,7 +2,7 @@
 // y_ is JSON, n_ is none, i_ is decided by 01; q_ is written as a JSON string and read back.
 use crate::parts::behind;
 use console::rest_is;
-use json::Parsed;
+use json_text::Parsed;
 
 // Octets of the tape of the longest text.
 const MOST_TAPE: usize = 2 * octets::MOST_TEXT + 2;
@@ -25,7 +25,7 @@ fn checksum(s: &[u8]) -> u32 {
 
 // A tape that is an octet too short is answered as such, and zeroed.
 fn short_is_told(text: &[u8], tape: &mut [u8]) -> bool {
-    match json::parse(text, tape) {
+    match json_text::parse(text, tape) {
         Parsed::NoRoom => rest_is(tape, 0, 0),
         Parsed::Tape(_) => false,
         Parsed::TooDeep => false,
@@ -60,7 +60,7 @@ fn refused(tape: &[u8], why: &[u8]) -> bool {
 
 fn is_read(text: &[u8]) -> bool {
     let mut tape = [BLANK; MOST_TAPE];
-    match json::parse(text, &mut tape) {
+    match json_text::parse(text, &mut tape) {
         Parsed::Tape(n) => accepted(text, &mut tape, n),
         Parsed::TooDeep => refused(&tape, b" too deep"),
         Parsed::NotJson => refused(&tape, b" not JSON"),
@@ -71,7 +71,7 @@ fn is_read(text: &[u8]) -> bool {
 // Writes the octets as a JSON string, and reads that.
 fn is_quoted(s: &[u8]) -> bool {
     let mut out = [0u8; MOST_TAPE];
-    let n = json::put_string(&mut out, 0, s);
+    let n = json_text::put_string(&mut out, 0, s);
     if MOST_TAPE < n {
         return false;
     }

@@ -5,7 +5,7 @@ use Rattle.octets.specs.Answers.{accepted}
 use Rattle.types.specs.Codes.{date_time}
 use Rattle.types.specs.Table.{entry, Table, defaults}
 use Rattle.types.specs.Rows.{table_of, Keeps}
-use Rattle.json.specs.Tree.{str}
+use Rattle.json_text.specs.Tree.{str}
 use Rattle.content.specs.Line.{line_of}
 use Rattle.content.specs.Lines.{lines_of}
 use Rattle.conversion_theory.specs.Tree.{property, Component, component, leaf}

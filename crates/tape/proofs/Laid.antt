@@ -10,12 +10,12 @@ use Rattle.octets.specs.Basics.{◌and◌}
 use Rattle.octets.specs.Search.{until}
 use Rattle.octets.proofs.Cases.{and_assoc, and-true-right}
 use Rattle.octets.proofs.Positions.{upto}
-use Rattle.json.specs.Tree.{Json, str, Items, no_items, item, Members, no_members, member}
-use Rattle.json.specs.Tape.{tag_end, ser_text, ser, ser_items, ser_members}
+use Rattle.json_text.specs.Tree.{Json, str, Items, no_items, item, Members, no_members, member}
+use Rattle.json_text.specs.Tape.{tag_end, ser_text, ser, ser_items, ser_members}
 use Rattle.tape.specs.Sound.{has_lone, distinct_keys, sound, sound_items, sound_members}
 use Rattle.tape.specs.Decode.{group, push, paired, text_at_front, in_text, groups, view, value_at}
 use Rattle.tape.specs.Scan.{sound_along, sound_tape}
-use Rattle.json.proofs.Fine.{Clean, clean_end, clean, Fine, f-null, f-false, f-true, f-num, f-str, f-arr, f-obj, FineItems, f-none, f-item, FineMembers, f-empty, f-member}
+use Rattle.json_text.proofs.Fine.{Clean, clean_end, clean, Fine, f-null, f-false, f-true, f-num, f-str, f-arr, f-obj, FineItems, f-none, f-item, FineMembers, f-empty, f-member}
 use Rattle.tape.proofs.Values.{shown, string-octets}
 
 -- a text and what stands behind it

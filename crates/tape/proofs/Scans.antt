@@ -11,8 +11,8 @@ use lib.Seq.{drop-drop}
 use Rattle.octets.specs.Basics.{pick, ◌and◌, ◌or◌, all, same}
 use Rattle.octets.specs.Search.{until}
 use Rattle.octets.proofs.Cases.{cases, both, and-true-right, and-false-right, or_true_right}
-use Rattle.json.specs.Tree.{member}
-use Rattle.json.specs.Tape.{tag_number, tag_string, tag_object, tag_end}
+use Rattle.json_text.specs.Tree.{member}
+use Rattle.json_text.specs.Tape.{tag_number, tag_string, tag_object, tag_end}
 use Rattle.tape.specs.Sound.{has_lone, has_key, distinct_keys}
 use Rattle.tape.specs.Decode.{top, paired, groups, in_text, view, tag_at, text_at, value_at, items_at, members_at, text_at_front}
 use Rattle.tape.specs.Promise.{After, Next, TextAt}

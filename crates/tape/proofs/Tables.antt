@@ -11,8 +11,8 @@ use Rattle.octets.specs.declared.tables.Entering.{Entering}
 use Rattle.octets.specs.declared.tables.Entering.TheVariants.{Seen, Stored, Full}
 use Rattle.octets.proofs.Classes.{exact}
 use Rattle.octets.proofs.Slots.{Noting, noting-start, noting-end, noting-twice, noting-seen, noting-full, noting-stored}
-use Rattle.json.specs.Tree.{Members, no_members, member}
-use Rattle.json.specs.Tape.{tag_end}
+use Rattle.json_text.specs.Tree.{Members, no_members, member}
+use Rattle.json_text.specs.Tape.{tag_end}
 use Rattle.tape.specs.Sound.{has_key, distinct_keys}
 use Rattle.tape.specs.Decode.{tag_at, members_at}
 use Rattle.tape.specs.declared.Text.{Text}

@@ -12,8 +12,8 @@ use lib.Seq.{drop-cons, drop-drop}
 use Rattle.octets.specs.Search.{until}
 use Rattle.octets.proofs.Cases.{cases}
 use Rattle.octets.proofs.Search.{scan-is, scan-high}
-use Rattle.json.specs.Tree.{Json, num, str, arr, obj, no_items}
-use Rattle.json.specs.Tape.{tag_number, tag_string, tag_array, tag_object, tag_end}
+use Rattle.json_text.specs.Tree.{Json, num, str, arr, obj, no_items}
+use Rattle.json_text.specs.Tape.{tag_number, tag_string, tag_array, tag_object, tag_end}
 use Rattle.tape.specs.Decode.{Groups, last, group, top, pop, push, text_at_front, leaf, in_text, into_groups, groups, view, tag_at, text_at, items_at, members_at}
 
 -- a place lies on the tape or past it

@@ -12,8 +12,8 @@ use lib.ListN.{drop, get_or}
 use lib.Seq.{drop-nil}
 use Rattle.octets.specs.Optional.{given}
 use Rattle.octets.proofs.Cases.{same?}
-use Rattle.json.specs.Tree.{Json, null, falsity, truth, num, str, arr, obj, Items, no_items, item, no_members, member, string?, number?, boolean?, array?, object?, list_of_items, octets_of, elements, members}
-use Rattle.json.specs.Tape.{tag_null, tag_false, tag_true, tag_number, tag_string, tag_array, tag_object, tag_end}
+use Rattle.json_text.specs.Tree.{Json, null, falsity, truth, num, str, arr, obj, Items, no_items, item, no_members, member, string?, number?, boolean?, array?, object?, list_of_items, octets_of, elements, members}
+use Rattle.json_text.specs.Tape.{tag_null, tag_false, tag_true, tag_number, tag_string, tag_array, tag_object, tag_end}
 use Rattle.tape.specs.Decode.{Groups, last, group, head_item, other_items, paired, valued, top, pop, push, skip_value, leaf, into_groups, view, tag_at, text_at, value_at, items_at, list_at, members_at}
 use Rattle.tape.specs.Promise.{Next}
 use Rattle.tape.proofs.Tags.{on-or-past, on-tape, past-view, on-view, Shows, at-array, at-object, at-number, at-string, at_other, end-top}

@@ -11,8 +11,8 @@ use lib.Dec.{eqb}
 use lib.ListN.{length, get_or}
 use Rattle.octets.specs.Optional.{given}
 use Rattle.octets.proofs.Cases.{cases}
-use Rattle.json.specs.Tree.{Json, null, arr, obj, Items, no_items, array?, object?, octets_of, elements, element, members}
-use Rattle.json.specs.Tape.{tag_number, tag_string, tag_array, tag_object, tag_end}
+use Rattle.json_text.specs.Tree.{Json, null, arr, obj, Items, no_items, array?, object?, octets_of, elements, element, members}
+use Rattle.json_text.specs.Tape.{tag_number, tag_string, tag_array, tag_object, tag_end}
 use Rattle.tape.specs.Decode.{Groups, last, group, other_items, top, pop, skip_value, view, tag_at, text_at, value_at, items_at, list_at, members_at}
 use Rattle.tape.specs.Promise.{After, Leaf, Next, Left, TextAt}
 use Rattle.tape.proofs.Tags.{on-tape, past-tag, past-view, Shows, at-array, at-object, at-number, at-string, at_other, end-pop, end-top, text-part, text-within}

@@ -3,8 +3,8 @@
 use Rattle.std.specs.Prelude.{ℕ, Bool, true, false, not, List, [], ◌∷◌, eqb, drop, get_or}
 use Rattle.octets.specs.Basics.{pick, ◌or◌}
 use Rattle.octets.specs.Search.{until}
-use Rattle.json.specs.Tree.{Json, null, falsity, truth, num, str, arr, obj, Items, no_items, item, Members, no_members, member, list_of_items, octets_of}
-use Rattle.json.specs.Tape.{tag_false, tag_true, tag_number, tag_string, tag_array, tag_object, tag_end}
+use Rattle.json_text.specs.Tree.{Json, null, falsity, truth, num, str, arr, obj, Items, no_items, item, Members, no_members, member, list_of_items, octets_of}
+use Rattle.json_text.specs.Tape.{tag_false, tag_true, tag_number, tag_string, tag_array, tag_object, tag_end}
 
 -- a group's first value, null where there is none, and the others
 abbrev pub head_item : Items → Json

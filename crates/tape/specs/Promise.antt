@@ -1,7 +1,7 @@
 -- What the walks over a tape promise of the places that they answer.
 use Rattle.std.specs.Prelude.{ℕ, ◌+◌, ◌-◌, ◌≤◌, ◌<◌, ◌≡◌, List, length, take, drop}
-use Rattle.json.specs.Tree.{octets_of}
-use Rattle.json.specs.Tape.{tag_array, tag_object, tag_end}
+use Rattle.json_text.specs.Tree.{octets_of}
+use Rattle.json_text.specs.Tape.{tag_array, tag_object, tag_end}
 use Rattle.tape.specs.Decode.{pop, skip_value, view, tag_at, value_at}
 use Rattle.tape.specs.declared.Text.{Text}
 

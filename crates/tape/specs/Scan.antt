@@ -1,7 +1,7 @@
 -- The test `sound` as one scan along the octets of a tape: at each string its octets, at each object its keys.
 use Rattle.std.specs.Prelude.{ℕ, ◌+◌, ◌≤◌, ◌<◌, ◌≡◌, Bool, true, false, not, List, [], ◌∷◌, eqb, length, drop}
 use Rattle.octets.specs.Basics.{pick, ◌and◌, ◌or◌}
-use Rattle.json.specs.Tape.{tag_string, tag_object}
+use Rattle.json_text.specs.Tape.{tag_string, tag_object}
 use Rattle.tape.specs.Sound.{has_lone, distinct_keys}
 use Rattle.tape.specs.Decode.{top, paired, text_at_front, in_text, groups, text_at}
 use Rattle.tape.specs.Promise.{After}

@@ -1,7 +1,7 @@
 -- No duplicate key and no lone surrogate, anywhere in a JSON value (01, Values, number 12).
 use Rattle.std.specs.Prelude.{ℕ, Bool, true, false, not, List, [], ◌∷◌, eqb, leb}
 use Rattle.octets.specs.Basics.{◌and◌, ◌or◌, same}
-use Rattle.json.specs.Tree.{Json, null, falsity, truth, num, str, arr, obj, Items, no_items, item, Members, no_members, member}
+use Rattle.json_text.specs.Tree.{Json, null, falsity, truth, num, str, arr, obj, Items, no_items, item, Members, no_members, member}
 
 -- A lone surrogate is three octets of which the first is ED and the second A0 or more (RFC 3629 3); p is the octet before.
 unfoldable pub has_lone : ℕ → List ℕ → Bool

@@ -4,8 +4,8 @@ use Prim.Native.Char.{code}
 use mathlib.Core.Path.{◌≡◌, refl, sym, ap}
 use mathlib.Core.List.{List, [], ◌∷◌, ◌++◌, append_assoc}
 use Rattle.octets.specs.Basics.{octets}
-use Rattle.json.specs.Tree.{Json, items_of}
-use Rattle.json.specs.Print.{print, more_items, values_json}
+use Rattle.json_text.specs.Tree.{Json, items_of}
+use Rattle.json_text.specs.Print.{print, more_items, values_json}
 
 pub items-json : (vs : List Json) → more_items (items_of vs) ≡ values_json vs ++ octets "]"
 unfolding more_items items_of values_json

@@ -18,7 +18,7 @@ use Rattle.calendar.specs.Dates.{date_is, time_is, date_time_is, offset_is, date
 use Rattle.calendar.specs.Durations.{duration_is, period_end_is, period_end_text}
 use Rattle.calendar.specs.Recurrence.{parts_text}
 use Rattle.calendar.proofs.WrittenRules.{text-capital}
-use Rattle.json.specs.Tree.{Json, null, falsity, truth, num, str, arr, obj, Members, string?, number?, boolean?, array?, object?, list_of_items, octets_of, elements}
+use Rattle.json_text.specs.Tree.{Json, null, falsity, truth, num, str, arr, obj, Members, string?, number?, boolean?, array?, object?, list_of_items, octets_of, elements}
 use Rattle.content.proofs.WrittenOctets.{printable, joined-has}
 use Rattle.values.specs.Sorts.{Sort, plain, binary, boolean, date, date_time, duration, float, geo, integer, period, recur, text, status, time, utc_offset, sort_splits}
 use Rattle.values.specs.Texts.{text_is, text_text}

@@ -13,10 +13,10 @@ use Rattle.octets.specs.Utf8.{Due, start, due, due_after, is_start, utf8}
 use Rattle.octets.proofs.Cases.{never, both, neither, and-true}
 use Rattle.octets.proofs.Classes.{between-true}
 use Rattle.octets.proofs.Utf8.{ascii, ascii-utf8}
-use Rattle.json.specs.Tree.{Json, null, falsity, truth, num, str, arr, obj, Items, no_items, item, Members, no_members, member, string?, number?, array?, object?, list_of_items, octets_of, elements, element, members}
-use Rattle.json.proofs.Outs.{by}
-use Rattle.json.proofs.Surrogates.{is_ed, loose_due, loose_after, loose, ed-next}
-use Rattle.json.proofs.Decoding.{Decoded, d-null, d-false, d-true, d-num, d-str, d-arr, d-obj, DecodedItems, d-none, d-item, DecodedMembers, d-empty, d-member}
+use Rattle.json_text.specs.Tree.{Json, null, falsity, truth, num, str, arr, obj, Items, no_items, item, Members, no_members, member, string?, number?, array?, object?, list_of_items, octets_of, elements, element, members}
+use Rattle.json_text.proofs.Outs.{by}
+use Rattle.json_text.proofs.Surrogates.{is_ed, loose_due, loose_after, loose, ed-next}
+use Rattle.json_text.proofs.Decoding.{Decoded, d-null, d-false, d-true, d-num, d-str, d-arr, d-obj, DecodedItems, d-none, d-item, DecodedMembers, d-empty, d-member}
 use Rattle.tape.specs.Sound.{has_lone, distinct_keys, sound, sound_items, sound_members}
 
 -- without a lone surrogate the loose step is UTF-8's

@@ -22,7 +22,7 @@ use Rattle.calendar.specs.Dates.{date_of, time_of, date_time_of, offset_of, date
 use Rattle.calendar.specs.Durations.{duration_of, duration_is, period_end_of, period_end_is, period_end_text}
 use Rattle.calendar.specs.declared.texts.Form.TheVariants.{Date, Time, DateTime, Offset}
 use Rattle.calendar.proofs.Readback.{capital, capital-upper, capital-printable, Returned, form-returned, duration-returned, period-end-returned}
-use Rattle.json.specs.Tree.{Json, falsity, truth, str, arr, no_items, item, string?, number?, boolean?, array?, list_of_items, octets_of, elements}
+use Rattle.json_text.specs.Tree.{Json, falsity, truth, str, arr, no_items, item, string?, number?, boolean?, array?, list_of_items, octets_of, elements}
 use Rattle.values.specs.Sorts.{Sort, plain, binary, boolean, date, date_time, duration, period, time, utc_offset}
 use Rattle.values.specs.Simple.{binary_is, boolean_of, boolean_text}
 use Rattle.values.specs.Read.{read_plain, read_binary, as_string, period_of, read_period}

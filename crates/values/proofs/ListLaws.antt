@@ -14,7 +14,7 @@ use Rattle.octets.proofs.Cases.{and-true, never, all-All, All-all}
 use Rattle.octets.proofs.Optional.{each_none, each-is}
 use Rattle.octets.proofs.Pieces.{Free, split-joined, split-free, split-filled, joined-split}
 use Rattle.octets.proofs.Utf8.{ascii}
-use Rattle.json.specs.Tree.{Json}
+use Rattle.json_text.specs.Tree.{Json}
 use Rattle.content.proofs.WrittenClean.{clean-joined}
 use Rattle.values.specs.Sorts.{Sort, sort_splits}
 use Rattle.values.specs.Read.{read_values}

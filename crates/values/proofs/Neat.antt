@@ -15,11 +15,11 @@ use Rattle.octets.proofs.Cases.{cases, never, both, and-true, or-false, apart-no
 use Rattle.octets.proofs.Classes.{above-between, plain-text}
 use Rattle.octets.proofs.Utf8.{ascii, broken-stays, utf8-both, utf8-ascii, low-utf8}
 use Rattle.octets.proofs.Transducer.{Runs, Keeps, run-utf8}
-use Rattle.json.specs.Tree.{Json, null, falsity, truth, num, str, arr, obj, Items, no_items, item, Members, no_members, member, items_of}
-use Rattle.json.specs.Reads.{ok}
-use Rattle.json.specs.Numbers.{number_read}
-use Rattle.json.specs.Print.{escaped, quoted, print_string, print_key, print, first_item, more_items, first_member, more_members}
-use Rattle.json.proofs.Printing.{Printable, p-null, p-false, p-true, p-num, p-str, p-arr, p-obj, PrintableItems, p-none, p-item, PrintableMembers, p-empty, p-member, fit_octet, text-fit, depth, depth_items, depth_members}
+use Rattle.json_text.specs.Tree.{Json, null, falsity, truth, num, str, arr, obj, Items, no_items, item, Members, no_members, member, items_of}
+use Rattle.json_text.specs.Reads.{ok}
+use Rattle.json_text.specs.Numbers.{number_read}
+use Rattle.json_text.specs.Print.{escaped, quoted, print_string, print_key, print, first_item, more_items, first_member, more_members}
+use Rattle.json_text.proofs.Printing.{Printable, p-null, p-false, p-true, p-num, p-str, p-arr, p-obj, PrintableItems, p-none, p-item, PrintableMembers, p-empty, p-member, fit_octet, text-fit, depth, depth_items, depth_members}
 use Rattle.tape.specs.Sound.{has_lone, distinct_keys, sound, sound_items, sound_members}
 
 -- UTF-8 without control characters but tab and newline

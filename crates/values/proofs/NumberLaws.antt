@@ -23,9 +23,9 @@ use Rattle.octets.proofs.Optional.{missing, when-is, map_is, both_is}
 use Rattle.octets.proofs.Pieces.{Free, split-last, split-joined, split-filled, joined-split}
 use Rattle.octets.proofs.Utf8.{printable-clean}
 use Rattle.octets.proofs.Decimal.{DigitFirst, digits-first, digits-all, trim-twice, trim_digits, unsigned-minus_if, minus-minus_if, all-minus_if, integer-minus, integer-unsigned, integer-value, integer-twice}
-use Rattle.json.specs.Tree.{Json, num, arr, no_items, item, string?, number?, array?, list_of_items, octets_of, elements}
-use Rattle.json.specs.Reads.{ok}
-use Rattle.json.specs.Numbers.{NumberPlace, start, minus as signed, zero as nought, int, point, frac, behind_int, first_digit, advance, is_beyond, number_ends, scan, number_read}
+use Rattle.json_text.specs.Tree.{Json, num, arr, no_items, item, string?, number?, array?, list_of_items, octets_of, elements}
+use Rattle.json_text.specs.Reads.{ok}
+use Rattle.json_text.specs.Numbers.{NumberPlace, start, minus as signed, zero as nought, int, point, frac, behind_int, first_digit, advance, is_beyond, number_ends, scan, number_read}
 use Rattle.tape.proofs.Values.{number-octets}
 use Rattle.values.specs.Sorts.{Sort, float, geo, integer}
 use Rattle.values.specs.Simple.{pointed, float_of, in_range, integer_of}

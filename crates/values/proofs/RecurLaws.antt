@@ -27,7 +27,7 @@ use Rattle.calendar.proofs.Octets.{item_octet}
 use Rattle.calendar.proofs.Readback.{capital-upper, moment-returned}
 use Rattle.calendar.proofs.RuleParts.{read_part, read_parts, rule-parts, named-found}
 use Rattle.calendar.proofs.WrittenRules.{item-again, value-octets, parts_again, text-upper, text-clean}
-use Rattle.json.specs.Tree.{Json, num, str, obj, string?, number?, array?, object?, items_of}
+use Rattle.json_text.specs.Tree.{Json, num, str, obj, string?, number?, array?, object?, items_of}
 use Rattle.tape.specs.Sound.{has_key, distinct_keys}
 use Rattle.content.specs.Parameters.{plain_or}
 use Rattle.values.specs.Sorts.{recur}

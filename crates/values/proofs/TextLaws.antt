@@ -19,7 +19,7 @@ use Rattle.octets.proofs.Optional.{some_same, when-is, map_is, both_is, guard-is
 use Rattle.octets.proofs.Utf8.{ascii, ascii-high}
 use Rattle.octets.proofs.Transducer.{Runs, Keeps, run-all, run-utf8}
 use Rattle.octets.proofs.Classes.{text-plain}
-use Rattle.json.specs.Tree.{Json, str, arr, string?, number?, array?, items_of, list_of_items, octets_of, elements}
+use Rattle.json_text.specs.Tree.{Json, str, arr, string?, number?, array?, items_of, list_of_items, octets_of, elements}
 use Rattle.values.specs.Sorts.{text, status}
 use Rattle.values.specs.Texts.{escapes_next, bare_from, bare_split, unescaped_octet, unescaped_from, unescaped, fields, text_is, escaped_octet, text_text}
 use Rattle.values.specs.Read.{two_or_three, read_status, read_text}

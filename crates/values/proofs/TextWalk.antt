@@ -11,7 +11,7 @@ use Rattle.octets.specs.Pieces.{onto, cut}
 use Rattle.octets.specs.Optional.{map?, both?, when, each}
 use Rattle.octets.specs.Classes.{plain_octet}
 use Rattle.octets.proofs.Cases.{cases, same?, never}
-use Rattle.json.specs.Tree.{str}
+use Rattle.json_text.specs.Tree.{str}
 use Rattle.values.specs.Sorts.{text, is_text}
 use Rattle.values.specs.Texts.{escapes_next, bare_from, bare_split, unescaped_octet, unescaped_from, unescaped, fields}
 use Rattle.values.specs.TextWalk.{Act, add, next, escape, stop, act, escapes, done, texts_from, texts}

@@ -16,7 +16,7 @@ use Rattle.octets.proofs.Optional.{guard-is, when_true}
 use Rattle.calendar.specs.Dates.{date_of, time_of, date_time_of, offset_of}
 use Rattle.calendar.specs.Durations.{duration_of}
 use Rattle.types.specs.Codes as typed
-use Rattle.json.specs.Tree.{Json, str, string?, number?, octets_of}
+use Rattle.json_text.specs.Tree.{Json, str, string?, number?, octets_of}
 use Rattle.values.specs.Sorts.{Sort, plain, binary, boolean, date, date_time, duration, float, geo, integer, period, recur, text, status, time, utc_offset, sort_of, is_text, sort_splits}
 use Rattle.values.specs.Texts.{bare_split}
 use Rattle.values.specs.Simple.{boolean_of, float_of, integer_of}

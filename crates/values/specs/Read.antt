@@ -8,7 +8,7 @@ use Rattle.octets.specs.Optional.{map?, both?, when, guard, each}
 use Rattle.octets.specs.Classes.{plain_octet, upper}
 use Rattle.calendar.specs.Dates.{date_of, time_of, date_time_of, offset_of}
 use Rattle.calendar.specs.Durations.{duration_of, period_end_of}
-use Rattle.json.specs.Tree.{Json, num, str, arr, no_items, item, items_of}
+use Rattle.json_text.specs.Tree.{Json, num, str, arr, no_items, item, items_of}
 use Rattle.values.specs.Sorts.{Sort, plain, binary, boolean, date, date_time, duration, float, geo, integer, period, recur, text, status, time, utc_offset, sort_of, is_text, sort_splits}
 use Rattle.values.specs.Texts.{bare_split, unescaped, fields}
 use Rattle.values.specs.Simple.{binary_is, boolean_of, float_of, integer_of}

@@ -9,7 +9,7 @@ use Rattle.octets.specs.Classes.{is_letter, is_digit, is_lower_name, upper, lowe
 use Rattle.octets.specs.Decimal.{is_sign, integer_text}
 use Rattle.calendar.specs.Dates.{moment_of, moment_is, moment_text}
 use Rattle.calendar.specs.Recurrence.{PartSort, frequency, moment, count, weekday, ordinal, numbers, Key, key_named, Part, parts_of, parts_text}
-use Rattle.json.specs.Tree.{Json, num, str, obj, Items, no_items, item, Members, no_members, member, string?, number?, array?}
+use Rattle.json_text.specs.Tree.{Json, num, str, obj, Items, no_items, item, Members, no_members, member, string?, number?, array?}
 use Rattle.content.specs.Parameters.{plain_or}
 use Rattle.values.specs.Simple.{integer_of}
 

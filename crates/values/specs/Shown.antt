@@ -10,7 +10,7 @@ use Rattle.octets.specs.Decimal.{minus, unsigned, trim, minus_if}
 use Rattle.calendar.specs.Dates.{date_time_of, moment_of}
 use Rattle.calendar.specs.Recurrence.{PartSort, frequency, moment, count, weekday, ordinal, numbers}
 use Rattle.calendar.specs.Walk.{before_first, key_at, first_part, item_shown}
-use Rattle.json.specs.Print.{print_string}
+use Rattle.json_text.specs.Print.{print_string}
 
 -- what lies behind the first `sep`
 unfoldable pub behind_first : ℕ → List ℕ → List ℕ

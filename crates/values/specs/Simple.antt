@@ -8,7 +8,7 @@ use Rattle.octets.specs.Optional.{or?, when}
 use Rattle.octets.specs.Classes.{is_letter, is_digit}
 use Rattle.octets.specs.Decimal.{digits, value_of, minus, unsigned, trim, minus_if, integer_text}
 use Rattle.octets.specs.Limits.{most_integer}
-use Rattle.json.specs.Tree.{Json, falsity, truth}
+use Rattle.json_text.specs.Tree.{Json, falsity, truth}
 
 unfoldable pub base64_octet : ℕ → Bool
 base64_octet c = is_letter c or is_digit c or eqb c (code "+") or eqb c (code "/")

@@ -9,7 +9,7 @@ use Rattle.octets.specs.Classes.{plain_octet, upper}
 use Rattle.octets.specs.Decimal.{integer_text}
 use Rattle.calendar.specs.Dates.{date_is, time_is, date_time_is, offset_is, date_text, time_text, date_time_text, offset_text}
 use Rattle.calendar.specs.Durations.{duration_is, period_end_is, period_end_text}
-use Rattle.json.specs.Tree.{Json, string?, number?, boolean?, array?, object?, list_of_items, octets_of, elements}
+use Rattle.json_text.specs.Tree.{Json, string?, number?, boolean?, array?, object?, list_of_items, octets_of, elements}
 use Rattle.values.specs.Sorts.{Sort, plain, binary, boolean, date, date_time, duration, float, geo, integer, period, recur, text, status, time, utc_offset, sort_splits}
 use Rattle.values.specs.Texts.{text_is, text_text}
 use Rattle.values.specs.Simple.{binary_is, boolean_text, float_of, integer_of}

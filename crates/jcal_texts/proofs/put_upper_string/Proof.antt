@@ -7,7 +7,7 @@ use borrow.Author.Rules.{rules}
 use Rattle.octets.proofs.Pen.{then, Leads, leads-start, leads-on, leads-last}
 use Rattle.octets.specs.Classes.{upper_octet, upper}
 use Rattle.octets.specs.Pen.{pen}
-use Rattle.json.specs.Print.{quoted, print_string}
+use Rattle.json_text.specs.Print.{quoted, print_string}
 use Rattle.jcal_texts.proofs.Strings.{mapped-on, mapped_end}
 use Rattle.jcal_texts.proofs.put_upper_string.Statement.{statement}
 use Rattle.jcal_texts.proofs.put_upper_string.Tie as tie

@@ -9,7 +9,7 @@ use Rattle.octets.specs.Groups.{param_as_is}
 use Rattle.octets.specs.Search.{ClassRun}
 use Rattle.octets.proofs.Runs.{run-found}
 use Rattle.content.specs.Carets.{decoded, decoded_from}
-use Rattle.json.specs.Print.{quoted}
+use Rattle.json_text.specs.Print.{quoted}
 use Rattle.octets.proofs.Pen.{Leads, leads-start, leads-on, leads-last, then}
 use Rattle.octets.specs.Pen.{pen}
 use Rattle.content.proofs.Decoding.{value-start, value_none, value-last, value_on, takes-some, takes-few}

@@ -5,7 +5,7 @@ use mathlib.Core.List.{◌++◌}
 use mathlib.Core.Path.{◌≡◌, sym}
 use Prim.Native.Nat.{◌-◌}
 use borrow.Author.Rules.{rules}
-use Rattle.json.specs.Print.{quoted}
+use Rattle.json_text.specs.Print.{quoted}
 use Rattle.octets.proofs.Pen.{Leads, leads-on, leads-last, then, as-text}
 use Rattle.octets.specs.Pen.{pen}
 use Rattle.octets.specs.Classes.{lower}

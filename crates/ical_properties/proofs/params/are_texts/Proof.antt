@@ -7,7 +7,7 @@ use borrow.Author.Tests.{not-true, not-false}
 use lib.ListN.{length}
 use Rattle.octets.specs.Basics.{all}
 use Rattle.octets.specs.Classes.{text_octet}
-use Rattle.json.specs.Tree.{octets_of}
+use Rattle.json_text.specs.Tree.{octets_of}
 use Rattle.tape.specs.Decode.{list_at}
 use Rattle.ical_properties.proofs.Parameters.{values-of, texts-end, texts-next, texts-on, texts-off, texts-none}
 use borrow.Author.Rules.{rules}

@@ -4,7 +4,7 @@ use mathlib.Core.Path.{◌≡◌, refl, sym, ap, ◌∙◌}
 use mathlib.Core.List.{map}
 use native.Mathlib.Omega.{arith}
 use lib.ListN.{length}
-use Rattle.json.specs.Tree.{octets_of}
+use Rattle.json_text.specs.Tree.{octets_of}
 use Rattle.tape.specs.Decode.{list_at}
 use Rattle.content.specs.Write.{more_values}
 use Rattle.content.specs.Folding.{folding}

@@ -2,7 +2,7 @@
 use borrow.Author.Rules.{rules}
 use Rattle.octets.specs.Optional.{holds}
 use Rattle.calendar.specs.Walk.{part_sort_said}
-use Rattle.json.specs.Tree.{string?, number?}
+use Rattle.json_text.specs.Tree.{string?, number?}
 use Rattle.values.specs.Recur.{is_word, is_integer, is_until}
 use Rattle.ical_recur.specs.Kinds.{item_is}
 use Rattle.ical_recur.proofs.kinds.string_is.Tie as tie

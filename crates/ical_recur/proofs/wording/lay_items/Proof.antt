@@ -8,7 +8,7 @@ use borrow.Author.Rules.{rules}
 use Rattle.octets.proofs.Pen.{nothing, then, kept, front_same, front-behind, Leads, leads-start, leads-on, leads-last}
 use Rattle.octets.specs.Pen.{pen, Wrote}
 use Rattle.calendar.specs.Walk.{part_sort_said}
-use Rattle.json.specs.Tape.{tag_end}
+use Rattle.json_text.specs.Tape.{tag_end}
 use Rattle.tape.proofs.Tags.{on-tape}
 use Rattle.tape.proofs.Walks.{Along, along-start, along-next, along-end}
 use Rattle.tape.specs.Decode.{tag_at, items_at}

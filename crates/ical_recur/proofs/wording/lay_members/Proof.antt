@@ -7,7 +7,7 @@ use lib.ListN.{length}
 use borrow.Author.Rules.{rules}
 use Rattle.octets.proofs.Pen.{as-text, nothing, then, kept, front-behind, Leads, leads-start, leads-on, leads-last}
 use Rattle.octets.specs.Pen.{pen, Wrote}
-use Rattle.json.specs.Tape.{tag_end}
+use Rattle.json_text.specs.Tape.{tag_end}
 use Rattle.tape.proofs.Scans.{Keyed, member-on}
 use Rattle.tape.specs.Decode.{tag_at, members_at}
 use Rattle.values.specs.Recur.{kinds_are}

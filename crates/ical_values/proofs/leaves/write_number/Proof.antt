@@ -2,7 +2,7 @@
 use Rattle.ical_values.proofs.Sorts.{no_number}
 use Rattle.values.specs.Write.{is_number, value_is, value_text}
 use Rattle.values.specs.Coded.{sort_said}
-use Rattle.json.specs.Tree.{string?, number?, octets_of}
+use Rattle.json_text.specs.Tree.{string?, number?, octets_of}
 use Rattle.octets.proofs.Pen.{front_same}
 use Rattle.octets.specs.Optional.{holds, given}
 use borrow.Author.Tests.{not-true, not-false}

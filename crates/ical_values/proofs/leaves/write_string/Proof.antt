@@ -4,7 +4,7 @@ use Rattle.values.specs.Write.{is_string, is_lettered, value_is, value_text}
 use Rattle.values.specs.Coded.{sort_said}
 use Rattle.octets.proofs.Pen.{front_same}
 use Rattle.octets.specs.Optional.{holds, given}
-use Rattle.json.specs.Tree.{string?, number?, octets_of}
+use Rattle.json_text.specs.Tree.{string?, number?, octets_of}
 use mathlib.Core.Path.{sym, ◌∙◌}
 use borrow.Author.Tests.{not-true, not-false}
 use borrow.Author.Rules.{rules}

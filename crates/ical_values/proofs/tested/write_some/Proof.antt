@@ -9,7 +9,7 @@ use Rattle.tape.proofs.Walks.{Along, along-next, along-end}
 use Rattle.tape.specs.Decode.{tag_at, list_at}
 use Rattle.octets.specs.Pieces.{joined}
 use Rattle.octets.proofs.Pen.{kept, front-behind, front-wrote}
-use Rattle.json.specs.Tape.{tag_end}
+use Rattle.json_text.specs.Tape.{tag_end}
 use lib.ListN.{length}
 use borrow.Author.Tests.{not-true, not-false}
 use native.Mathlib.Omega.{arith}

@@ -4,7 +4,7 @@ use mathlib.Core.Path.{ap}
 use borrow.Author.Rules.{rules}
 use Rattle.octets.proofs.Pen.{then, as-text}
 use Rattle.octets.specs.Basics.{octets}
-use Rattle.json.specs.Print.{print_string}
+use Rattle.json_text.specs.Print.{print_string}
 use Rattle.jcal.specs.Events.{name_from}
 use Rattle.jcal.specs.Components.{name_text}
 use Rattle.jcal.proofs.OpenComponents.{name-part}

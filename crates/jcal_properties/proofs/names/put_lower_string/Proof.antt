@@ -7,7 +7,7 @@ use lib.ListN.{length, drop}
 use Rattle.octets.proofs.Pen.{Leads, leads-on, leads-last, then}
 use Rattle.octets.specs.Classes.{lower_octet, lower}
 use Rattle.octets.specs.Pen.{pen}
-use Rattle.json.specs.Print.{quoted, print_string}
+use Rattle.json_text.specs.Print.{quoted, print_string}
 use Rattle.jcal_texts.proofs.Strings.{mapped-on, mapped_end}
 use Rattle.jcal_properties.proofs.names.put_lower_string.Statement.{statement}
 use Rattle.jcal_properties.proofs.names.put_lower_string.Tie as tie

@@ -1,7 +1,7 @@
 -- `jcal_properties::property::put_default` meets its contract.
 use borrow.Author.Rules.{rules}
 use Rattle.octets.proofs.Pen.{then, as-text}
-use Rattle.json.specs.Print.{print_string, quoted, escaped}
+use Rattle.json_text.specs.Print.{print_string, quoted, escaped}
 use Rattle.types.specs.Laid.{row_found}
 use Rattle.conversion_theory.specs.Property.{type_of}
 use Rattle.jcal_properties.proofs.PropertyParts.{type-quoted}

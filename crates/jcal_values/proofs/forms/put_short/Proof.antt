@@ -3,7 +3,7 @@ use borrow.Author.Rules.{rules}
 use mathlib.Core.Path.{ap}
 use Rattle.octets.proofs.Pen.{as-text}
 use Rattle.octets.proofs.Positions.{upto}
-use Rattle.json.specs.Print.{print_string}
+use Rattle.json_text.specs.Print.{print_string}
 use Rattle.jcal_values.proofs.forms.put_short.Statement.{statement}
 use Rattle.jcal_values.proofs.forms.put_short.Tie as tie
 

@@ -7,7 +7,7 @@ use lib.ListN.{length, take, drop}
 use borrow.Author.Tests.{not-true, not-false}
 use Rattle.octets.specs.Pen.{pen}
 use Rattle.octets.proofs.Pen.{then}
-use Rattle.json.specs.Print.{print}
+use Rattle.json_text.specs.Print.{print}
 use Rattle.values.specs.Sorts.{sort_splits}
 use Rattle.values.specs.Coded.{sort_said}
 use Rattle.jcal_values.specs.Parts.{read_alone}

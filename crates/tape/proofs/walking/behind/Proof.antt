@@ -3,7 +3,7 @@ use mathlib.Core.Path.{sym, ◌∙◌}
 use mathlib.Core.Logic.{inl, inr, ⊎_elim}
 use native.Mathlib.Omega.{arith}
 use borrow.Author.Rules.{rules}
-use Rattle.json.specs.Tape.{tag_array}
+use Rattle.json_text.specs.Tape.{tag_array}
 use Rattle.tape.proofs.Walks.{one_of, none_of, next_past, next-end, next-group}
 use Rattle.tape.proofs.walking.behind.Statement.{statement}
 use Rattle.tape.proofs.walking.behind.Tie as tie

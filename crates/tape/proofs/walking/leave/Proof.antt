@@ -5,7 +5,7 @@ use mathlib.Core.Logic.{inl, inr, ⊎_elim}
 use native.Mathlib.Omega.{arith}
 use borrow.Author.Rules.{rules}
 use lib.ListN.{length}
-use Rattle.json.specs.Tape.{tag_array}
+use Rattle.json_text.specs.Tape.{tag_array}
 use Rattle.tape.specs.Decode.{pop, view}
 use Rattle.tape.proofs.Tags.{read-tag, end-pop}
 use Rattle.tape.proofs.Walks.{one_of, none_of, pops, pops-one, leave-past, leave-end, leave-group, leave-next}

@@ -1,7 +1,7 @@
 -- `tape::walking::past_leaf` meets its contract.
 use mathlib.Core.Logic.{inl, inr, ⊎_elim}
 use borrow.Author.Rules.{rules}
-use Rattle.json.specs.Tape.{tag_number}
+use Rattle.json_text.specs.Tape.{tag_number}
 use Rattle.tape.proofs.Walks.{one_of, none_of, next-text, next-other}
 use Rattle.tape.proofs.walking.past_leaf.Statement.{statement}
 use Rattle.tape.proofs.walking.past_leaf.Tie as tie

@@ -2,7 +2,7 @@
 use mathlib.Core.Logic.{inl, inr, ⊎_elim}
 use native.Mathlib.Omega.{arith}
 use borrow.Author.Rules.{rules}
-use Rattle.json.specs.Tape.{tag_number}
+use Rattle.json_text.specs.Tape.{tag_number}
 use Rattle.tape.proofs.Walks.{Begins, one_of, none_of, begins-in, text-found, text-missing}
 use Rattle.tape.proofs.walking.text_at.Statement.{statement}
 use Rattle.tape.proofs.walking.text_at.Tie as tie
