@@ -1,11 +1,10 @@
 -- The values of BYDAY and BYMONTHDAY, gathered one after another, as the code reads them.
 use Prim.Native.Nat.{ℕ, ◌+◌, ◌-◌, ◌*◌, ◌≤◌, ◌<◌, min}
 use mathlib.Core.Path.{◌≡◌, refl, sym, ap, ◌∙◌}
-use mathlib.Core.Bool.{Bool, true, false}
+use mathlib.Core.Bool.{true, false}
 use mathlib.Core.List.{List, ◌∷◌}
-use mathlib.Core.Logic.{◌⊎◌, inl, inr}
 use native.Mathlib.Omega.{arith}
-use borrow.Author.Tests.{eq-eqb, ne_eqb, le-leb, lt-leb, leb-true, leb-false}
+use borrow.Author.Tests.{eq-eqb, ne_eqb, lt-leb, leb-true, leb-false}
 use lib.Dec.{eqb, leb}
 use lib.ListN.{length, get_or, take, drop}
 use lib.Seq.{drop-drop}
@@ -94,17 +93,6 @@ module _ (b : ByDays) (s : List ℕ) (at n : ℕ) (u : unsigned s ≡ drop at s)
     month-day-nth t w = rw (exact, within-between 1 31 n l h, ← p, t, w)
 
 -- the week from the end, as the code chooses it
-pub week-is : {A B : Type 0} (n w : ℕ) → (A → n ≤ 5) → (B → 5 < n) → ((A × (w ≡ 5 - n)) ⊎ (B × (w ≡ 5))) → w ≡ pick (leb n 5) (5 - n) 5
-week-is n w f g (inl a) = rw (le-leb n 5 (f a.0)) a.1
-week-is n w f g (inr b) = rw (lt-leb n 5 (g b.0)) b.1
-
-pub week-small : (n w : ℕ) → w ≡ pick (leb n 5) (5 - n) 5 → w ≤ 5
-week-small n w e = rw e (by (leb n 5))
-  where
-    by : (t : Bool) → pick t (5 - n) 5 ≤ 5
-    by true = omega arith
-    by false = omega arith
-
 -- one value of BYDAY; its weekday begins at a, and n is the number in front, at most 6
 module _ (b : ByDays) (s : List ℕ) (a at n : ℕ) (i : a ≡ length s - 2) (u : unsigned (take (a - 0) (drop 0 s)) ≡ drop at (take (a - 0) (drop 0 s)))
     (m : n ≡ min (value_of (take (length (take (a - 0) (drop 0 s)) - at) (drop at (take (a - 0) (drop 0 s))))) (5 + 1))
