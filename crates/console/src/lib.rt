@@ -1,4 +1,4 @@
-// What the converters' programs share: a file that may be there, and a conversion's answer on standard output.
+// What the converters' programs share: standard input, a file that may be there, and a conversion's answer on standard output.
 #![tactic(auto)]
 
 ghost use Rattle.std.specs.Prelude.{◌≡◌, ◌≤◌, eqb, length, drop};
@@ -6,6 +6,9 @@ ghost use Rattle.octets.specs.Answers.{outcome};
 ghost use Rattle.octets.specs.Basics.{all};
 
 use octets::Converted;
+use std::io::{ErrorKind, Read};
+use std::rt::Files;
+use std::{fs, io};
 
 // Octets that are read of standard input: one more than the longest text that is not refused.
 pub const ROOM_FOR_TEXT: usize = octets::MOST_TEXT + 1;
@@ -13,31 +16,64 @@ pub const ROOM_FOR_TEXT: usize = octets::MOST_TEXT + 1;
 // Octets that are read of rows.hex: one more than the longest file that is not refused, of lines with 34 octets in hexadecimal.
 pub const ROOM_FOR_FILE: usize = 69 * octets::MOST_ROWS + 1;
 
+// Reads standard input as far as there is room for a text.
+pub fn read_text<R: Input + Alloc>(rt: &R) -> io::Result<Vec<u8, R::A>> {
+    let mut text = Vec::new(rt.alloc());
+    rt.reader()
+        .take(ROOM_FOR_TEXT as u64)
+        .read_to_end(&mut text)?;
+    Ok(text)
+}
+
 // Reads a file as far as there is room, and answers its length; 0 where there is none. Of a file that is there and cannot be read it makes the octet 0 alone,
-// which is no row and no text. A file is not there only where the system says so of its name.
-pub fn load(path: &[u8], buf: &mut [u8]) -> usize
+// which is no row and no text. A file is not there only where the system says so of its name, so a path that is not UTF-8 cannot be read.
+pub fn load<R: Files>(rt: &R, path: &[u8], buf: &mut [u8]) -> usize
     ensures { result ≤ length buf.new }
 {
-    let fd = os::open_read(path);
-    if fd < 0 {
-        if os::errno() == libc::ENOENT {
-            return 0;
-        }
+    let Ok(name) = str::from_utf8(path) else {
         return unreadable(buf);
+    };
+    match fs::open(rt, name) {
+        Ok(mut file) => load_open(&mut file, buf),
+        Err(e) if e.kind() == ErrorKind::NotFound => 0,
+        Err(_) => unreadable(buf),
     }
-    let n = io::read_full(fd, buf);
-    let all = is_all(fd, n, buf.len());
-    libc::close(fd);
-    if all { n } else { unreadable(buf) }
+}
+
+// Reads an open file, as `load` does.
+fn load_open<F: Read>(file: &mut F, buf: &mut [u8]) -> usize
+    ensures { result ≤ length buf.new }
+{
+    let n = read_full(file, buf);
+    if is_all(file, n, buf.len()) {
+        n
+    } else {
+        unreadable(buf)
+    }
+}
+
+// Reads until the buffer is full, the file ends or a read fails, and answers how many octets it put at the start of the buffer.
+fn read_full<F: Read>(file: &mut F, buf: &mut [u8]) -> usize
+    ensures { result ≤ length buf.new }
+{
+    let mut done = 0;
+    while done < buf.len() {
+        let n = file.read(&mut buf[done..]).unwrap_or(0);
+        if n == 0 {
+            break;
+        }
+        done += n;
+    }
+    done
 }
 
 // The n octets that were read are all for which there is room, or all that the file has: one more read finds its end and does not fail.
-fn is_all(fd: i32, n: usize, room: usize) -> bool {
+fn is_all<F: Read>(file: &mut F, n: usize, room: usize) -> bool {
     if n == room {
         return true;
     }
     let mut next = [0u8; 1];
-    libc::read(fd, &mut next) == 0
+    matches!(file.read(&mut next), Ok(0))
 }
 
 fn unreadable(buf: &mut [u8]) -> usize
@@ -64,27 +100,24 @@ pub fn rest_is(s: &[u8], from: usize, b: u8) -> bool
     true
 }
 
-fn print_text(out: &[u8], n: usize) -> u8
-    ensures { result ≡ 0 }
+fn print_text(rt: &impl Print, out: &[u8], n: usize) -> (u8, io::Result<()>)
+    ensures { result.0 ≡ 0 }
 {
     if n <= out.len() {
-        io::write_all(1, &out[0..n]);
+        return (0, rt.write_all(&out[0..n]));
     }
-    0
+    (0, Ok(()))
 }
 
-// Prints the text that was written, or a line with the refusal's number; answers that number, 0 for none.
-pub fn print_answer(out: &[u8], answer: Converted) -> u8
-    ensures { result ≡ (outcome answer out.now).number }
+// Prints the text that was written, or a line with the refusal's number; answers that number, 0 for none, and whether it could print.
+pub fn print_answer(rt: &impl Print, out: &[u8], answer: Converted) -> (u8, io::Result<()>)
+    ensures { result.0 ≡ (outcome answer out.now).number }
 {
     match answer {
-        Converted::Written(n) => print_text(out, n),
+        Converted::Written(n) => print_text(rt, out, n),
         Converted::Refused(why) => {
             let number = why.number();
-            io::write_all(1, b"refused ");
-            io::print_decimal(1, number as u64);
-            io::write_all(1, b"\n");
-            number
+            (number, println!(rt; "refused {number}"))
         }
     }
 }
