@@ -11,7 +11,7 @@ use lib.Dec.{eqb}
 use lib.Bits.{bit_and, and_step, and_shr, shifted_even}
 use lib.Pow.{pow_pos, pow_mono, pow-add, shr_lt, shl-shr, shr-shr, field, mod-mod-pow}
 use lib.Count.{under, count_trailing_zeros, trailing_le}
-use Rattle.octets.specs.Basics.{◌and◌, ◌or◌}
+use Rattle.octets.specs.Basics.{◌and◌}
 use Rattle.octets.proofs.Cases.{never}
 use Rattle.calendar.specs.Sets.{has}
 use Rattle.recurrence_set.specs.Searches.{Least}

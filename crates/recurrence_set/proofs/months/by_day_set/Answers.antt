@@ -1,0 +1,6 @@
+-- `recurrence_set::months::by_day_set` meets its contract.
+use Rattle.recurrence_set.proofs.DaySets.{by-days}
+use Rattle.recurrence_set.proofs.months.by_day_set.Goals as goal
+
+pub returns : goal.returns
+returns c = by-days _ _ _ c.requires.0 c.requires.1 _ _ _ c.each_week.ensures c.turned-front.ensures c.turned-back.ensures

@@ -1,0 +1,11 @@
+-- `recurrence_set::months::month_set` meets its contract.
+use Rattle.recurrence_set.proofs.DaySets.{one_shifted, marks-only}
+use lib.Pow.{pow_pos}
+use native.Mathlib.Omega.{arith}
+use Rattle.recurrence_set.proofs.months.month_set.Goals as goal
+
+pub nonzero_rem-result : goal.nonzero_rem-result
+nonzero_rem-result c = let e = one_shifted c.args.l (omega arith) in let p = pow_pos c.args.l in omega arith
+
+pub returns : goal.returns
+returns c = marks-only _ _ _ c.requires.0 c.serving_set.ensures
