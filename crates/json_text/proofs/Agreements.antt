@@ -1,12 +1,8 @@
 -- Laws of what the readers promise: answers taken apart and put together, and what a loop that reads and writes keeps.
 use Prim.Native.Nat.{ℕ, ◌≤◌}
-use mathlib.Core.Path.{◌≡◌, ap, ◌∙◌}
-use mathlib.Core.List.{List, [], ◌∷◌, ◌++◌}
-use mathlib.Core.Logic.{⊎_elim}
+use mathlib.Core.Path.{◌≡◌, refl, ap, ◌∙◌}
+use mathlib.Core.List.{List, ◌++◌}
 use native.Mathlib.Nat.{le_trans, le_refl}
-use native.Mathlib.Omega.{arith}
-use types.Run.{OneOf}
-use denote.Enum.Declared.{tag_of}
 use lib.ListN.{length, drop}
 use Rattle.octets.specs.Pen.{Pen, pen, Wrote}
 use Rattle.octets.proofs.Pen as pens
@@ -16,7 +12,6 @@ use Rattle.json_text.specs.declared.JsonRead.{JsonRead}
 use Rattle.json_text.specs.declared.JsonRead.TheVariants.{Read, TooDeep, NotJson}
 use Rattle.json_text.specs.declared.PlaceFound.{PlaceFound}
 use Rattle.json_text.specs.declared.PlaceFound.TheVariants.{At, Nothing}
-use Rattle.json_text.specs.contracts.JsonRead.{the_type}
 
 -- what `Read e to` says of the reading
 pub record HasRead {A : Type 0} (f : A → List ℕ) (text : List ℕ) (low : ℕ) (p : Pen) (t : List ℕ) (o : Out A) (e to : ℕ) : Type 0 where
@@ -84,14 +79,10 @@ module _ {A : Type 0} {text : List ℕ} {low : ℕ} {t : List ℕ} {o : Out A} w
   pub agrees-map : {B : Type 0} {f : A → List ℕ} (g : B → List ℕ) {p : Pen} {r : JsonRead} (h : A → B) → ((a : A) → f a ≡ g (h a)) → Agrees f text low p t o r → Agrees g text low p t (fmap h o) r
   agrees-map g h e x = agrees_after g h pens.nothing e x
 
--- a `let .. else` is left by an answer that is no `Read`
-no_read : OneOf (1 ∷ 2 ∷ []) 0 → ⊥
-no_read h = ⊎_elim (λ y. omega arith) (λ y. omega arith) h
-
--- what is read first fails, and so does the whole
+-- what is read first fails, and so does the whole: a `let .. else` is left by an answer that is no `Read`
 pub agrees-fails : {A B : Type 0} {f : A → List ℕ} {g : B → List ℕ} {text : List ℕ} {low low' : ℕ} {p p' : Pen} {t : List ℕ} {o : Out A} {v : JsonRead} (k : A → List ℕ → Out B)
-    → OneOf (1 ∷ 2 ∷ []) (tag_of the_type v) → Agrees f text low p t o v → Agrees g text low' p' t (and_then o k) v
-agrees-fails k h (read a w l b wr) = absurd (no_read h)
+    → ((e to : ℕ) → v ≡ Read e to → ⊥) → Agrees f text low p t o v → Agrees g text low' p' t (and_then o k) v
+agrees-fails k h (read {e = e} {to = to} a w l b wr) = absurd (h e to refl)
 agrees-fails {A} {B} k h (too-deep w) = too-deep (ap (λ (x : Out A). and_then x k) w)
 agrees-fails {A} {B} k h (not-json w) = not-json (ap (λ (x : Out A). and_then x k) w)
 

@@ -4,14 +4,11 @@ use mathlib.Core.Path.{◌≡◌, refl, ap, ◌∙◌}
 use mathlib.Core.List.{List, [], ◌∷◌, ◌++◌}
 use native.Mathlib.Nat.{le_refl}
 use native.Mathlib.Omega.{arith}
-use types.Run.{OneOf}
-use denote.Enum.Declared.{tag_of}
 use lib.Dec.{eqb, ltb}
 use lib.ListN.{length, drop, get_or}
 use borrow.Author.Tests.{eq-eqb, ne_eqb, ltb-true, ltb-false}
 use Rattle.octets.specs.Pen.{Pen, pen}
 use Rattle.octets.proofs.Cases.{cases}
-use Rattle.octets.proofs.Pen as pens
 use Rattle.octets.proofs.Positions.{here, ended}
 use Rattle.octets.specs.Classes.{is_space}
 use Rattle.json_text.specs.Tree.{Json}
@@ -21,7 +18,7 @@ use Rattle.json_text.specs.Tape.{tag_end, ser_string, ser}
 use Rattle.octets.specs.Search.{ClassRun}
 use Rattle.json_text.specs.Promise.{Agrees}
 use Rattle.json_text.specs.declared.JsonRead.{JsonRead}
-use Rattle.json_text.specs.contracts.JsonRead.{the_type}
+use Rattle.json_text.specs.declared.JsonRead.TheVariants.{Read}
 use Rattle.json_text.proofs.Outs.{Gives, gives-weaker, then-alike}
 use Rattle.json_text.proofs.Tapes.{ser_list, ser_pair}
 use Rattle.json_text.proofs.Sizes.{skip-less}
@@ -85,7 +82,7 @@ module _ {A : Type 0} (f : A → List ℕ) (end : ℕ) (P : List ℕ → Out A) 
 -- one turn of the loop over the elements
 module _ {A : Type 0} (f : A → List ℕ) (end : ℕ) (P : List ℕ → Out A) (h : Shortens P) {text : List ℕ} {low : ℕ} {p q : Pen} {i₀ i : ℕ} (g : Going (ser_list f) (several end P) text low p i₀ q i) where
   -- an element that is not read ends the reading
-  pub element-fails : {t : List ℕ} {l : ℕ} {v : JsonRead} → OneOf (1 ∷ 2 ∷ []) (tag_of the_type v) → Agrees f text l q t (P (drop i text)) v → Agrees (ser_list f) text low p t (several end P (drop i₀ text)) v
+  pub element-fails : {t : List ℕ} {l : ℕ} {v : JsonRead} → ((e to : ℕ) → v ≡ Read e to → ⊥) → Agrees f text l q t (P (drop i text)) v → Agrees (ser_list f) text low p t (several end P (drop i₀ text)) v
   element-fails {t} {l} {v} not x = g.goes t v (agrees-by (several-step end P h (drop i text)) (le_refl low) (agrees-fails _ not x))
 
   -- an element was read up to e, and n is behind white space
@@ -119,6 +116,6 @@ module _ (P : List ℕ → Out Json) {text : List ℕ} {p : Pen} {t : List ℕ} 
   pair-agrees {a = a} x y = agrees-by {low = a + 1} (ap (λ (o : Out (List ℕ)). and_then o (λ k s. fmap (λ j. record { key = k; it = j }) (P s))) x.is) (omega (arith, x.above))
       (agrees_after ser_pair (λ j. record { key = x.it; it = j }) x.wrote (λ j. refl) y)
 
-  pub pair-fails : {l l' : ℕ} {v : JsonRead} → OneOf (1 ∷ 2 ∷ []) (tag_of the_type v) → Agrees ser_string text l p t (member_key (drop i text)) v → Agrees ser_pair text l' p t (pair P (drop i text)) v
+  pub pair-fails : {l l' : ℕ} {v : JsonRead} → ((e to : ℕ) → v ≡ Read e to → ⊥) → Agrees ser_string text l p t (member_key (drop i text)) v → Agrees ser_pair text l' p t (pair P (drop i text)) v
   unfolding pair
   pair-fails not x = agrees-fails _ not x

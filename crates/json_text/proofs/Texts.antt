@@ -5,8 +5,6 @@ use mathlib.Core.Bool.{false}
 use mathlib.Core.List.{List, [], ◌∷◌, ◌++◌, append_assoc}
 use native.Mathlib.Nat.{le_refl}
 use native.Mathlib.Omega.{arith}
-use types.Run.{OneOf}
-use denote.Enum.Declared.{tag_of}
 use lib.ListN.{take, drop, get_or}
 use Rattle.octets.specs.Pen.{Pen, pen, Wrote}
 use Rattle.octets.specs.Groups.{json_unescaped}
@@ -17,7 +15,6 @@ use Rattle.octets.specs.Search.{ClassRun}
 use Rattle.json_text.specs.Promise.{Agrees, read, not-json}
 use Rattle.json_text.specs.declared.JsonRead.{JsonRead}
 use Rattle.json_text.specs.declared.JsonRead.TheVariants.{Read, NotJson}
-use Rattle.json_text.specs.contracts.JsonRead.{the_type}
 use Rattle.octets.proofs.Runs.{inside_is}
 use Rattle.json_text.proofs.StringLaws.{string-run, string-quote, string-escape, string-none}
 use Rattle.json_text.proofs.Agreements.{HasRead, Going, going_on, agrees-by, agrees-fails}
@@ -33,7 +30,7 @@ module _ {text : List ℕ} {low : ℕ} {p q : Pen} {i₀ i : ℕ} (g : Going ser
   text-none {t} h a b = g.goes t NotJson (not-json (string-none text i h a b))
 
   module _ (h : get_or text i 0 ≡ 92) {l : ℕ} {t : List ℕ} where
-    pub text-fails : {v : JsonRead} → OneOf (1 ∷ 2 ∷ []) (tag_of the_type v) → Agrees (λ xs. xs) text l q t (escape (drop (i + 1) text)) v → Agrees ser_text text low p t (string (drop i₀ text)) v
+    pub text-fails : {v : JsonRead} → ((e to : ℕ) → v ≡ Read e to → ⊥) → Agrees (λ xs. xs) text l q t (escape (drop (i + 1) text)) v → Agrees ser_text text low p t (string (drop i₀ text)) v
     text-fails {v} n x = g.goes t v (agrees-by (string-escape text i h) (le_refl low) (agrees-fails _ n x))
 
     pub text-escape : {e to : ℕ} → HasRead (λ xs. xs) text l q t (escape (drop (i + 1) text)) e to → Going ser_text string text low p i₀ (pen t to) e

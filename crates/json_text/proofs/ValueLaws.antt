@@ -6,8 +6,6 @@ use mathlib.Core.List.{List, [], ◌∷◌}
 use native.Mathlib.Nat.{le_refl}
 use native.Mathlib.Numerals.{sub-one}
 use native.Mathlib.Omega.{arith}
-use types.Run.{OneOf}
-use denote.Enum.Declared.{tag_of}
 use lib.Dec.{eqb, ltb}
 use lib.ListN.{length, take, drop, get_or, length-drop}
 use borrow.Author.Tests.{ne_eqb, ltb-true, ltb-false}
@@ -26,7 +24,7 @@ use Rattle.json_text.specs.Tape.{tag_null, tag_false, tag_true, tag_number, tag_
 use Rattle.octets.specs.Search.{ClassRun}
 use Rattle.json_text.specs.Promise.{Agrees}
 use Rattle.json_text.specs.declared.JsonRead.{JsonRead}
-use Rattle.json_text.specs.contracts.JsonRead.{the_type}
+use Rattle.json_text.specs.declared.JsonRead.TheVariants.{Read}
 use Rattle.octets.proofs.Runs.{inside, inside_is}
 use Rattle.json_text.proofs.Words.{skip-run}
 use Rattle.json_text.proofs.NumberLaws.{scan-over}
@@ -204,7 +202,7 @@ module _ (text : List ℕ) {i : ℕ} (blank : ClassRun is_space text 0 i) where
   unfolding parse_text
   text_at = rw (skip-run text blank)
 
-  pub text-fails : {low low' : ℕ} {p : Pen} {t : List ℕ} {v : JsonRead} → OneOf (1 ∷ 2 ∷ []) (tag_of the_type v) → Agrees ser text low p t (value_within most_open (drop i text)) v → Agrees ser text low' p t (parse_text text) v
+  pub text-fails : {low low' : ℕ} {p : Pen} {t : List ℕ} {v : JsonRead} → ((e to : ℕ) → v ≡ Read e to → ⊥) → Agrees ser text low p t (value_within most_open (drop i text)) v → Agrees ser text low' p t (parse_text text) v
   text-fails {low} {low'} n x = agrees-by text_at (le_refl low') (agrees-fails _ n x)
 
   module _ {low e n to : ℕ} {p : Pen} {t : List ℕ} (x : HasRead ser text low p t (value_within most_open (drop i text)) e to) (behind : ClassRun is_space text e n) where
