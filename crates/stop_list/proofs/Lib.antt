@@ -2,4 +2,3 @@ pub mod RunStops
 pub mod Filling
 pub mod Ends
 pub mod PlanAnswers
-pub mod LentSlices
