@@ -6,6 +6,8 @@ use content::line_end;
 use ical::to_ical;
 use jcal::to_jcal;
 use octets::{Converted, MOST_TEXT, put, put_all, put_decimal, same};
+use std::io;
+use std::rt::Files;
 
 // What a buffer holds where nothing is written.
 const BLANK: u8 = 170;
@@ -18,7 +20,7 @@ pub(crate) enum Direction {
 }
 
 // Reads a file of a case, and answers its length; 0 where there is none.
-fn load_part(folder: &[u8], name: &[u8], ending: &[u8], buf: &mut [u8]) -> usize
+fn load_part(rt: &impl Files, folder: &[u8], name: &[u8], ending: &[u8], buf: &mut [u8]) -> usize
     ensures { result ≤ length buf.new }
 {
     let mut path = [0u8; 64];
@@ -28,16 +30,16 @@ fn load_part(folder: &[u8], name: &[u8], ending: &[u8], buf: &mut [u8]) -> usize
     if 64 < e {
         return 0;
     }
-    console::load(&path[0..e], buf)
+    console::load(rt, &path[0..e], buf)
 }
 
 // Reads the text of a case.
-fn load_text(folder: &[u8], to: Direction, name: &[u8], buf: &mut [u8]) -> usize
+fn load_text(rt: &impl Files, folder: &[u8], to: Direction, name: &[u8], buf: &mut [u8]) -> usize
     ensures { result ≤ length buf.new }
 {
     match to {
-        Direction::ToJcal => load_part(folder, name, b".ics", buf),
-        Direction::ToIcal => load_part(folder, name, b".json", buf),
+        Direction::ToJcal => load_part(rt, folder, name, b".ics", buf),
+        Direction::ToIcal => load_part(rt, folder, name, b".json", buf),
     }
 }
 
@@ -119,39 +121,49 @@ fn holds(to: Direction, text: &[u8], rows: &[u8], want: &[u8]) -> bool {
 }
 
 // Runs a case, and says so where it fails.
-fn run(folder: &[u8], to: Direction, name: &[u8]) {
+fn run(rt: &(impl Files + Print), folder: &[u8], to: Direction, name: &[u8]) -> io::Result<()> {
     let mut text = [0u8; ROOM_FOR_TEXT];
     let mut rows = [0u8; ROOM_FOR_FILE];
     let mut want = [0u8; ROOM_FOR_TEXT];
-    let n = load_text(folder, to, name, &mut text);
-    let m = load_part(folder, name, b".rows", &mut rows);
-    let k = load_part(folder, name, b".out", &mut want);
+    let n = load_text(rt, folder, to, name, &mut text);
+    let m = load_part(rt, folder, name, b".rows", &mut rows);
+    let k = load_part(rt, folder, name, b".out", &mut want);
     if !holds(to, &text[0..n], &rows[0..m], &want[0..k]) {
-        io::write_all(1, b"failed: ");
-        io::write_all(1, name);
-        io::write_all(1, b"\n");
+        rt.write_all(b"failed: ")?;
+        rt.write_all(name)?;
+        rt.write_all(b"\n")?;
     }
+    Ok(())
 }
 
 // Runs the cases of a folder, and answers how many there are.
-fn run_all(folder: &[u8], to: Direction, index: &[u8]) -> u64 {
+fn run_all(
+    rt: &(impl Files + Print),
+    folder: &[u8],
+    to: Direction,
+    index: &[u8],
+) -> io::Result<u64> {
     let mut n: u64 = 0;
     let mut i = 0;
     while i < index.len() {
         let e = line_end(index, i);
-        run(folder, to, &index[i..e]);
+        run(rt, folder, to, &index[i..e])?;
         n += 1;
         i = e + 1;
     }
-    n
+    Ok(n)
 }
 
 // Runs the cases of a folder, and prints how many there are.
-pub(crate) fn run_folder(folder: &[u8], to: Direction) {
+pub(crate) fn run_folder(
+    rt: &(impl Files + Print),
+    folder: &[u8],
+    to: Direction,
+) -> io::Result<()> {
     let mut index = [0u8; 16384];
-    let n = load_part(folder, b"index", b"", &mut index);
-    io::write_all(1, folder);
-    io::write_all(1, b" ");
-    io::print_decimal(1, run_all(folder, to, &index[0..n]));
-    io::write_all(1, b" cases\n");
+    let n = load_part(rt, folder, b"index", b"", &mut index);
+    rt.write_all(folder)?;
+    rt.write_all(b" ")?;
+    let cases = run_all(rt, folder, to, &index[0..n])?;
+    println!(rt; "{cases} cases")
 }

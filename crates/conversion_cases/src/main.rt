@@ -6,9 +6,10 @@ mod cases;
 mod routes;
 
 use cases::Direction;
+use std::io;
 
-fn main() {
-    cases::run_folder(b"tojcal/", Direction::ToJcal);
-    cases::run_folder(b"tocal/", Direction::ToIcal);
-    routes::run();
+fn main(rt: HostRuntime) -> io::Result<()> {
+    cases::run_folder(&rt, b"tojcal/", Direction::ToJcal)?;
+    cases::run_folder(&rt, b"tocal/", Direction::ToIcal)?;
+    routes::run(&rt)
 }

@@ -3,6 +3,8 @@
 use crate::parts::behind;
 use console::rest_is;
 use json_text::Parsed;
+use std::io;
+use std::rt::Files;
 
 // Octets of the tape of the longest text.
 const MOST_TAPE: usize = 2 * octets::MOST_TEXT + 2;
@@ -34,60 +36,58 @@ fn short_is_told(text: &[u8], tape: &mut [u8]) -> bool {
 }
 
 // A tape of n octets: what lies behind it is unchanged, and a shorter one is too short.
-fn accepted(text: &[u8], tape: &mut [u8], n: usize) -> bool {
+fn accepted(rt: &impl Print, text: &[u8], tape: &mut [u8], n: usize) -> io::Result<bool> {
     if n < 1 {
-        return false;
+        return Ok(false);
     }
     if tape.len() < n {
-        return false;
+        return Ok(false);
     }
-    io::write_all(1, b" tape ");
-    io::print_decimal(1, n as u64);
-    io::write_all(1, b" ");
-    io::print_decimal(1, checksum(&tape[0..n]) as u64);
+    let sum = checksum(&tape[0..n]);
+    print!(rt; " tape {n} {sum}")?;
     if !rest_is(tape, n, BLANK) {
-        return false;
+        return Ok(false);
     }
     let short = &mut tape[0..n - 1];
-    short_is_told(text, short)
+    Ok(short_is_told(text, short))
 }
 
 // A refusal: the tape is zeroed.
-fn refused(tape: &[u8], why: &[u8]) -> bool {
-    io::write_all(1, why);
-    rest_is(tape, 0, 0)
+fn refused(rt: &impl Print, tape: &[u8], why: &[u8]) -> io::Result<bool> {
+    rt.write_all(why)?;
+    Ok(rest_is(tape, 0, 0))
 }
 
-fn is_read(text: &[u8]) -> bool {
+fn is_read(rt: &impl Print, text: &[u8]) -> io::Result<bool> {
     let mut tape = [BLANK; MOST_TAPE];
     match json_text::parse(text, &mut tape) {
-        Parsed::Tape(n) => accepted(text, &mut tape, n),
-        Parsed::TooDeep => refused(&tape, b" too deep"),
-        Parsed::NotJson => refused(&tape, b" not JSON"),
-        Parsed::NoRoom => false,
+        Parsed::Tape(n) => accepted(rt, text, &mut tape, n),
+        Parsed::TooDeep => refused(rt, &tape, b" too deep"),
+        Parsed::NotJson => refused(rt, &tape, b" not JSON"),
+        Parsed::NoRoom => Ok(false),
     }
 }
 
 // Writes the octets as a JSON string, and reads that.
-fn is_quoted(s: &[u8]) -> bool {
+fn is_quoted(rt: &impl Print, s: &[u8]) -> io::Result<bool> {
     let mut out = [0u8; MOST_TAPE];
     let n = json_text::put_string(&mut out, 0, s);
     if MOST_TAPE < n {
-        return false;
+        return Ok(false);
     }
-    is_read(&out[0..n])
+    is_read(rt, &out[0..n])
 }
 
-pub(crate) fn holds(case: &[u8]) -> bool {
+pub(crate) fn holds(rt: &(impl Files + Print), case: &[u8]) -> io::Result<bool> {
     let mut text = [0u8; console::ROOM_FOR_TEXT];
-    let n = console::load(case, &mut text);
+    let n = console::load(rt, case, &mut text);
     let name = behind(case, b'/');
-    io::write_all(1, name);
+    rt.write_all(name)?;
     let held = if octets::peek(name, 0) == b'q' {
-        is_quoted(&text[0..n])
+        is_quoted(rt, &text[0..n])?
     } else {
-        is_read(&text[0..n])
+        is_read(rt, &text[0..n])?
     };
-    io::write_all(1, b"\n");
-    held
+    rt.write_all(b"\n")?;
+    Ok(held)
 }

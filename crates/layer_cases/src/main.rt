@@ -9,6 +9,8 @@ mod stops_cases;
 mod values_cases;
 
 use parts::before;
+use std::io;
+use std::rt::Files;
 
 // What the cases of a file are for.
 #[derive(Clone, Copy)]
@@ -20,55 +22,56 @@ enum Layer {
     Stops,
 }
 
-fn holds(layer: Layer, case: &[u8]) -> bool {
+fn holds(rt: &(impl Files + Print), layer: Layer, case: &[u8]) -> io::Result<bool> {
     match layer {
-        Layer::Json => json_cases::holds(case),
-        Layer::Texts => content_cases::holds(true, case),
-        Layer::Lines => content_cases::holds(false, case),
-        Layer::Values => values_cases::holds(case),
-        Layer::Stops => stops_cases::holds(case),
+        Layer::Json => json_cases::holds(rt, case),
+        Layer::Texts => Ok(content_cases::holds(true, case)),
+        Layer::Lines => Ok(content_cases::holds(false, case)),
+        Layer::Values => Ok(values_cases::holds(case)),
+        Layer::Stops => Ok(stops_cases::holds(rt, case)),
     }
 }
 
 // Runs a case, and says so where it fails.
-fn run(layer: Layer, case: &[u8]) {
-    if !holds(layer, case) {
-        io::write_all(1, b"FAILED: ");
-        io::write_all(1, case);
-        io::write_all(1, b"\n");
+fn run(rt: &(impl Files + Print), layer: Layer, case: &[u8]) -> io::Result<()> {
+    if !holds(rt, layer, case)? {
+        rt.write_all(b"FAILED: ")?;
+        rt.write_all(case)?;
+        rt.write_all(b"\n")?;
     }
+    Ok(())
 }
 
 // Runs the cases of a text, and answers how many there are.
-fn run_all(layer: Layer, text: &[u8]) -> u64 {
+fn run_all(rt: &(impl Files + Print), layer: Layer, text: &[u8]) -> io::Result<u64> {
     let mut n: u64 = 0;
     let mut at = 0;
     while at < text.len() {
         let case = before(&text[at..], b'\n');
-        run(layer, case);
+        run(rt, layer, case)?;
         n += 1;
         at = at + case.len() + 1;
     }
-    n
+    Ok(n)
 }
 
 // Runs the cases of a file, and prints its name and how many there are.
-fn run_file(path: &[u8], layer: Layer) {
+fn run_file(rt: &(impl Files + Print), path: &[u8], layer: Layer) -> io::Result<()> {
     let mut text = [0u8; octets::MOST_TEXT];
-    let n = console::load(path, &mut text);
-    io::write_all(1, path);
-    io::write_all(1, b"\n");
-    io::print_decimal(1, run_all(layer, &text[0..n]));
-    io::write_all(1, b" cases\n");
+    let n = console::load(rt, path, &mut text);
+    rt.write_all(path)?;
+    rt.write_all(b"\n")?;
+    let cases = run_all(rt, layer, &text[0..n])?;
+    println!(rt; "{cases} cases")
 }
 
-fn main() {
-    run_file(b"json/index", Layer::Json);
-    run_file(b"content/texts", Layer::Texts);
-    run_file(b"content/lines", Layer::Lines);
-    run_file(b"values/cases", Layer::Values);
-    run_file(b"values/vectors", Layer::Values);
-    run_file(b"stops/index", Layer::Stops);
-    run_file(b"weekly_monthly/index", Layer::Stops);
-    run_file(b"days/index", Layer::Stops);
+fn main(rt: HostRuntime) -> io::Result<()> {
+    run_file(&rt, b"json/index", Layer::Json)?;
+    run_file(&rt, b"content/texts", Layer::Texts)?;
+    run_file(&rt, b"content/lines", Layer::Lines)?;
+    run_file(&rt, b"values/cases", Layer::Values)?;
+    run_file(&rt, b"values/vectors", Layer::Values)?;
+    run_file(&rt, b"stops/index", Layer::Stops)?;
+    run_file(&rt, b"weekly_monthly/index", Layer::Stops)?;
+    run_file(&rt, b"days/index", Layer::Stops)
 }

@@ -1,12 +1,14 @@
 // Turns iCalendar on standard input into jCal, by the default types and the rows of rows.hex in the working directory, if there is one.
 #![tactic(auto)]
 
-fn main() {
-    let mut text = [0u8; console::ROOM_FOR_TEXT];
+use std::io;
+
+fn main(rt: HostRuntime) -> io::Result<()> {
     let mut rows = [0u8; console::ROOM_FOR_FILE];
     let mut out = [0u8; octets::MOST_TEXT];
-    let n = io::read_full(0, &mut text);
-    let m = console::load(b"rows.hex", &mut rows);
-    let answer = jcal::to_jcal(&text[0..n], &rows[0..m], &mut out);
-    console::print_answer(&out, answer);
+    let text = console::read_text(&rt)?;
+    let m = console::load(&rt, b"rows.hex", &mut rows);
+    let answer = jcal::to_jcal(&text, &rows[0..m], &mut out);
+    let (_, printed) = console::print_answer(&rt, &out, answer);
+    printed
 }
