@@ -1,0 +1,11 @@
+-- `stops_page::count_walked` meets its contract: what is counted and what is ahead stay the same.
+use Prim.Native.Nat.{◌+◌, ◌-◌, ◌≤◌}
+use mathlib.Core.Path.{◌≡◌}
+use Rattle.stops_page.proofs.Counts.{count_from}
+use Rattle.stops_page.proofs.count_walked.Given as goal
+
+abbrev pub invariant-loop-n : goal.invariant-loop-n
+invariant-loop-n l = (l.n ≤ l.most) × (l.series.place ≤ l.at) × (l.n + count_from l.series (l.most - l.n) l.at ≡ count_from l.series l.most l.from)
+
+abbrev pub decreases-loop-n : goal.decreases-loop-n
+decreases-loop-n l = l.most - l.n
