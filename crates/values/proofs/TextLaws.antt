@@ -9,9 +9,9 @@ use mathlib.Core.Option.{Option, some}
 use native.Mathlib.Omega.{arith}
 use borrow.Author.Tests.{lt-leb, ne_eqb, eqb-true}
 use lib.Dec.{eqb}
-use Rattle.octets.specs.Basics.{octets, ◌and◌, ◌or◌, all, filled, All}
+use Rattle.octets.specs.Basics.{octets, ◌and◌, ◌or◌, all, All}
 use Rattle.octets.specs.Pieces.{onto, cut, joined}
-use Rattle.octets.specs.Optional.{map?, both?, when, guard, holds, given, each}
+use Rattle.octets.specs.Optional.{map?, both?, when, guard, holds, given}
 use Rattle.octets.specs.Classes.{is_control, plain_octet, text_octet}
 use Rattle.octets.specs.Utf8.{utf8, clean}
 use Rattle.octets.proofs.Cases.{cases, same?, never, both, and-true, apart-not, all_append, all-All, All-all, All-weaker}
