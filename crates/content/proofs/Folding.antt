@@ -11,7 +11,7 @@ use lib.ListN.{length}
 use Rattle.octets.specs.Basics.{octets}
 use Rattle.octets.specs.Classes.{upper_octet, upper}
 use Rattle.octets.specs.Limits.{most_columns}
-use Rattle.octets.specs.Pen.{Pen, pen, wrote, Wrote}
+use Rattle.octets.specs.Pen.{Pen, wrote, Wrote}
 use Rattle.octets.proofs.Cases.{cases, and-false-right}
 use Rattle.octets.proofs.Classes.{map-length}
 use Rattle.octets.proofs.Limits.{most-columns}

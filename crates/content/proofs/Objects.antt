@@ -7,7 +7,7 @@ use mathlib.Core.List.{List, [], ◌∷◌, ◌++◌, map, append_assoc}
 use lib.ListN.{length, get_or, take, drop}
 use lib.Seq.{take_all}
 use Rattle.octets.specs.Basics.{octets, pick, ◌and◌, ◌or◌}
-use Rattle.octets.specs.Classes.{between, is_upper, lower_octet, lower, same_name}
+use Rattle.octets.specs.Classes.{lower_octet, lower, same_name}
 use Rattle.octets.specs.Pen.{Pen, Wrote}
 use Rattle.octets.proofs.Cases.{cases}
 use Rattle.octets.proofs.Pen.{then}

@@ -1,0 +1,15 @@
+-- `content::scan::next_bare` meets its contract.
+use Prim.Native.Nat.{◌+◌, ◌-◌, ◌≤◌}
+use mathlib.Core.Path.{◌≡◌}
+use mathlib.Core.Bool.{false}
+use lib.Dec.{eqb}
+use lib.ListN.{length, drop}
+use Rattle.octets.specs.Basics.{◌or◌}
+use Rattle.content.specs.Scan.{until_bare}
+use Rattle.content.proofs.scan.next_bare.Given as goal
+
+abbrev pub invariant-loop-i : goal.invariant-loop-i
+invariant-loop-i l = (l.a ≤ l.most) × (l.b ≤ l.most) × (34 ≤ l.most) × (l.i + length (until_bare (λ c. eqb c l.a or eqb c l.b) false (drop l.i l.s)) ≡ l.at + length (until_bare (λ c. eqb c l.a or eqb c l.b) false (drop l.at l.s)))
+
+abbrev pub decreases-loop-i : goal.decreases-loop-i
+decreases-loop-i l = length l.s - l.i
