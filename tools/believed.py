@@ -25,14 +25,14 @@ def read(*parts):
 
 def crates():
     lines = [l.split("#")[0].strip() for l in read("crates.txt").splitlines()]
-    names = [l.split(":")[0].strip() for l in lines if l]
+    names = [l.split(":")[0].split()[0] for l in lines if l]
     return [c for c in names if os.path.exists(os.path.join(ROOT, "crates", c, "specs", "Lib.antt"))]
 
 
 def imported(module):
     crate, name = module.split(".")
     text = read("crates", crate, "specs", name + ".antt")
-    return {"%s.%s" % (c, m) for c, m in re.findall(r"(?m)^use Rattle·(\w+)(?:·specs\.specs|\.specs)\.(\w+)", text) if m != "declared"}
+    return {"%s.%s" % (c, m) for c, m in re.findall(r"(?m)^use Rattle\.(\w+)\.specs\.(\w+)", text) if c != "std" and m != "declared"}
 
 
 def reached():

@@ -21,26 +21,24 @@ import tempfile
 
 ROOT = os.path.dirname(os.path.dirname(os.path.abspath(__file__)))
 BATCH_OCTETS = 30000
-HEAD = """use Prim.Native.Nat.{ℕ}
-use mathlib.Core.Path.{_≡_, refl}
-use mathlib.Core.List.{List, [], _∷_, map}
-use lib.ListN.{length}
-use Rattle·octets.specs.Answers.{Answer, refused, accepted}
-use Rattle·calendar.specs.declared.moments.Kind.{Kind}
-use Rattle·calendar.specs.declared.moments.Kind.the-variants.{Day, Local, Utc}
-use Rattle·calendar.specs.declared.moments.Moment.{Moment}
-use Rattle·stop_list.specs.declared.Stop.{Stop}
-use Rattle·stop_list.specs.Stops.{listOf}
-use Rattle·conversion_theory.specs.ToJcal.{toJcal}
-use Rattle·conversion_theory.specs.ToIcal.{toIcal}
+HEAD = """use Rattle.std.specs.Prelude.{ℕ, ◌≡◌, List, [], ◌∷◌, map}
+use Rattle.std.proofs.Common.{refl}
+use Rattle.octets.specs.Answers.{Answer, refused, accepted}
+use Rattle.calendar.specs.declared.moments.Kind.{Kind}
+use Rattle.calendar.specs.declared.moments.Kind.TheVariants.{Day, Local, Utc}
+use Rattle.calendar.specs.declared.moments.Moment.{Moment}
+use Rattle.stop_list.specs.declared.Stop.{Stop}
+use Rattle.stop_list.specs.Stops.{list_of}
+use Rattle.conversion_theory.specs.ToJcal.{to_jcal}
+use Rattle.conversion_theory.specs.ToIcal.{to_ical}
 
-abbrev kindNumber : Kind → ℕ
-kindNumber Day = 0
-kindNumber Local = 1
-kindNumber Utc = 2
+abbrev kind_number : Kind → ℕ
+kind_number Day = 0
+kind_number Local = 1
+kind_number Utc = 2
 
 abbrev numbers : Stop → List ℕ
-numbers s = s .moment .date .year ∷ s .moment .date .month ∷ s .moment .date .day ∷ s .moment .hour ∷ s .moment .minute ∷ s .moment .second ∷ kindNumber (s .moment .kind) ∷ []
+numbers s = s.moment.date.year ∷ s.moment.date.month ∷ s.moment.date.day ∷ s.moment.hour ∷ s.moment.minute ∷ s.moment.second ∷ kind_number s.moment.kind ∷ []
 
 abbrev listed : Answer (List Stop) → Answer (List (List ℕ))
 listed (refused n) = refused n
@@ -59,7 +57,7 @@ def names():
             found = re.match(r"unfoldable pub (\S+) ", line) or (block and re.match(r"  pub (\S+) :", line))
             block = line.startswith("unfoldable mutual") or (block and (line.startswith(" ") or not line.strip()))
             if found:
-                out.append("Rattle·%s.specs.%s.%s" % (crate, module, found.group(1)))
+                out.append("Rattle.%s.specs.%s.%s" % (crate, module, found.group(1)))
     return out
 
 
@@ -104,8 +102,8 @@ def equation(path):
         want = stops_wanted(out)
         if want is None:
             return None
-        return "listed (listOf %s %s %d) ≡ %s" % (octets(lines[0]), octets(lines[1]), int(lines[2]), want), len(data)
-    run = "toJcal" if job(path) == "tojcal" else "toIcal"
+        return "listed (list_of %s %s %d) ≡ %s" % (octets(lines[0]), octets(lines[1]), int(lines[2]), want), len(data)
+    run = "to_jcal" if job(path) == "tojcal" else "to_ical"
     return "%s %s %s ≡ %s" % (run, octets(rows), octets(data), want), len(data) + len(out)
 
 
@@ -124,7 +122,7 @@ def scratch():
     os.makedirs(os.path.join(top, "crates/vectors/specs"))
     os.makedirs(os.path.join(top, "crates/vectors/src"))
     with open(os.path.join(top, "crates/vectors/src/lib.rt"), "w") as f:
-        f.write("// Vectors.\n")
+        f.write("// Vectors.\n#![tactic(auto)]\n")
     with open(os.path.join(top, "crates/vectors/specs/Lib.antt"), "w") as f:
         f.write("pub mod Cases\n")
     return top
@@ -137,7 +135,7 @@ def check(top, cases, opened):
         text.append("-- %s\ncase%d : %s\nunfolding %s\ncase%d = refl\n" % (name, i, claim, " ".join(opened), i))
     with open(os.path.join(top, "crates/vectors/specs/Cases.antt"), "w", encoding="utf-8") as f:
         f.write("\n".join(text))
-    run = subprocess.run(["rt", "dev", "vectors"], cwd=top, stdout=subprocess.PIPE, stderr=subprocess.STDOUT)
+    run = subprocess.run(["rt", "check"], cwd=os.path.join(top, "crates/vectors"), stdout=subprocess.PIPE, stderr=subprocess.STDOUT)
     log = run.stdout.decode("utf-8", "replace")
     errors = re.findall(r"error: `case(\d+)`(.*)", log)
     bad = sorted({cases[int(n)][0] for n, why in errors if "step limit" not in why})
@@ -177,12 +175,21 @@ def needed():
     return [l for l in lines if l.split(":")[0].strip() in wanted]
 
 
+def types_alone(item):
+    """An item, or of a `use` what it names of types; None where it names none."""
+    found = re.match(r"(?s)((?:pub )?use (?:\w+::)+)(?:\{(.*)\}|(\w+));$", item)
+    if not found:
+        return item
+    named = [n for n in re.findall(r"\w+", found.group(2) or found.group(3)) if re.match(r"[A-Z]\w*[a-z]", n)]
+    return "%s{%s};" % (found.group(1), ", ".join(named)) if named else None
+
+
 def strip(path):
     """Leaves the types of a source file, which definitions cite, and takes its functions away."""
     text = open(path, encoding="utf-8").read()
-    kept = re.findall(r"(?ms)^(?:pub(?:\(crate\))? )?(?:struct|enum) \w+ \{.*?^\}$|^(?:pub )?mod \w+;$|^use [^;]*;$|^pub use [^;]*;$", text)
-    kept = [k for k in kept if not k.startswith(("use ", "pub use ")) or re.search(r"::[A-Z]\w*[a-z]\w*;$", k)]
-    open(path, "w", encoding="utf-8").write("// Types.\n" + "\n".join(kept) + "\n")
+    kept = re.findall(r"(?ms)^(?:pub(?:\(crate\))? )?(?:struct|enum) \w+ \{.*?^\}$|^(?:pub )?mod \w+;$|^(?:pub )?use [^;]*;$", text)
+    kept = [k for k in map(types_alone, kept) if k]
+    open(path, "w", encoding="utf-8").write("// Types.\n" + ("#![tactic(auto)]\n" if path.endswith("lib.rt") else "") + "\n".join(kept) + "\n")
 
 
 def main():

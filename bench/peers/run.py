@@ -3,7 +3,7 @@
 
 usage: bench/peers/run.py [ICAL.JS]
 
-The library is built by `rt staticlib ffi`. libical is shown where its headers are installed, icalendar where this Python has it, ical.js where its
+The library is built by `rt lib` in crates/ffi. libical is shown where its headers are installed, icalendar where this Python has it, ical.js where its
 file, one ES module, is named. Medians of 60 calls; MB/s are of the octets read.
 """
 import os
@@ -77,14 +77,14 @@ def compiled(name, words):
 
 def main():
     os.makedirs(OUT, exist_ok=True)
-    subprocess.run(["rt", "staticlib", "ffi"], cwd=ROOT, check=True, stdout=subprocess.DEVNULL)
+    subprocess.run(["rt", "lib"], cwd=os.path.join(ROOT, "crates/ffi"), check=True, stdout=subprocess.DEVNULL)
     files = [os.path.join(OUT, str(i)) for i in range(len(LINES) + 1)]
     texts = [ordinary(120)] + [in_event(line) for line in LINES]
     for path, text in zip(files, texts):
         with open(path, "w", newline="", encoding="utf-8") as f:
             f.write(text)
     jobs = {
-        "this library": lambda: program([compiled("putrenski", ["-I", os.path.join(ROOT, "bindings/c"), "-L", os.path.join(ROOT, "target/staticlib"), "-lffi"])] + files),
+        "this library": lambda: program([compiled("putrenski", ["-I", os.path.join(ROOT, "bindings/c"), "-L", os.path.join(ROOT, "crates/ffi/out"), "-lffi"])] + files),
         "libical": lambda: program([compiled("libical", ["-lical"])] + files),
         "icalendar": lambda: icalendar(texts[0], texts[1:]),
     }

@@ -1,4 +1,4 @@
-/* The library for other languages: build it with `rt staticlib ffi`, link target/staticlib/libffi.a.
+/* The library for other languages: build it with `rt lib` in crates/ffi, link crates/ffi/out/libffi.a.
  * Every function takes any octets; none keeps a pointer, allocates or fails to return. Slices are a pointer and a length. */
 #ifndef PUTRENSKI_H
 #define PUTRENSKI_H

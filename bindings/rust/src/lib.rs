@@ -1,5 +1,5 @@
 //! Safe wrappers of the proved calendar library: iCalendar to jCal and back, and the stops of a recurrence rule.
-//! Build the library first: `rt staticlib ffi` in the repository's root.
+//! Build the library first: `rt lib` in the repository's crates/ffi.
 
 #[link(name = "ffi", kind = "static")]
 extern "C" {
