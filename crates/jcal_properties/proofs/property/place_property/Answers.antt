@@ -1,0 +1,20 @@
+-- `jcal_properties::property::place_property` meets its contract.
+use native.Mathlib.Omega.{arith}
+use Rattle.octets.proofs.Limits.{most-text}
+use Rattle.octets.proofs.Pen.{front_same}
+use Rattle.types.specs.Laid.{table_in}
+use Rattle.jcal_properties.proofs.PropertyParts.{line-long, parts-read, nine-placed}
+use Rattle.jcal_properties.proofs.property.place_property.Goals as goal
+
+pub returns-then-line-gt-ROOM_FOR_LINES : goal.returns-then-line-gt-ROOM_FOR_LINES
+returns-then-line-gt-ROOM_FOR_LINES c = (line-long (table_in c.args.rows.now) c.args.line.now (omega (arith, most-text, c.if-line-gt-ROOM_FOR_LINES.true)), front_same)
+
+pub place_values-requires : goal.place_values-requires
+place_values-requires c = omega (arith, most-text)
+
+pub returns-in-To : goal.returns-in-To
+returns-in-To c = rw (parts-read c.args.line.now c.parts_of-parts.result c.parts_of-parts.ensures (table_in c.args.rows.now) (omega (arith, most-text, c.if-line-gt-ROOM_FOR_LINES.false))) (nine-placed (table_in c.args.rows.now) _ _ _ _ c.find-found.ensures _ _ (rw c.in-To.is at c.front.ensures) _ c.place_values.result c.place_values.ensures)
+
+pub returns-in-Failed : goal.returns-in-Failed
+returns-in-Failed c = let f = rw c.in-Failed.is at c.front.ensures in
+    rw (parts-read c.args.line.now c.parts_of-parts.result c.parts_of-parts.ensures (table_in c.args.rows.now) (omega (arith, most-text, c.if-line-gt-ROOM_FOR_LINES.false))) (f.0 (table_in c.args.rows.now) _ c.find-found.ensures, f.1)
