@@ -6,8 +6,7 @@ use mathlib.Core.List.{List, [], ◌∷◌}
 use native.Mathlib.Numerals.{add-one}
 use native.Mathlib.Omega.{arith}
 use lib.ListN.{length, drop}
-use types.Run.{OneOf, miss}
-use denote.Enum.Declared.{tag_of}
+use mathlib.Core.Logic.{◌⊎◌, inl, inr}
 use Rattle.octets.specs.Basics.{all}
 use Rattle.octets.specs.Answers.{Answer, refused, accepted, then}
 use Rattle.octets.proofs.Cases.{never, both}
@@ -20,7 +19,6 @@ use Rattle.jcal.specs.Components.{is_accepted, reads, event_tested, each_tested,
 use Rattle.jcal.specs.Placing.{ready, Behind, SubNext, EndNext}
 use Rattle.jcal.specs.declared.events.LineKind.{LineKind}
 use Rattle.jcal.specs.declared.events.LineKind.TheVariants.{Opens, Closes, Plain, Broken}
-use Rattle.jcal.specs.contracts.events.LineKind.{the_type}
 use Rattle.jcal.proofs.OpenComponents.{events-none, events-told}
 use Rattle.jcal.proofs.Levels.{level-none, level-stray, level-ends, level_holds, reads-behind}
 use Rattle.jcal.proofs.Order.{ordered-behind}
@@ -101,12 +99,10 @@ module _ (s : List ℕ) (from i : ℕ) (low : from ≤ i) where
       unfolding line_told behind_end
       over-end n t z = record { rest = rw z at (over (Closes n) t); further = omega (arith, h.ends) }
 
-      pub over-other : (k : LineKind) → OneOf (2 ∷ 3 ∷ []) (tag_of the_type k) → TellsLine s i e k → behind_end within (events_in (drop (e + 1) s)) ≡ behind_end 0 (events_in (drop from s))
+      pub over-other : (k : LineKind) → (k ≡ Plain) ⊎ (k ≡ Broken) → TellsLine s i e k → behind_end within (events_in (drop (e + 1) s)) ≡ behind_end 0 (events_in (drop from s))
       unfolding line_told behind_end
-      over-other (Opens n) o t = absurd (miss (2 ∷ 3 ∷ []) 0 tt o)
-      over-other (Closes n) o t = absurd (miss (2 ∷ 3 ∷ []) 1 tt o)
-      over-other Plain o t = over Plain t
-      over-other Broken o t = over Broken t
+      over-other k (inl p) t = over Plain (rw p at t)
+      over-other k (inr b) t = over Broken (rw b at t)
 
     pub over_none : length s ≤ i → Behind s from i
     unfolding behind_end
@@ -117,12 +113,10 @@ module _ (s : List ℕ) (from i : ℕ) (low : from ≤ i) where
       upto : (k : LineKind) → TellsLine s i e k → next_of (line_told s i k ∷ events_in (drop (e + 1) s)) ≡ next_of (events_in (drop from s))
       upto k t = sym (ap next_of (events-told s i e k h t)) ∙ g
 
-      pub next-other : (k : LineKind) → OneOf (2 ∷ 3 ∷ []) (tag_of the_type k) → TellsLine s i e k → next_of (events_in (drop (e + 1) s)) ≡ next_of (events_in (drop from s))
+      pub next-other : (k : LineKind) → (k ≡ Plain) ⊎ (k ≡ Broken) → TellsLine s i e k → next_of (events_in (drop (e + 1) s)) ≡ next_of (events_in (drop from s))
       unfolding line_told next_of
-      next-other (Opens n) o t = absurd (miss (2 ∷ 3 ∷ []) 0 tt o)
-      next-other (Closes n) o t = absurd (miss (2 ∷ 3 ∷ []) 1 tt o)
-      next-other Plain o t = upto Plain t
-      next-other Broken o t = upto Broken t
+      next-other k (inl p) t = upto Plain (rw p at t)
+      next-other k (inr b) t = upto Broken (rw b at t)
 
       pub next-opens : (n : ℕ) → TellsLine s i e (Opens n) → SubNext s from (events_in (drop from s)) n e
       unfolding line_told next_of

@@ -8,8 +8,6 @@ use native.Mathlib.Omega.{arith}
 use borrow.Author.Tests.{le-leb, lt-leb}
 use lib.Dec.{eqb, leb, eqb-suc-zero}
 use lib.ListN.{length, get_or, set, take, drop, length-set}
-use types.Run.{OneOf, miss}
-use denote.Enum.Declared.{tag_of}
 use lib.Seq.{get_or-set_same, get_or-set_other}
 use Rattle.octets.specs.Basics.{octets, same}
 use Rattle.octets.specs.Classes.{lower_octet, is_upper, between, lower, same_name}
@@ -32,7 +30,6 @@ use Rattle.jcal.specs.declared.events.LineKind.{LineKind}
 use Rattle.jcal.specs.declared.events.LineKind.TheVariants.{Opens, Closes, Plain, Broken}
 use Rattle.jcal.specs.declared.nesting.Nesting.{Nesting}
 use Rattle.jcal.specs.declared.nesting.Nesting.TheVariants.{Within, Complete, Wrong}
-use Rattle.jcal.specs.contracts.events.LineKind.{the_type}
 use Rattle.jcal.proofs.LineKinds.{line-is}
 
 -- a name is nothing where it has no octets
@@ -75,9 +72,9 @@ few n h = rw most-levels h
 
 -- what a line makes of the open components
 module _ (s xs : List ℕ) (room : length xs ≡ most_levels) where
-  pub first_else : (k : LineKind) → OneOf (1 ∷ 2 ∷ 3 ∷ []) (tag_of the_type k) → NestsBehind s xs fresh k (Wrong NotPaired)
+  pub first_else : (k : LineKind) → ((n : ℕ) → k ≡ Opens n → ⊥) → NestsBehind s xs fresh k (Wrong NotPaired)
   unfolding nest_of nest line_told
-  first_else (Opens n) o i = absurd (miss (1 ∷ 2 ∷ 3 ∷ []) 0 tt o)
+  first_else (Opens n) o i = absurd (o n refl)
   first_else (Closes n) o i = record { is = refl; few = few 0 (omega arith); room = room }
   first_else Plain o i = record { is = refl; few = few 0 (omega arith); room = room }
   first_else Broken o i = record { is = refl; few = few 0 (omega arith); room = room }

@@ -1,11 +1,9 @@
 -- The tests of the properties, line by line.
 use Prim.Native.Nat.{ℕ, ◌+◌, ◌-◌, ◌≤◌}
 use mathlib.Core.Path.{◌≡◌, refl, sym, ap, ◌∙◌}
-use mathlib.Core.List.{List, [], ◌∷◌}
+use mathlib.Core.List.{List, ◌∷◌}
 use native.Mathlib.Omega.{arith}
 use lib.ListN.{length, take, drop}
-use types.Run.{OneOf, miss}
-use denote.Enum.Declared.{tag_of}
 use Rattle.octets.specs.Answers.{Answer, refused, accepted, then, number}
 use Rattle.octets.specs.declared.Refusal.{Refusal}
 use Rattle.types.specs.Table.{Table}
@@ -24,7 +22,6 @@ use Rattle.jcal.specs.Events.{event_at, events_in, line_from, LineAt, line_told,
 use Rattle.jcal.specs.Components.{event_tested, each_tested}
 use Rattle.jcal.specs.declared.events.LineKind.{LineKind}
 use Rattle.jcal.specs.declared.events.LineKind.TheVariants.{Opens, Closes, Plain, Broken}
-use Rattle.jcal.specs.contracts.events.LineKind.{the_type}
 use Rattle.jcal.proofs.LineKinds.{line-is}
 use Rattle.jcal.proofs.OpenComponents.{events-here, events-none}
 
@@ -80,11 +77,11 @@ line_read_lem t s i e h l = rw (line-is s i e h) (line-fits t (line_from s i) (u
 
 -- the test of a line of which is told
 module _ (f : Line → Answer Property) (s : List ℕ) (i e : ℕ) where
-  pub other-tested : (k : LineKind) → OneOf (0 ∷ 1 ∷ 3 ∷ []) (tag_of the_type k) → TellsLine s i e k → accepted tt ≡ event_tested f (event_at (line_from s i))
+  pub other-tested : (k : LineKind) → (k ≡ Plain → ⊥) → TellsLine s i e k → accepted tt ≡ event_tested f (event_at (line_from s i))
   unfolding line_told event_tested
   other-tested (Opens n) o t = rw (← t.is)
   other-tested (Closes n) o t = rw (← t.is)
-  other-tested Plain o t = absurd (miss (0 ∷ 1 ∷ 3 ∷ []) 2 tt o)
+  other-tested Plain o t = absurd (o refl)
   other-tested Broken o t = rw (← t.is)
 
   pub plain-tested : TellsLine s i e Plain → then (f (line_of (line_from s i))) (λ _. accepted (tt {0})) ≡ event_tested f (event_at (line_from s i))

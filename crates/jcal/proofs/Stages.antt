@@ -6,8 +6,6 @@ use mathlib.Core.List.{List, [], ◌∷◌}
 use native.Mathlib.Omega.{arith}
 use borrow.Author.Tests.{le-leb, lt-leb}
 use lib.ListN.{length, take, drop}
-use types.Run.{OneOf, miss}
-use denote.Enum.Declared.{tag_of}
 use Rattle.octets.specs.Basics.{all}
 use Rattle.octets.specs.Limits.{most_text, most_levels}
 use Rattle.octets.specs.Pen.{pen}
@@ -48,7 +46,6 @@ use Rattle.jcal.specs.declared.nesting.Structure.{Structure}
 use Rattle.jcal.specs.declared.nesting.Structure.TheVariants.{Paired, Failed}
 use Rattle.jcal.specs.declared.events.LineKind.{LineKind}
 use Rattle.jcal.specs.declared.events.LineKind.TheVariants.{Opens, Closes, Plain, Broken}
-use Rattle.jcal.specs.contracts.events.LineKind.{the_type}
 use Rattle.jcal.proofs.Levels.{grown, tree_is}
 use Rattle.jcal.proofs.Depths.{not-fresh, Passes, passes}
 use Rattle.jcal.proofs.OpenComponents.{events-told}
@@ -192,9 +189,9 @@ module _ (s : List ℕ) (e : ℕ) (h : LineAt s 0 e) (p : nest_after fresh (even
       let a : begins g.name ∷ g.body ≡ v ∷ events_in (drop (e + 1) s) = sym g.begun ∙ q in
       absurd (k g.name (cc))
 
-  pub first-not {ℓ} : {P : Type ℓ} (k : LineKind) → OneOf (1 ∷ 2 ∷ 3 ∷ []) (tag_of the_type k) → TellsLine s 0 e k → P
+  pub first-not {ℓ} : {P : Type ℓ} (k : LineKind) → ((n : ℕ) → k ≡ Opens n → ⊥) → TellsLine s 0 e k → P
   unfolding line_told
-  first-not (Opens n) o t = absurd (miss (1 ∷ 2 ∷ 3 ∷ []) 0 tt o)
+  first-not (Opens n) o t = absurd (o n refl)
   first-not (Closes n) o t = not-begins _ (events-told s 0 e (Closes n) h t) (λ m q. let z : ◌≡◌ {A = ℕ} 0 1 = cc in omega arith)
   first-not Plain o t = not-begins _ (events-told s 0 e Plain h t) (λ m q. let z : ◌≡◌ {A = ℕ} 0 1 = cc in omega arith)
   first-not Broken o t = not-begins _ (events-told s 0 e Broken h t) (λ m q. let z : ◌≡◌ {A = ℕ} 0 1 = cc in omega arith)

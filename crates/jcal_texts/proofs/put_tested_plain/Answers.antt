@@ -3,7 +3,6 @@ use Prim.Native.Nat.{◌<◌}
 use mathlib.Core.Path.{refl, sym, ◌∙◌}
 use native.Mathlib.Omega.{arith}
 use lib.ListN.{length}
-use borrow.Author.Tests.{not-true, not-false}
 use Rattle.octets.specs.Pen.{pen}
 use Rattle.jcal_texts.proofs.Plain.{Plainly, plainly-start, plainly-run, plainly-end, plainly-not, plainly-octet}
 use Rattle.jcal_texts.proofs.put_tested_plain.Tie as tie
@@ -26,7 +25,7 @@ pub returns-then-e-s : goal.returns-then-e-s
 returns-then-e-s c = plainly-end _ (passed c.before.before.before.before.before.before) c.put-p.ensures (omega (arith, c.if-e-s.true)) c.put.ensures
 
 pub returns-then-not-is_plain_octet : goal.returns-then-not-is_plain_octet
-returns-then-not-is_plain_octet c = plainly-not _ (passed c.before.before.before.before.before) (inside c.before.before.before.before) c.put-p.ensures (sym c.is_plain_octet.ensures ∙ not-true _ c.if-not-is_plain_octet.true-raw)
+returns-then-not-is_plain_octet c = plainly-not _ (passed c.before.before.before.before.before) (inside c.before.before.before.before) c.put-p.ensures (sym c.is_plain_octet.ensures ∙ c.if-not-is_plain_octet.true)
 
 pub loop-out-preserved : goal.loop-out-preserved
-loop-out-preserved c = (omega (arith, inside c.before.before.before.before.before.before.before.before), omega arith, plainly-octet _ (passed c.before.before.before.before.before.before.before.before.before) (inside c.before.before.before.before.before.before.before.before) (sym c.is_plain_octet.ensures ∙ not-false _ c.if-not-is_plain_octet.false-raw) c.put_escaped-p.ensures)
+loop-out-preserved c = (omega (arith, inside c.before.before.before.before.before.before.before.before), omega arith, plainly-octet _ (passed c.before.before.before.before.before.before.before.before.before) (inside c.before.before.before.before.before.before.before.before) (sym c.is_plain_octet.ensures ∙ c.if-not-is_plain_octet.false) c.put_escaped-p.ensures)

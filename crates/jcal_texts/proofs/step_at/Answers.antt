@@ -1,6 +1,5 @@
 -- `jcal_texts::step_at` meets its contract.
 use mathlib.Core.Path.{sym, ◌∙◌}
-use borrow.Author.Tests.{not-true, not-false}
 use Rattle.jcal_texts.proofs.TextRuns.{step-escape, step-wrong, step-separator, step_other, step-control, step-octet}
 use Rattle.jcal_texts.proofs.step_at.Goals as goal
 
@@ -17,7 +16,7 @@ pub returns-then-c-other : goal.returns-then-c-other
 returns-then-c-other c = step_other _ _ _ _ c.requires c.if-c-eq92.false c.if-c-sep.false c.if-c-other.true
 
 pub returns-then-not-is_plain_octet : goal.returns-then-not-is_plain_octet
-returns-then-not-is_plain_octet c = step-control _ _ _ _ c.requires c.if-c-eq92.false c.if-c-sep.false c.if-c-other.false (sym c.is_plain_octet.ensures ∙ not-true _ c.if-not-is_plain_octet.true-raw)
+returns-then-not-is_plain_octet c = step-control _ _ _ _ c.requires c.if-c-eq92.false c.if-c-sep.false c.if-c-other.false (sym c.is_plain_octet.ensures ∙ c.if-not-is_plain_octet.true)
 
 pub returns : goal.returns
-returns c = step-octet _ _ _ _ c.requires c.if-c-eq92.false c.if-c-sep.false c.if-c-other.false (sym c.is_plain_octet.ensures ∙ not-false _ c.if-not-is_plain_octet.false-raw)
+returns c = step-octet _ _ _ _ c.requires c.if-c-eq92.false c.if-c-sep.false c.if-c-other.false (sym c.is_plain_octet.ensures ∙ c.if-not-is_plain_octet.false)

@@ -3,7 +3,6 @@ use Prim.Native.Nat.{◌-◌, ◌<◌}
 use mathlib.Core.Path.{refl}
 use native.Mathlib.Omega.{arith}
 use lib.ListN.{length, take, drop}
-use borrow.Author.Tests.{not-true, not-false}
 use Rattle.octets.specs.Pen.{pen}
 use Rattle.octets.proofs.Pen.{then}
 use Rattle.json_text.specs.Print.{print}
@@ -42,7 +41,7 @@ returns-then-e-rest c = let t = tried c.before.before in
 
 pub returns-then-not-many : goal.returns-then-not-many
 returns-then-not-many c = let t = tried c.before.before.before in
-    value-alone _ _ _ _ c.loop-q.invariant.2 _ c.value_end-e.ensures t.0 t.1 (then c.put-first.ensures t.2) c.if-e-rest.false (not-true _ c.if-not-many.true-raw)
+    value-alone _ _ _ _ c.loop-q.invariant.2 _ c.value_end-e.ensures t.0 t.1 (then c.put-first.ensures t.2) c.if-e-rest.false c.if-not-many.true
 
 pub overflow_add-i : goal.overflow_add-i
 overflow_add-i c = omega (arith, ahead c.before)
@@ -55,4 +54,4 @@ loop-q-smaller c = omega (arith, ahead c.before)
 
 pub loop-q-preserved : goal.loop-q-preserved
 loop-q-preserved c = let t = tried c.before.before.before in
-    (omega (arith, ahead c.before), omega arith, value_on _ _ _ _ c.loop-q.invariant.2 _ c.value_end-e.ensures t.0 t.1 (then c.put-first.ensures t.2) c.if-e-rest.false (not-false _ c.if-not-many.false-raw))
+    (omega (arith, ahead c.before), omega arith, value_on _ _ _ _ c.loop-q.invariant.2 _ c.value_end-e.ensures t.0 t.1 (then c.put-first.ensures t.2) c.if-e-rest.false c.if-not-many.false)
