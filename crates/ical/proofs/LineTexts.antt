@@ -47,17 +47,17 @@ pub shown-kind : (t : List ℕ) → is_name t ≡ true → value_param_text true
 unfolding value_param_text more_values
 shown-kind t h = param-text (octets "value") (upper t) [] ∙ rw (name-text (upper t) (name-upper t h), append-nil (upper t))
 
-with_value : (b : Bool) (t : List ℕ) (ps : List Param) → params_text (with_value (pick b none (some t)) ps) ≡ value_param_text (is_some (pick b none (some t))) t ++ params_text ps
+with-value : (b : Bool) (t : List ℕ) (ps : List Param) → params_text (with_value (pick b none (some t)) ps) ≡ value_param_text (is_some (pick b none (some t))) t ++ params_text ps
 unfolding with_value params_text value_param_text is_some
-with_value true t ps = refl
-with_value false t ps = refl
+with-value true t ps = refl
+with-value false t ps = refl
 
 -- a property's line
 pub line-is : (T : Table) (p : Property) {k : Ruling} → Rules (find T p.name) p.name p.type k
     → property_line T p ≡ upper p.name ++ (value_param_text k.shown p.type ++ (params_text p.params ++ (octets ":" ++ values_text (sort_said k.sort) p.values)))
 unfolding property_line written_line line_text shown written_sort
 line-is T p g =
-    rw (g.shown, g.sort, with_value (is_unknown p.type or is_default (find T p.name) p.type) p.type p.params)
+    rw (g.shown, g.sort, with-value (is_unknown p.type or is_default (find T p.name) p.type) p.type p.params)
     (ap (λ l. upper p.name ++ l) (append_assoc (value_param_text _ p.type) (params_text p.params) _))
 
 -- the pieces of a property's line, as they were read
