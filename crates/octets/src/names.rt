@@ -213,6 +213,7 @@ pub fn hex_digit(c: u8) -> u8
 }
 
 impl Class {
+    #[inline(always)]
     pub(crate) fn has(self, c: u8) -> bool
         ensures { result ≡ belongs self c }
     {

@@ -136,6 +136,7 @@ pub fn find_near(s: &[u8], at: usize, b: u8) -> usize
 }
 
 // The end of the octets of the class from `at` on.
+#[inline(always)]
 pub fn run_end(s: &[u8], at: usize, class: Class) -> usize
     ensures { result ≡ at + length (until (λ c. not (belongs class c)) (drop at s.now)) }
 {
@@ -150,6 +151,7 @@ pub fn run_end(s: &[u8], at: usize, class: Class) -> usize
 }
 
 // Each octet of a block is of the class. They are counted, since a compiler then looks at all of them together, however many tests the class has.
+#[inline(always)]
 fn is_block_of(s: &[u8], class: Class) -> bool
     ensures { result ≡ all (belongs class) s.now }
 {
@@ -165,6 +167,7 @@ fn is_block_of(s: &[u8], class: Class) -> bool
 }
 
 // The end of the octets of the class from `at` on, for runs that are long: whole blocks first.
+#[inline(always)]
 pub fn long_run_end(s: &[u8], at: usize, class: Class) -> usize
     ensures { result ≡ at + length (until (λ c. not (belongs class c)) (drop at s.now)) }
 {

@@ -1,5 +1,7 @@
 -- `calendar::dates::is_day` meets its contract: its tests are the definition's, and a day up to the 28th stands in every month.
+use Prim.Native.Nat.{◌≤◌}
 use native.Mathlib.Nat.{le_trans}
+use native.Mathlib.Omega.{arith}
 use borrow.Author.Tests.{le-leb, lt-leb}
 use Rattle.octets.specs.Classes.{between}
 use Rattle.octets.proofs.Limits.{last-year}
@@ -23,13 +25,13 @@ returns-then-d-lt1 c = simp
 
 pub returns-then-d-le28 : goal.returns-then-d-le28
 unfolding is_day between
-returns-then-d-le28 c = simp (
+returns-then-d-le28 c = let h : c.args.d ≤ 28 = omega arith in simp (
   last-year,
   le-leb _ _ c.if-last-y.false,
   le-leb _ _ c.if-m-lt1.false,
   le-leb _ _ c.if-m-gt12.false,
   le-leb _ _ c.if-d-lt1.false,
-  le-leb _ _ (le_trans c.if-d-le28.true (month-bounds c.args.y c.args.m c.if-m-lt1.false c.if-m-gt12.false).0),
+  le-leb _ _ (le_trans h (month-bounds c.args.y c.args.m c.if-m-lt1.false c.if-m-gt12.false).0),
 )
 
 pub returns : goal.returns

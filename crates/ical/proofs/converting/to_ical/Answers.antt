@@ -8,7 +8,7 @@ use Rattle.ical.proofs.Stages.{too_long}
 use Rattle.ical.proofs.converting.to_ical.Goals as goal
 
 pub returns-then-text-gt-MOST_TEXT : goal.returns-then-text-gt-MOST_TEXT
-returns-then-text-gt-MOST_TEXT c = c.refuse.ensures ∙ ap (λ a. answer a c.args.out.now) (sym (too_long _ _ c.if-text-gt-MOST_TEXT.true))
+returns-then-text-gt-MOST_TEXT c = c.refuse.ensures ∙ ap (λ a. answer a c.args.out.now) (sym (too_long _ _ (omega (arith, most-text, c.if-text-gt-MOST_TEXT.true))))
 
 pub convert-requires : goal.convert-requires
 convert-requires c = (omega (arith, most-text, c.if-text-gt-MOST_TEXT.false), omega (arith, room-is))

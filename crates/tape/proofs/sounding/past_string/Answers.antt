@@ -7,13 +7,13 @@ pub loop-e-init : goal.loop-e-init
 loop-e-init c = seek-start
 
 pub loop-e-preserved-then-b-lt160 : goal.loop-e-preserved-then-b-lt160
-loop-e-preserved-then-b-lt160 c = seek-low c.loop-e.invariant c.loop-e-test.true (λ z. omega arith) c.if-b-lt160.true
+loop-e-preserved-then-b-lt160 c = seek-low c.loop-e.invariant c.loop-e-test.true (λ z. omega arith) (omega arith)
 
 pub returns-then-b : goal.returns-then-b
 returns-then-b c = seek-end c.loop-e.invariant c.loop-e-test.true c.if-b.true
 
 pub returns-then-p : goal.returns-then-p
-returns-then-p c = seek-lone c.loop-e.invariant c.loop-e-test.true c.if-b.false c.if-p.true c.if-b-lt160.false
+returns-then-p c = seek-lone c.loop-e.invariant c.loop-e-test.true c.if-b.false c.if-p.true (omega arith)
 
 pub loop-e-preserved : goal.loop-e-preserved
 loop-e-preserved c = seek-other c.loop-e.invariant c.loop-e-test.true c.if-b.false c.if-p.false
