@@ -1,7 +1,7 @@
 // What the converters' programs share: standard input, a file that may be there, and a conversion's answer on standard output.
 #![tactic(auto)]
 
-ghost use Rattle.std.specs.Prelude.{◌≡◌, ◌≤◌, eqb, length, drop, IfOk};
+ghost use Rattle.std.specs.Prelude.{◌≡◌, ◌≤◌, eqb, length, drop};
 ghost use Rattle.octets.specs.Answers.{outcome};
 ghost use Rattle.octets.specs.Basics.{all};
 
@@ -16,20 +16,12 @@ pub const ROOM_FOR_TEXT: usize = octets::MOST_TEXT + 1;
 // Octets that are read of rows.hex: one more than the longest file that is not refused, of lines with 34 octets in hexadecimal.
 pub const ROOM_FOR_FILE: usize = 69 * octets::MOST_ROWS + 1;
 
-// Reads standard input until the buffer is full or the input ends, and answers how many octets it put at the start of the buffer.
-pub fn read_text<R: Input>(rt: &R, buf: &mut [u8]) -> io::Result<usize>
-    ensures { IfOk result (λ n. n ≤ length buf.new) }
+// Reads standard input until the buffer is full, the input ends or a read fails, and answers how many octets it put at the start of the buffer.
+pub fn read_text<R: Input>(rt: &R, buf: &mut [u8]) -> usize
+    ensures { result ≤ length buf.new }
 {
     let mut input = rt.reader();
-    let mut done = 0;
-    while done < buf.len() {
-        let n = input.read(&mut buf[done..])?;
-        if n == 0 {
-            break;
-        }
-        done += n;
-    }
-    Ok(done)
+    read_full(&mut input, buf)
 }
 
 // Reads a file as far as there is room, and answers its length; 0 where there is none. Of a file that is there and cannot be read it makes the octet 0 alone,
