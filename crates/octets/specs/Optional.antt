@@ -1,6 +1,7 @@
 -- Values that may be missing.
-use Rattle.std.specs.Prelude.{Bool, true, false, List, [], ◌∷◌}
+use Rattle.std.specs.Prelude.{Bool, true, false, List, [], ◌∷◌, Some, None}
 use Rattle.std.proofs.Math.Option.{Option, none, some}
+use Rattle.std.specs.declared.option.Option as code
 
 unfoldable pub map? : {A B : Type 0} → (A → B) → Option A → Option B
 map? f none = none
@@ -48,3 +49,8 @@ given e f (some a) = f a
 unfoldable pub each : {A B : Type 0} → (A → Option B) → List A → Option (List B)
 each f [] = some []
 each f (x ∷ xs) = both? ◌∷◌ (f x) (each f xs)
+
+-- what the code's own Option says
+abbrev pub said : {A : Type 0} → code.Option A → Option A
+said None = none
+said (Some a) = some a
