@@ -2,44 +2,24 @@
 use Prim.Native.Nat.{ℕ}
 use Prim.Native.Char.{code}
 use mathlib.Core.Path.{◌≡◌, refl, sym, ap, ◌∙◌}
-use mathlib.Core.Bool.{Bool, true, false, not}
+use mathlib.Core.Bool.{Bool, true, false}
 use mathlib.Core.List.{List, [], ◌∷◌, ◌++◌}
-use mathlib.Core.Option.{none, some}
-use native.Mathlib.Omega.{arith}
-use borrow.Author.Tests.{eq-eqb, ne_eqb, eqb-true, eqb-false}
-use lib.Dec.{eqb, leb}
+use mathlib.Core.Option.{Option, none, some}
+use lib.Dec.{leb}
 use lib.ListN.{length}
-use Rattle.octets.specs.Basics.{octets, pick, ◌and◌}
+use Rattle.octets.specs.Basics.{octets, ◌and◌}
 use Rattle.octets.specs.Optional.{is_some, when, guard}
 use Rattle.octets.specs.Classes.{upper}
 use Rattle.octets.proofs.Cases.{cases}
 use Rattle.octets.proofs.Classes.{upper-length}
 use Rattle.calendar.specs.Forms.{Slot, digit, letter, added, fits, extended, fits_either, keeps, basic, date_form, clock_form, utc, time_form, date_time_form, offset_form}
 use Rattle.calendar.specs.Dates.{clock_in, moment_in, offset_in, date_of, time_of, date_time_of, offset_of, date_is, time_is, date_time_is, offset_is, date_text, time_text, date_time_text, offset_text}
-use Rattle.calendar.specs.Texts.{form_of, form_is, form_text, octets_in, text_said, Says, Carries, is_added, place_at, slot_at, slots, long_from, shape, shaped, numbers_in, read_form}
+use Rattle.calendar.specs.Texts.{form_of, form_is, form_text, is_added, place_at, slot_at, slots, long_from, shape, shaped, numbers_in, read_form}
 pub use Rattle.calendar.specs.Texts.{form_for}
 use Rattle.calendar.specs.declared.texts.Form.{Form}
 use Rattle.calendar.specs.declared.texts.Form.TheVariants.{Date, Time, DateTime, Offset}
-use Rattle.calendar.specs.declared.texts.ShortText.{ShortText}
 use Rattle.calendar.proofs.Extended.{width, read-by-length, fits-by-length, basic-front}
 use Rattle.calendar.proofs.Slots.{whole-text}
-
--- what a text of some length says
-pub says_none : (t : ShortText) → t.len ≡ 0 → text_said t ≡ none
-unfolding text_said
-says_none t e = rw (eq-eqb t.len 0 e)
-
-pub says_some : (t : ShortText) → (t.len ≡ 0 → ⊥) → text_said t ≡ some (octets_in t)
-unfolding text_said
-says_some t n = rw (ne_eqb t.len 0 n)
-
-pub says_any : (t : ShortText) → is_some (text_said t) ≡ not (eqb t.len 0)
-unfolding text_said is_some
-says_any t = at (eqb t.len 0)
-  where
-    at : (b : Bool) → is_some (pick b none (some (octets_in t))) ≡ not b
-    at true = refl
-    at false = refl
 
 -- The places of a form as octets read and write by that form.
 pub reads-shape : (whole : Bool) (f : Form) (form s : List ℕ) → slots false form ≡ shape whole f s → extended (slots whole form) s ≡ shaped whole f s
@@ -125,33 +105,23 @@ shape-places : (whole : Bool) (f : Form) (s : List ℕ) (b : Bool) → leb (long
 unfolding shape
 shape-places whole f s b e = places-form f b ∙ sym (ap (λ n. form_for f (leb (long_from whole f) n)) (upper-length s) ∙ ap (form_for f) e)
 
--- what a text says that was read by its places, and what one carries that was written by them
-pub read_by : (whole b : Bool) (f : Form) (s : List ℕ) → leb (long_from whole f) (length s) ≡ b → {g : Form} → g ≡ f → {t : ShortText}
-    → Says t (extended (slots whole (places f b)) (upper s)) → Says t (shaped whole g (upper s))
-read_by whole b f s e i r = rw i (record { text = r.text ∙ reads-shape whole f (places f b) (upper s) (shape-places whole f s b e); room = r.room })
+-- what is read by its places, and what is written by them
+pub read_by : (whole b : Bool) (f : Form) (s : List ℕ) → leb (long_from whole f) (length s) ≡ b → {g : Form} → g ≡ f → {r : Option (List ℕ)}
+    → r ≡ extended (slots whole (places f b)) (upper s) → r ≡ shaped whole g (upper s)
+read_by whole b f s e i r = rw i (r ∙ reads-shape whole f (places f b) (upper s) (shape-places whole f s b e))
 
-pub written-by : (f : Form) (s : List ℕ) {g : Form} → g ≡ f → {t : ShortText} → Carries t (basic (slots false (places f true)) (upper s)) → Carries t (form_text g (upper s))
-written-by f s i r = rw i (record { octets = r.octets ∙ ap (λ g. basic g (upper s)) (places-form f true) ∙ sym (form-text f (upper s)); room = r.room })
+pub written-by : (f : Form) (s : List ℕ) {g : Form} → g ≡ f → {t : List ℕ} → t ≡ basic (slots false (places f true)) (upper s) → t ≡ form_text g (upper s)
+written-by f s i r = rw i (r ∙ ap (λ g. basic g (upper s)) (places-form f true) ∙ sym (form-text f (upper s)))
 
--- a text that is read passes the test of its numbers, or there is none; a text that fails it is taken back
-pub passes : (whole : Bool) (f : Form) (s : List ℕ) (t : ShortText) → Says t (shaped whole f s) → ((t.len ≡ 0 → ⊥) → numbers_in f (octets_in t) ≡ true) → Says t (read_form whole f s)
+-- a text that is read passes the test of its numbers, or fails it, or there is none
+pub passes : (whole : Bool) (f : Form) (s t : List ℕ) → some t ≡ shaped whole f s → numbers_in f t ≡ true → some t ≡ read_form whole f s
 unfolding read_form guard when
-passes whole f s t r p = record { text = go (eqb t.len 0) refl; room = r.room }
-  where
-    go : (b : Bool) → eqb t.len 0 ≡ b → text_said t ≡ guard (numbers_in f) (shaped whole f s)
-    go true e =
-        let n = says_none t (eqb-true t.len 0 e) in
-        n ∙ sym (ap (guard (numbers_in f)) (sym r.text ∙ n))
-    go false e =
-        let n = eqb-false t.len 0 e in
-        let h = says_some t n in
-        h ∙ sym (ap (guard (numbers_in f)) (sym r.text ∙ h) ∙ rw (p n))
+passes whole f s t r p = rw (← r, p)
 
-pub fails : (whole : Bool) (f : Form) (s o : List ℕ) (t : ShortText) → Says t (shaped whole f s) → numbers_in f (octets_in t) ≡ false
-    → Says (record { octets = o; len = 0 }) (read_form whole f s)
+pub fails : (whole : Bool) (f : Form) (s t : List ℕ) → some t ≡ shaped whole f s → numbers_in f t ≡ false → none ≡ read_form whole f s
 unfolding read_form guard when
-fails whole f s o t r p = record { text = says_none _ refl ∙ sym (go (eqb t.len 0) refl); room = omega arith }
-  where
-    go : (b : Bool) → eqb t.len 0 ≡ b → guard (numbers_in f) (shaped whole f s) ≡ none
-    go true e = ap (guard (numbers_in f)) (sym r.text ∙ says_none t (eqb-true t.len 0 e))
-    go false e = ap (guard (numbers_in f)) (sym r.text ∙ says_some t (eqb-false t.len 0 e)) ∙ rw p
+fails whole f s t r p = rw (← r, p)
+
+pub lacks : (whole : Bool) (f : Form) (s : List ℕ) → none ≡ shaped whole f s → none ≡ read_form whole f s
+unfolding read_form guard
+lacks whole f s r = rw (← r)

@@ -2,12 +2,13 @@
 use Prim.Native.Nat.{ℕ, ◌+◌, ◌-◌, ◌*◌, ◌≤◌, ◌<◌, min}
 use mathlib.Core.Path.{◌≡◌, refl, sym, ap, ◌∙◌}
 use mathlib.Core.Bool.{true, false}
-use mathlib.Core.List.{List, ◌∷◌}
+use mathlib.Core.List.{List, [], ◌∷◌}
 use native.Mathlib.Omega.{arith}
 use borrow.Author.Tests.{eq-eqb, ne_eqb, lt-leb, leb-true, leb-false}
 use lib.Dec.{eqb, leb}
 use lib.ListN.{length, get_or, take, drop}
-use lib.Seq.{drop-drop}
+use Rattle.std.specs.Prelude.{fold}
+use Rattle.std.specs.List.{slice_split}
 use Rattle.octets.specs.Basics.{pick}
 use Rattle.octets.specs.Classes.{upper}
 use Rattle.octets.specs.Decimal.{value_of, minus, unsigned}
@@ -16,12 +17,11 @@ use Rattle.octets.proofs.Cases.{cases}
 use Rattle.octets.proofs.Classes.{below-between, above-between, within-between}
 use Rattle.octets.proofs.Positions.{from, upto}
 use Rattle.calendar.specs.Sets.{with}
-use Rattle.calendar.specs.Walk.{before_first}
 use Rattle.calendar.specs.Rules.{weekday_of, weekday_place, with_day, with_month_day, gathered}
 use Rattle.calendar.specs.declared.by_days.ByDays.{ByDays}
 use Rattle.calendar.specs.declared.rules.Weekday.{Weekday}
 use Rattle.calendar.specs.declared.rules.Weekday.TheVariants.{Sunday, Monday, Tuesday, Wednesday, Thursday, Friday, Saturday}
-use Rattle.calendar.proofs.Pieces.{before-take, split-more, split-last, scanned}
+use Rattle.calendar.proofs.Pieces.{pieces-are}
 
 pub place-small : (w : Weekday) → weekday_place w ≤ 6
 unfolding weekday_place
@@ -37,33 +37,14 @@ pub gathered-first : (f : ByDays → List ℕ → ByDays) (b : ByDays) (x : List
 unfolding gathered
 gathered-first f b x xs = refl
 
--- a turn, which takes the value at `at`, of e octets, and makes c of b
-module _ (f : ByDays → List ℕ → ByDays) (v : List ℕ) (at e : ℕ) (b c : ByDays) (is : e ≡ length (before_first 44 (take (length v - at) (drop at v))))
-    (told : c ≡ f b (take (e - 0) (drop 0 (take (length v - at) (drop at v))))) where
-  abbrev rest : List ℕ
-  rest = drop at v
+gathered-all : (f : ByDays → List ℕ → ByDays) (b : ByDays) (ls : List (List ℕ)) → fold f b ls ≡ gathered f b ls
+unfolding gathered
+gathered-all f b [] = refl
+gathered-all f b (l ∷ ls) = gathered-all f (f b l) ls
 
-  here : e ≡ length (before_first 44 rest)
-  here = scanned 44 v at e is
-
-  value : f b (take e rest) ≡ c
-  value = sym (rw (from v at, upto rest e) at told)
-
-  piece : before_first 44 rest ≡ take e rest
-  piece = rw here (before-take 44 rest)
-
-  pub gathers-last : length (take (length v - at) rest) ≤ e → gathered f b (split 44 rest) ≡ c
-  unfolding gathered
-  gathers-last h = rw (split-last 44 rest (rw (← here) (rw (from v at) at h)), piece) value
-
-  pub gathers-more : e < length (take (length v - at) rest) → gathered f b (split 44 rest) ≡ gathered f c (split 44 (drop (at + e + 1) v))
-  gathers-more h =
-      let p : split 44 rest ≡ before_first 44 rest ∷ split 44 (drop (e + 1) rest) = rw (← here) at (split-more 44 rest (rw (← here) (rw (from v at) at h))) in
-      let d : drop (e + 1) rest ≡ drop (at + e + 1) v = drop-drop (e + 1) at v ∙ ap (λ (n : ℕ). drop n v) (sum at e) in
-      rw (p, piece) (gathered-first f b (take e rest) (split 44 (drop (e + 1) rest)) ∙ rw (value, d))
-    where
-      sum : (at e : ℕ) → at + (e + 1) ≡ at + e + 1
-      sum at e = omega arith
+-- a fold of the values between commas
+pub gathered-fold : (f : ByDays → List ℕ → ByDays) (b : ByDays) (v : List ℕ) → fold f b (slice_split (λ x. eqb x 44) v) ≡ gathered f b (split 44 v)
+gathered-fold f b v = rw (pieces-are 44 v) (gathered-all f b (split 44 v))
 
 -- one value of BYMONTHDAY; its digits begin at `at`, and n is their number, at most 32
 module _ (b : ByDays) (s : List ℕ) (at n : ℕ) (u : unsigned s ≡ drop at s) (m : n ≡ min (value_of (take (length s - at) (drop at s))) (31 + 1)) where

@@ -15,7 +15,8 @@ use Rattle.calendar.specs.Moments.{is_moment, hour_number, at_hour, moved}
 use Rattle.calendar.specs.Answers.{moved_on}
 use Rattle.calendar.specs.declared.dates.Date.{Date}
 use Rattle.calendar.specs.declared.moments.Moment.{Moment}
-use Rattle.calendar.specs.declared.moments.Moved.TheVariants.{At, Past, NoMoment}
+use Rattle.calendar.specs.declared.moments.NotMoved.TheVariants.{Past, NoMoment}
+use Rattle.std.specs.Prelude.{Ok, Err}
 use Rattle.calendar.proofs.Inverse.{day-count, number_small}
 
 -- what `when` tells where there is nothing
@@ -31,11 +32,11 @@ abbrev at_time : Moment → Bool
 at_time m = is_clock m.hour m.minute m.second
 
 module _ (m : Moment) (h : ℕ) where
-  pub no-time : at_time m ≡ false → NoMoment ≡ moved_on m h
+  pub no-time : at_time m ≡ false → Err NoMoment ≡ moved_on m h
   unfolding moved_on is_moment
   no-time e = rw (e, and-false-right (on_day m.date))
 
-  pub no-day : none ≡ when (on_day m.date) (day_number m.date) → NoMoment ≡ moved_on m h
+  pub no-day : none ≡ when (on_day m.date) (day_number m.date) → Err NoMoment ≡ moved_on m h
   unfolding moved_on is_moment
   no-day e = rw (none-when _ _ e)
 
@@ -53,11 +54,11 @@ module _ (m : Moment) (h : ℕ) where
     unfolding is_clock
     within = let s = small in let t = leb-true m.hour 23 (both (leb m.hour 23) _ t).0 in omega arith
 
-    moves : moved_on m h ≡ given Past At (when (ltb (n * 24 + m.hour + h) 87658200) (at_hour m (n * 24 + m.hour + h)))
+    moves : moved_on m h ≡ given (Err Past) Ok (when (ltb (n * 24 + m.hour + h) 87658200) (at_hour m (n * 24 + m.hour + h)))
     unfolding moved_on is_moment moved hour_number
     moves = rw (day, t, ← number, day-count)
 
-    pub past : 87658200 ≤ n * 24 + m.hour + h → Past ≡ moved_on m h
+    pub past : 87658200 ≤ n * 24 + m.hour + h → Err Past ≡ moved_on m h
     unfolding when given
     past p = sym (moves ∙ rw (le-ltb (n * 24 + m.hour + h) 87658200 p))
 
@@ -71,7 +72,7 @@ module _ (m : Moment) (h : ℕ) where
           let z : ◌≡◌ {A = ℕ} 0 1 = cc in omega arith
 
       pub arrives : (d : Date) → some d ≡ when (ltb ((n * 24 + m.hour + h) / 24) day_count) (date_at ((n * 24 + m.hour + h) / 24))
-          → At (record { date = d; hour = (n * 24 + m.hour + h) % 24; minute = m.minute; second = m.second; kind = m.kind }) ≡ moved_on m h
+          → Ok (record { date = d; hour = (n * 24 + m.hour + h) % 24; minute = m.minute; second = m.second; kind = m.kind }) ≡ moved_on m h
       unfolding at_hour when given
       arrives d q =
           let e : d ≡ date_at ((n * 24 + m.hour + h) / 24) = sym (when-is (ltb ((n * 24 + m.hour + h) / 24) day_count) (date_at ((n * 24 + m.hour + h) / 24)) d (sym q)).1 in

@@ -1,11 +1,13 @@
 -- Reading a duration letter by letter, which is its definition, and the loop that does so.
-use Prim.Native.Nat.{ℕ, ◌+◌, ◌≤◌, ◌<◌}
+use Prim.Native.Nat.{ℕ, ◌+◌, ◌-◌, ◌≤◌, ◌<◌}
 use Prim.Native.Char.{code}
 use mathlib.Core.Path.{◌≡◌, refl, sym, ◌∙◌}
 use mathlib.Core.Bool.{Bool, true, false, not}
 use mathlib.Core.List.{List, [], ◌∷◌}
 use lib.Dec.{eqb}
-use lib.ListN.{length, get_or, drop}
+use native.Mathlib.Omega.{arith}
+use lib.ListN.{length, get_or, take, drop, length-drop}
+use lib.Seq.{take_all}
 use Rattle.octets.specs.Basics.{octets, pick, ◌and◌, all, any, same, among}
 use Rattle.octets.specs.Classes.{between, is_digit, upper_octet, upper}
 use Rattle.octets.specs.Decimal.{unsigned}
@@ -112,23 +114,23 @@ letters-all p d (c ∷ s) h =
     (λ e. and-true (d c e) (letters-all p d s (rw e at h)))
     (λ e. let b = both (p c) (all p (letters s)) (rw e at h) in and-true b.0 (letters-all p d s b.1))
 
--- The loop that reads a duration: i octets are read, b is the last letter of them and p the last octet.
-abbrev pub Spelled : List ℕ → ℕ → ℕ → ℕ → Type 0
-Spelled s b p i = duration_rest b p (upper (drop i s)) ≡ duration_is (upper s)
+-- The loop that reads a duration: of its octets t behind the sign i are read, b is the last letter of them and p the last octet.
+abbrev pub Spelled : List ℕ → List ℕ → ℕ → ℕ → ℕ → Type 0
+Spelled s t b p i = duration_rest b p (upper (drop i t)) ≡ duration_is (upper s)
 
-module _ (s : List ℕ) where
-  pub sets-out : (r : ℕ) → unsigned s ≡ drop r s → Spelled s 0 0 r
-  sets-out r e = sym (read-by-letters (upper s) ∙ rw (unsigned-upper s, e))
+module _ (s t : List ℕ) where
+  pub sets-out : (r : ℕ) → unsigned s ≡ drop r s → t ≡ take (length s - r) (drop r s) → Spelled s t 0 0 0
+  sets-out r e q = sym (read-by-letters (upper s) ∙ rw (unsigned-upper s, e, q, take_all (length s - r) (drop r s) (rw length-drop (omega arith))))
 
-  module _ (b p i c : ℕ) (f : Spelled s b p i) where
-    pub goes_on : i < length s → c ≡ upper_octet (get_or s i 0) → may_come b p c ≡ true → Spelled s (letter_with b c) c (i + 1)
+  module _ (b p i c : ℕ) (f : Spelled s t b p i) where
+    pub goes_on : i < length t → c ≡ upper_octet (get_or t i 0) → may_come b p c ≡ true → Spelled s t (letter_with b c) c (i + 1)
     unfolding upper duration_rest
-    goes_on h e m = rw (here s i h, ← e, m) at f
+    goes_on h e m = rw (here t i h, ← e, m) at f
 
-    pub breaks : i < length s → c ≡ upper_octet (get_or s i 0) → may_come b p c ≡ false → duration_is (upper s) ≡ false
+    pub breaks : i < length t → c ≡ upper_octet (get_or t i 0) → may_come b p c ≡ false → false ≡ duration_is (upper s)
     unfolding upper duration_rest
-    breaks h e m = sym (rw (here s i h, ← e, m) at f)
+    breaks h e m = rw (here t i h, ← e, m) at f
 
-  pub arrives : (b p i : ℕ) → Spelled s b p i → length s ≤ i → duration_is (upper s) ≡ (is_unit b and not (is_digit p))
+  pub arrives : (b p i : ℕ) → Spelled s t b p i → length t ≤ i → (is_unit b and not (is_digit p)) ≡ duration_is (upper s)
   unfolding upper duration_rest
-  arrives b p i f h = sym (rw (ended s i h) at f)
+  arrives b p i f h = rw (ended t i h) at f

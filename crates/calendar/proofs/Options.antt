@@ -2,7 +2,10 @@
 use mathlib.Core.Path.{◌≡◌, refl}
 use mathlib.Core.Bool.{true, false}
 use mathlib.Core.Option.{Option, none, some}
-use Rattle.octets.specs.Optional.{map?, then?, or?, is_some}
+use Rattle.std.specs.Prelude.{Some, None}
+use Rattle.std.specs.declared.option.Option as code
+use Rattle.std.specs.Option.{is_some as is-there, MatchOption}
+use Rattle.octets.specs.Optional.{map?, then?, or?, is_some, said}
 use Rattle.octets.proofs.Cases.{never}
 use Rattle.octets.proofs.Optional.{map_is as mapped, then_is as followed}
 pub use Rattle.octets.proofs.Optional.{when-is, guard-is}
@@ -39,3 +42,15 @@ pub some-both : {A B C : Type 0} (o : Option A) (f : A → B → C) (p : Option 
 unfolding is_some then?
 some-both none f p e = never e refl
 some-both (some a) f p e = some-map (f a) p
+
+-- there is something in the code's own Option where there is in what it says
+pub said-some : {A : Type 0} (o : code.Option A) → is-there o ≡ is_some (said o)
+unfolding is_some
+said-some None = refl
+said-some (Some a) = refl
+
+-- what `or_else` gives
+pub or-else-said : {A E : Type 0} (o r : code.Option A) (y : Option A) → MatchOption o E (λ x. r ≡ Some x) → (E → said r ≡ y) → said r ≡ or? (said o) y
+unfolding or?
+or-else-said None r y h e = e h
+or-else-said (Some a) r y h e = rw h

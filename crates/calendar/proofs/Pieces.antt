@@ -6,17 +6,18 @@ use mathlib.Core.Bool.{Bool, true, false}
 use mathlib.Core.List.{List, [], ◌∷◌, map}
 use native.Mathlib.Numerals.{add-one}
 use native.Mathlib.Omega.{arith}
-use borrow.Author.Tests.{eq-eqb, ne_eqb}
 use lib.Dec.{eqb}
-use lib.ListN.{length, get_or, take, drop, length-drop}
+use lib.ListN.{length, take, drop, length-drop}
 use lib.Seq.{take_all}
+use Rattle.std.specs.List.{slice_split, onto_first}
 use Rattle.octets.specs.Basics.{pick}
 use Rattle.octets.specs.Classes.{between, is_upper, is_lower, upper_octet, upper}
 use Rattle.octets.specs.Pieces.{split, onto, cut}
 use Rattle.octets.proofs.Cases.{cases, apart}
 use Rattle.octets.proofs.Classes.{between-true, within-between}
-use Rattle.octets.proofs.Positions.{here, ended, from}
+use Rattle.octets.proofs.Positions.{from}
 use Rattle.octets.proofs.Search.{le-by, take_by}
+use Rattle.octets.specs.Search.{until}
 use Rattle.calendar.specs.Walk.{before_first}
 
 -- the piece before the first separator
@@ -63,20 +64,6 @@ module _ (sep : ℕ) where
 
   pub split-last : (s : List ℕ) → length s ≤ length (before_first sep s) → split sep s ≡ before_first sep s ∷ []
   split-last s h = rw (before-all s h) (last s h)
-
-  -- for a scan: the separator stands at i; it does not; or the end is reached
-  module _ (s : List ℕ) (i : ℕ) where
-    pub before_here : i < length s → get_or s i 0 ≡ sep → length (before_first sep (drop i s)) ≡ 0
-    unfolding before_first
-    before_here h e = rw (here s i h, eq-eqb (get_or s i 0) sep e)
-
-    pub before_on : i < length s → (get_or s i 0 ≡ sep → ⊥) → length (before_first sep (drop i s)) ≡ suc (length (before_first sep (drop (i + 1) s)))
-    unfolding before_first
-    before_on h n = rw (here s i h, ne_eqb (get_or s i 0) sep n)
-
-    pub before-end : length s ≤ i → length (before_first sep (drop i s)) ≡ 0
-    unfolding before_first
-    before-end h = rw (ended s i h)
 
 -- uppercase neither makes nor takes away a separator
 abbrev pub Uncased : ℕ → Type 0
@@ -137,3 +124,22 @@ module _ (sep : ℕ) (s : List ℕ) (at e : ℕ) (is : e ≡ length (before_firs
 
   pub scanned-in : e < length (take (length s - at) (drop at s)) → e < length s - at
   scanned-in h = rw (from s at, length-drop at s) at h
+
+-- the octets before the first separator, as the search for it has them
+pub before-until : (sep : ℕ) (s : List ℕ) → before_first sep s ≡ until (λ c. eqb c sep) s
+unfolding before_first until
+before-until sep [] = refl
+before-until sep (c ∷ s) = rw (before-until sep s)
+
+-- the pieces of a chain of iterators are those of the definitions
+onto-same : (x : ℕ) (ls : List (List ℕ)) → onto_first x ls ≡ onto x ls
+unfolding onto
+onto-same x [] = refl
+onto-same x (l ∷ ls) = refl
+
+pub pieces-are : (sep : ℕ) (s : List ℕ) → slice_split (λ x. eqb x sep) s ≡ split sep s
+unfolding split cut
+pieces-are sep [] = refl
+pieces-are sep (x ∷ s) = cases (eqb x sep)
+    (λ e. rw e (ap (◌∷◌ []) (pieces-are sep s)))
+    (λ e. rw e (ap (onto_first x) (pieces-are sep s) ∙ onto-same x (split sep s)))

@@ -20,8 +20,7 @@ use Rattle.octets.proofs.Classes.{same-is}
 use Rattle.octets.proofs.Pieces.{Free, split-filled, joined-split}
 use Rattle.octets.proofs.Positions.{from}
 use Rattle.calendar.specs.Recurrence.{PartSort, frequency, Key, key, keys, key_in, key_named, item_of, several, Part, part, keyed_part, part_of, is_rule, parts_of}
-use Rattle.calendar.specs.Walk.{before_first, word_place, key_place, key_at, keyed, part_in, first_part}
-use Rattle.calendar.specs.declared.parts.PartAt.{PartAt}
+use Rattle.calendar.specs.Walk.{Places, before_first, word_place, key_place, key_at, keyed, part_in, first_part}
 use Rattle.octets.proofs.Optional.{guard-is}
 use Rattle.calendar.proofs.Options.{map_is}
 use Rattle.calendar.proofs.Pieces.{before-le, before-take, before-all, split-more, split-last, Uncased, semicolon-uncased, equals-uncased, split-upper}
@@ -74,7 +73,7 @@ items-All P h k sort v vs e =
     let a = each-All (item_of sort) (All P) (λ l w d. All-weaker h l (all-All item_octet l (item-octets sort l w d))) (split (code ",") v) vs e in
     rw (joined-split (code ",") v) at (All-joined P (code ",") k (split (code ",") v) a)
 
-before-free : (sep : ℕ) (s : List ℕ) → Free sep s → before_first sep s ≡ s
+pub before-free : (sep : ℕ) (s : List ℕ) → Free sep s → before_first sep s ≡ s
 unfolding before_first
 before-free sep [] h = refl
 before-free sep (c ∷ s) h = rw h.0 (ap (λ (l : List ℕ). c ∷ l) (before-free sep s h.1))
@@ -162,7 +161,7 @@ unfoldable pub read_parts : List ℕ → Option (List Part)
 read_parts s = each read_part (split (code ";") s)
 
 -- what is read of the part at q in a text
-abbrev pub part_found : List ℕ → PartAt → Option Part
+abbrev pub part_found : List ℕ → Places → Option Part
 part_found s q = pick (ltb q.key 14) (keyed_part (upper (take (q.to - q.from) (drop q.from s))) (key_at q.key)) none
 
 module _ (p : List ℕ) (n : ℕ) (is : n ≡ length (before_first (code "=") p)) where
@@ -248,7 +247,7 @@ pub rule-parts : (s : List ℕ) (ps : List Part) → parts_of s ≡ some ps → 
 unfolding parts_of read_parts
 rule-parts s ps e = guard-is is_rule (each read_part (split (code ";") s)) ps e
 
-pub record Walked (s : List ℕ) (q : PartAt) (ps : List Part) : Type 0 where
+pub record Walked (s : List ℕ) (q : Places) (ps : List Part) : Type 0 where
   -- the part at q, and those behind it
   pub this : Part
   pub others : List Part

@@ -4,6 +4,7 @@ use Prim.Native.Char.{code}
 use mathlib.Core.Path.{◌≡◌, refl, sym, ap, ◌∙◌}
 use mathlib.Core.Bool.{Bool, true, false}
 use mathlib.Core.List.{List, [], ◌∷◌, ◌++◌, append_assoc, append-nil}
+use mathlib.Core.Logic.{◌⊎◌, inl, inr}
 use mathlib.Core.Option.{Option, none, some}
 use native.Mathlib.Omega.{arith}
 use native.Mathlib.Numerals.{add-one}
@@ -129,50 +130,39 @@ module _ (whole : Bool) (form s : List ℕ) where
     unfolding extended joins map?
     ends h g = ap some (sym (append-nil (take k out))) ∙ (rw (slot-ended whole form k h, upper-ended s i g) at r.all)
 
--- The loop that writes the basic text: k places are passed, and n octets of them kept in the front of `out`.
-pub record Writing (form t out : List ℕ) (n k : ℕ) : Type 0 where
+-- The loop that writes the basic text: the places fs and the octets ts are left, and n octets are kept in the front of `out`.
+pub record Writing (form t out : List ℕ) (n : ℕ) (fs ts : List ℕ) : Type 0 where
   pub wide : length out ≡ 20
-  pub kept : n ≤ k
-  pub upto : k ≤ length form
-  pub all : take n out ++ basic (slots false (drop k form)) (upper (drop k t)) ≡ basic (slots false form) (upper t)
+  pub room : n + length fs ≤ 20
+  pub all : take n out ++ basic (slots false fs) (upper ts) ≡ basic (slots false form) (upper t)
 
 basic-place : (c : ℕ) (fs : List Slot) (x : ℕ) (xs : List ℕ) → basic (place_at c ∷ fs) (x ∷ xs) ≡ x ∷ basic fs xs
 basic-place c fs x xs =
     place-cases (λ p. basic (p ∷ fs) (x ∷ xs) ≡ x ∷ basic fs xs) c (unfold basic keeps in refl) (unfold basic keeps in refl) (unfold basic keeps in refl)
 
-module _ (form t : List ℕ) where
-  pub writes : (out : List ℕ) → length out ≡ 20 → Writing form t out 0 0
-  writes out w = record { wide = w; kept = omega arith; upto = omega arith; all = refl }
+module _ (form t out : List ℕ) where
+  module _ (n : ℕ) (fs ts : List ℕ) (r : Writing form t out n fs ts) where
+    module _ (f c : ℕ) (gs us : List ℕ) (p : fs ≡ f ∷ gs) (q : ts ≡ c ∷ us) where
+      pub has-room : n + 1 + length gs ≤ 20
+      has-room = let e = ap length p in omega (arith, r.room)
 
-  module _ (out : List ℕ) (n k : ℕ) (r : Writing form t out n k) where
-    pub skips : k < length form → k < length t → is_added false (get_or form k 0) ≡ true → Writing form t out n (k + 1)
-    skips h g e =
-        record {
-          wide = r.wide;
-          kept = omega arith;
-          upto = omega arith;
-          all = unfold basic keeps in rw (slot_added false form k h e, upper-here t k g) at r.all;
-        }
+      pub skips : is_added false f ≡ true → Writing form t out n gs us
+      unfolding slots slot_at upper basic keeps
+      skips e = record { wide = r.wide; room = omega (arith, has-room); all = rw (p, q, e) at r.all }
 
-    pub keeps-one : (x : ℕ) → k < length form → n < 20 → k < length t → is_added false (get_or form k 0) ≡ false → x ≡ upper_octet (get_or t k 0)
-        → Writing form t (set out n x) (n + 1) (k + 1)
-    keeps-one x h l g e q =
-        let s : take (n + 1) (set out n x) ≡ take n out ++ x ∷ [] = rw add-one (take-suc-set out n x (rw r.wide l)) in
-        record {
-          wide = length-set out n x ∙ r.wide;
-          kept = omega arith;
-          upto = omega arith;
-          all =
-              rw (s, append_assoc)
-              (rw (slot-place false form k h e, upper-here t k g, ← q, basic-place (get_or form k 0)) at r.all);
-        }
+      pub keeps-one : (x : ℕ) → is_added false f ≡ false → x ≡ upper_octet c → Writing form t (set out n x) (n + 1) gs us
+      keeps-one x e d =
+          let s : take (n + 1) (set out n x) ≡ take n out ++ x ∷ [] = rw add-one (take-suc-set out n x (rw r.wide (omega (arith, has-room)))) in
+          record {
+            wide = length-set out n x ∙ r.wide;
+            room = has-room;
+            all = rw (s, append_assoc, d, ← (basic-place f (slots false gs) (upper_octet c) (upper us))) (unfold slots slot_at upper in rw (p, q, e) at r.all);
+          }
 
-    pub text-ends : length t ≤ k → take n out ≡ basic (slots false form) (upper t)
-    text-ends g = sym (append-nil (take n out)) ∙ (rw (upper-ended t k g, basic-none) at r.all)
-
-    pub form-ends : length form ≤ k → take n out ≡ basic (slots false form) (upper t)
-    unfolding basic
-    form-ends g = sym (append-nil (take n out)) ∙ (rw (slot-ended false form k g) at r.all)
+    pub one-ends : (fs ≡ []) ⊎ (ts ≡ []) → take n out ≡ basic (slots false form) (upper t)
+    unfolding basic slots upper
+    one-ends (inl g) = sym (append-nil (take n out)) ∙ (rw g at r.all)
+    one-ends (inr g) = sym (append-nil (take n out)) ∙ (rw (g, basic-none) at r.all)
 
 -- A whole text: a place that only the extended form has is an octet of it.
 whole_takes : (c x : ℕ) → takes (slot_at false c) x ≡ takes (place_at c) x

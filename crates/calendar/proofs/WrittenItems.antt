@@ -22,8 +22,7 @@ use Rattle.octets.proofs.Pen.{then}
 use Rattle.octets.proofs.Pieces.{split-filled}
 use Rattle.octets.proofs.Positions.{from, upto}
 use Rattle.calendar.specs.Recurrence.{PartSort, frequency, moment, count, weekday, ordinal, numbers, weekdays, word_of, until_of, count_of, number_of, ordinal_of, day_of, item_of, several, Part, part, keyed_part, parts_of, part_text, parts_text}
-use Rattle.calendar.specs.Walk.{before_first, key_place, key_at, keyed, part_in, first_part, item_shown, values_shown, part_shown, rule_shown}
-use Rattle.calendar.specs.declared.parts.PartAt.{PartAt}
+use Rattle.calendar.specs.Walk.{Places, before_first, key_place, key_at, keyed, part_in, first_part, item_shown, values_shown, part_shown, rule_shown}
 use Rattle.octets.proofs.Optional.{when-is, guard-is}
 use Rattle.octets.proofs.Classes.{upper-length}
 use Rattle.calendar.proofs.Options.{map_is, then_is}
@@ -137,12 +136,12 @@ part-name p = cases (ltb (length (before_first (code "=") p)) (length p)) (λ e.
 pub first-named : (s : List ℕ) → (first_part s).name ≤ (first_part s).to
 first-named s = rw (first_ends s) (unfold first_part in part-name (before_first (code ";") s))
 
-same_text : (s : List ℕ) (q : PartAt) → q.name ≤ q.to → part_shown q s ≡ part_shown q (take q.to s)
+same_text : (s : List ℕ) (q : Places) → q.name ≤ q.to → part_shown q s ≡ part_shown q (take q.to s)
 unfolding part_shown
 same_text s q h = rw (take-take q.name q.to s h, within q.from q.to s)
 
 pub first-shown : (s : List ℕ) → part_shown (first_part s) s ≡ part_shown (part_in (take (first_part s).to s)) (take (first_part s).to s)
-first-shown s = same_text s (first_part s) (first-named s) ∙ ap (λ (r : PartAt). part_shown r (take (first_part s).to s)) at_piece
+first-shown s = same_text s (first_part s) (first-named s) ∙ ap (λ (r : Places). part_shown r (take (first_part s).to s)) at_piece
   where
     at_piece : first_part s ≡ part_in (take (first_part s).to s)
     at_piece = plain ∙ ap part_in (first_piece_lem s)
@@ -198,11 +197,11 @@ rule-shown s ps e =
     ap (joined (code ";")) (parts-shown (split (code ";") s) ps (rw (split-upper (code ";") semicolon-uncased s) at r))
 
 -- where the part that a text begins with stands
-pub part-places : (r : List ℕ) (q : PartAt) → q ≡ first_part r → (q.name ≤ length r) × (q.from ≤ q.to) × (q.to ≤ length r)
+pub part-places : (r : List ℕ) (q : Places) → q ≡ first_part r → (q.name ≤ length r) × (q.from ≤ q.to) × (q.to ≤ length r)
 part-places r q is = rw is (omega (arith, first-named r, first_to r), first-from r, first_to r)
 
 -- a turn of the loop that writes a rule
-module _ (s : List ℕ) (at : ℕ) (q : PartAt) (is : q ≡ first_part (take (length s - at) (drop at s))) where
+module _ (s : List ℕ) (at : ℕ) (q : Places) (is : q ≡ first_part (take (length s - at) (drop at s))) where
   stops : q.to ≡ length (before_first (code ";") (take (length s - at) (drop at s)))
   stops = rw is (first_ends (take (length s - at) (drop at s)))
 

@@ -1,5 +1,5 @@
 -- A recurrence rule while its parts are read, as the code has it: what the parts so far say, and which there were, in the order of `keys`.
-use Rattle.std.specs.Prelude.{ℕ, ◌+◌, min, Bool, true, false, not, List, [], eqb, ltb, length, get_or}
+use Rattle.std.specs.Prelude.{ℕ, ◌+◌, min, Bool, false, not, List, [], eqb, ltb, length, get_or}
 use Prim.Native.Char.{code}
 use Rattle.std.proofs.Math.Option.{Option}
 use Rattle.octets.specs.Basics.{octets, pick, ◌and◌, ◌or◌, single}
@@ -16,7 +16,6 @@ use Rattle.calendar.specs.declared.rules.Weekday.TheVariants.{Monday}
 use Rattle.calendar.specs.declared.rules.End.{End}
 use Rattle.calendar.specs.declared.rules.End.TheVariants.{Count, Until, Open}
 use Rattle.calendar.specs.declared.rules.ByParts.{ByParts}
-use Rattle.calendar.specs.declared.by_days.ByDays.{ByDays}
 use Rattle.calendar.specs.declared.rules.RuleHead.{RuleHead}
 use Rattle.calendar.specs.declared.rules.Rule.{Rule}
 
@@ -41,11 +40,6 @@ counted v = min (value_of v) (most_integer + 1)
 -- a last moment
 unfoldable pub last_of : List ℕ → End
 last_of v = given Open Until (read_moment v)
-
--- with a value of BYDAY, or of BYMONTHDAY
-unfoldable pub with_named : Bool → ByDays → List ℕ → ByDays
-with_named true b v = with_day b v
-with_named false b v = with_month_day b v
 
 -- one part more, with the key at a place and the value v, letters in either case
 unfoldable pub with_part : Bool → RuleHead → ℕ → List ℕ → RuleHead

@@ -20,8 +20,6 @@ use Rattle.calendar.specs.declared.rules.End.TheVariants.{Count, Until, Open}
 use Rattle.calendar.specs.declared.rules.ByParts.{ByParts}
 use Rattle.calendar.specs.declared.by_days.ByDays.{ByDays}
 use Rattle.calendar.specs.declared.rules.Rule.{Rule}
-use Rattle.calendar.specs.declared.rules.RuleRead.{RuleRead}
-use Rattle.calendar.specs.declared.rules.RuleRead.TheVariants.{Is, NoRule}
 
 unfoldable pub first_of : List (List ℕ) → List ℕ
 first_of [] = []
@@ -138,8 +136,3 @@ rule_from ps = record {
 -- the rule of a text, letters in either case
 unfoldable pub read_rule : List ℕ → Option Rule
 read_rule s = map? rule_from (parts_of (upper s))
-
--- what a returned `RuleRead` says
-unfoldable pub rule_said : RuleRead → Option Rule
-rule_said (Is r) = some r
-rule_said NoRule = none

@@ -1,7 +1,7 @@
--- Texts of a fixed form as the code has them: which form, the form's places written as octets, and a text that may be missing.
-use Rattle.std.specs.Prelude.{ℕ, ◌≤◌, ◌≡◌, Bool, true, false, not, List, map, eqb, leb, length, take}
+-- Texts of a fixed form as the code has them: which form, and the form's places written as octets.
+use Rattle.std.specs.Prelude.{ℕ, Bool, true, false, not, List, map, eqb, leb, length}
 use Prim.Native.Char.{code}
-use Rattle.std.proofs.Math.Option.{Option, none, some}
+use Rattle.std.proofs.Math.Option.{Option}
 use Rattle.octets.specs.Basics.{pick, ◌and◌, ◌or◌}
 use Rattle.octets.specs.Optional.{when, guard}
 use Rattle.calendar.specs.Forms.{Slot, digit, sign, letter, added, fits, extended, date_form, time_form, date_time_form, offset_form}
@@ -10,7 +10,6 @@ use Rattle.calendar.specs.declared.moments.Kind.{Kind}
 use Rattle.calendar.specs.declared.moments.Kind.TheVariants.{Day, Local, Utc}
 use Rattle.calendar.specs.declared.texts.Form.{Form}
 use Rattle.calendar.specs.declared.texts.Form.TheVariants.{Date, Time, DateTime, Offset}
-use Rattle.calendar.specs.declared.texts.ShortText.{ShortText}
 
 -- what is read, tested and written, by the form
 abbrev pub form_of : Form → List ℕ → Option (List ℕ)
@@ -30,22 +29,6 @@ form_text Date t = date_text t
 form_text Time t = time_text t
 form_text DateTime t = date_time_text t
 form_text Offset t = offset_text t
-
--- the octets of a text, and the text if there is one
-abbrev pub octets_in : ShortText → List ℕ
-octets_in t = take t.len t.octets
-
-unfoldable pub text_said : ShortText → Option (List ℕ)
-text_said t = pick (eqb t.len 0) none (some (octets_in t))
-
--- t says the text r, or that there is none; t carries the octets xs
-pub record Says (t : ShortText) (r : Option (List ℕ)) : Type 0 where
-  pub text : text_said t ≡ r
-  pub room : t.len ≤ length t.octets
-
-pub record Carries (t : ShortText) (xs : List ℕ) : Type 0 where
-  pub octets : octets_in t ≡ xs
-  pub room : t.len ≤ length t.octets
 
 -- The places of a form: 9 is a digit, plus a sign, and any other octet is itself; but hyphen and colon are places that only the extended form
 -- has, unless a text is whole, that is in the extended form.

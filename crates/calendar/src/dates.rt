@@ -1,8 +1,8 @@
 // Dates of the Gregorian calendar, and their day numbers by formula.
 ghost use Rattle.std.specs.Prelude.{◌≡◌, ◌≤◌, ◌-◌, ltb};
-ghost use Rattle.octets.specs.Optional.{when};
+ghost use Rattle.octets.specs.Optional.{said, when};
 ghost use Rattle.calendar.specs.Gregorian.{leap_day, month_days, is_day, date_on, day_number, day_count, date_at};
-ghost use Rattle.calendar.specs.Answers.{day_number_said, date_said, month_count, month_at, month_said};
+ghost use Rattle.calendar.specs.Answers.{month_count, month_at};
 
 use octets::LAST_YEAR;
 
@@ -19,32 +19,11 @@ const YEARS: u32 = Date::LAST.year + 1;
 // The days that can be named.
 pub const DAY_COUNT: u32 = 365 * YEARS + YEARS / 4 - YEARS / 100 + YEARS / 400;
 
-// The number of a date's day, or that there is no such day.
-#[derive(Clone, Copy)]
-pub enum DayNumber {
-    Day(u32),
-    NoDate,
-}
-
-// The date of a day number, or that the number lies past the last day.
-#[derive(Clone, Copy)]
-pub enum DateAt {
-    On(Date),
-    Past,
-}
-
 // A month: the number of its first day, and how many days it has.
 #[derive(Clone, Copy)]
 pub struct Month {
     pub first: u32,
     pub days: u32,
-}
-
-// A month by its number, or that the number lies past the last month.
-#[derive(Clone, Copy)]
-pub enum MonthAt {
-    Is(Month),
-    Past,
 }
 
 impl Date {
@@ -74,24 +53,24 @@ impl Date {
         Date::LAST
     }
 
-    // The days from the first day to this one. The year is counted from March, so that the leap day is its last.
-    pub fn day_number(self) -> DayNumber
-        ensures { day_number_said result ≡ when (is_day self.year self.month self.day) (day_number self) }
+    // The days from the first day to this one, if there is such a day. The year is counted from March, so that the leap day is its last.
+    pub fn day_number(self) -> Option<u32>
+        ensures { said result ≡ when (is_day self.year self.month self.day) (day_number self) }
     {
         if !is_day(self.year, self.month, self.day) {
-            return DayNumber::NoDate;
+            return None;
         }
         let s = self.year + 400 - (14 - self.month) / 12;
         let k = (self.month + 9) % 12;
-        DayNumber::Day(365 * s + s / 4 + s / 400 - s / 100 + (153 * k + 2) / 5 + self.day - 146038)
+        Some(365 * s + s / 4 + s / 400 - s / 100 + (153 * k + 2) / 5 + self.day - 146038)
     }
 
-    // The date so many days behind the first day.
-    pub fn from_day_number(n: u32) -> DateAt
-        ensures { date_said result ≡ when (ltb n day_count) (date_at n) }
+    // The date so many days behind the first day, if that is not past the last day.
+    pub fn from_day_number(n: u32) -> Option<Date>
+        ensures { said result ≡ when (ltb n day_count) (date_at n) }
     {
         if DAY_COUNT <= n {
-            return DateAt::Past;
+            return None;
         }
         let z = n + 146037;
         let c = (4 * z + 3) / 146097;
@@ -99,7 +78,7 @@ impl Date {
         let e = (4 * r + 3) / 1461;
         let t = r - 1461 * e / 4;
         let k = (5 * t + 2) / 153;
-        DateAt::On(Date {
+        Some(Date {
             year: 100 * c + e + k / 10 - 400,
             month: (k + 2) % 12 + 1,
             day: t - (153 * k + 2) / 5 + 1,
@@ -108,25 +87,25 @@ impl Date {
 }
 
 impl Month {
-    // The month so many months behind 0000-01.
-    pub fn at(n: u64) -> MonthAt
-        ensures { month_said result ≡ when (ltb n month_count) (month_at n) }
+    // The month so many months behind 0000-01, if that is not past the last month.
+    pub fn at(n: u64) -> Option<Month>
+        ensures { said result ≡ when (ltb n month_count) (month_at n) }
     {
         if (YEARS as u64) * 12 <= n {
-            return MonthAt::Past;
+            return None;
         }
         let year = (n / 12) as u32;
         let month = (n % 12) as u32 + 1;
         let date = Date {
-            year: year,
-            month: month,
+            year,
+            month,
             day: 1,
         };
-        let DayNumber::Day(first) = date.day_number() else {
-            return MonthAt::Past;
+        let Some(first) = date.day_number() else {
+            return None;
         };
-        MonthAt::Is(Month {
-            first: first,
+        Some(Month {
+            first,
             days: month_days(year, month),
         })
     }

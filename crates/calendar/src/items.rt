@@ -9,18 +9,20 @@ ghost use Rattle.calendar.specs.Recurrence.{ordinal, frequencies, weekdays, word
 ghost use Rattle.calendar.specs.Walk.{part_sort_said, item_shown};
 ghost use Rattle.calendar.specs.Reading.{values_stand};
 
-use crate::moments::{MomentRead, read_moment};
-use crate::parts::{Bounds, PartSort, find, frequency_place};
+use crate::moments::read_moment;
+use crate::parts::{Bounds, PartSort, frequency_named};
+use crate::rules::weekday_named;
 use octets::{
     MOST_INTEGER, all_digits, is_sign, peek, put_integer_text, put_upper, sign_length, upper_octet,
     value_of,
 };
 
 // A sign may stand in front, or none does.
+#[tactic(auto, unfolding(octets::specs::Decimal::has_sign))]
 fn sign_stands(s: &[u8], signed: bool) -> bool
     ensures { result ≡ (signed or not (has_sign s.now)) }
 {
-    if signed { true } else { !is_sign(peek(s, 0)) }
+    signed || !is_sign(peek(s, 0))
 }
 
 // Digits, and their number within bounds.
@@ -64,48 +66,21 @@ fn is_number(s: &[u8], b: Bounds) -> bool
 pub(crate) fn day_from(s: &[u8]) -> usize
     ensures { result ≡ length s.now - 2 }
 {
-    if s.len() < 2 { 0 } else { s.len() - 2 }
+    s.len().saturating_sub(2)
 }
 
 // A frequency, letters in either case.
 fn is_frequency(s: &[u8]) -> bool
     ensures { result ≡ is_some (word_of frequencies (upper s.now)) }
 {
-    frequency_place(&*s) < 7
-}
-
-// The octet is one of two.
-fn is_either(c: u8, one: u8, other: u8) -> bool
-    ensures { result ≡ (eqb c one or eqb c other) }
-{
-    if c == one {
-        return true;
-    }
-    c == other
-}
-
-// Two capital letters are a weekday.
-fn are_weekday(a: u8, b: u8) -> bool
-    ensures { result ≡ among (a ∷ b ∷ []) weekdays }
-{
-    match a {
-        b'S' => is_either(b, b'U', b'A'),
-        b'M' => b == b'O',
-        b'T' => is_either(b, b'U', b'H'),
-        b'W' => b == b'E',
-        b'F' => b == b'R',
-        _ => false,
-    }
+    frequency_named(s).is_some()
 }
 
 // A weekday, letters in either case.
 fn is_weekday(s: &[u8]) -> bool
     ensures { result ≡ is_some (word_of weekdays (upper s.now)) }
 {
-    if s.len() != 2 {
-        return false;
-    }
-    are_weekday(upper_octet(s[0]), upper_octet(s[1]))
+    weekday_named(s).is_some()
 }
 
 // A weekday, and a number in front of it or none.
@@ -134,10 +109,7 @@ fn is_ordinal(s: &[u8]) -> bool
 fn is_until(s: &[u8]) -> bool
     ensures { result ≡ is_some (until_of (upper s.now)) }
 {
-    match read_moment(s) {
-        MomentRead::Is(_) => true,
-        MomentRead::NoMoment => false,
-    }
+    read_moment(s).is_some()
 }
 
 // One value of a part.
@@ -155,39 +127,21 @@ fn item_stands(sort: PartSort, s: &[u8]) -> bool
 }
 
 // Only BY parts have several values.
+#[tactic(auto, unfolding(crate::specs::Walk::part_sort_said, crate::specs::Recurrence::several))]
 pub fn has_several(sort: PartSort) -> bool
     ensures { result ≡ several (part_sort_said sort) }
 {
-    match sort {
-        PartSort::Frequency => false,
-        PartSort::Moment => false,
-        PartSort::Count => false,
-        PartSort::Weekday => false,
-        PartSort::Ordinal => true,
-        PartSort::Numbers(_) => true,
-    }
+    matches!(sort, PartSort::Ordinal | PartSort::Numbers(_))
 }
 
 // The values of a part, between commas.
 pub fn values_stand(sort: PartSort, v: &[u8]) -> bool
     ensures { result ≡ values_stand (part_sort_said sort) v.now }
 {
-    let many = has_several(sort);
-    let mut at = 0;
-    loop {
-        let rest = &v[at..];
-        let e = find(rest, b',');
-        if !item_stands(sort, &rest[0..e]) {
-            return false;
-        }
-        if e >= rest.len() {
-            return true;
-        }
-        if !many {
-            return false;
-        }
-        at = at + e + 1;
-    }
+    let alone = !v.contains(&b',');
+    (has_several(sort) || alone)
+        && v.split(|&c| c == b',')
+            .all(|value| item_stands(sort, value))
 }
 
 // Writes a weekday with its number.
@@ -204,11 +158,11 @@ pub fn put_item(out: &mut [u8], at: usize, sort: PartSort, s: &[u8]) -> usize
     ensures { Wrote (pen out.old at) (item_shown (part_sort_said sort) s.now) (pen out.new result) }
 {
     match sort {
-        PartSort::Frequency => put_upper(out, at, &*s),
-        PartSort::Moment => put_upper(out, at, &*s),
-        PartSort::Count => put_integer_text(out, at, &*s),
-        PartSort::Weekday => put_upper(out, at, &*s),
-        PartSort::Ordinal => put_ordinal(out, at, &*s),
-        PartSort::Numbers(_) => put_integer_text(out, at, &*s),
+        PartSort::Frequency => put_upper(out, at, s),
+        PartSort::Moment => put_upper(out, at, s),
+        PartSort::Count => put_integer_text(out, at, s),
+        PartSort::Weekday => put_upper(out, at, s),
+        PartSort::Ordinal => put_ordinal(out, at, s),
+        PartSort::Numbers(_) => put_integer_text(out, at, s),
     }
 }

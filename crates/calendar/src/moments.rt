@@ -2,14 +2,15 @@
 ghost use Rattle.std.specs.Prelude.{◌≡◌, length};
 ghost use Rattle.calendar.specs.Moments.{kind_of, moment_from, read_moment};
 ghost use Rattle.calendar.specs.Texts.{kind_at};
-ghost use Rattle.calendar.specs.Answers.{moment_said, moved_on};
+ghost use Rattle.octets.specs.Optional.{said};
+ghost use Rattle.calendar.specs.Answers.{moved_on};
 
-use crate::dates::{DAY_COUNT, Date, DateAt, DayNumber};
+use crate::dates::{DAY_COUNT, Date};
 use crate::texts::{extended_moment, is_clock, pair, year};
 
 const HOUR_COUNT: u64 = (DAY_COUNT as u64) * 24;
 
-#[derive(Clone, Copy)]
+#[derive(Clone, Copy, PartialEq)]
 pub enum Kind {
     Day,
     Local,
@@ -25,48 +26,36 @@ pub struct Moment {
     pub kind: Kind,
 }
 
-// The moment that a text names, or that it names none.
+// Why a moment is not moved: it would lie past the last day, or there is no such moment.
 #[derive(Clone, Copy)]
-pub enum MomentRead {
-    Is(Moment),
-    NoMoment,
-}
-
-// A moment moved on, or that it lies past the last day then, or that there was no such moment to move.
-#[derive(Clone, Copy)]
-pub enum Moved {
-    At(Moment),
+pub enum NotMoved {
     Past,
     NoMoment,
 }
 
 impl Moment {
     // The moment so many hours later. One that cannot be named is not moved.
-    pub fn moved(self, hours: u64) -> Moved
+    pub fn moved(self, hours: u64) -> Result<Moment, NotMoved>
         ensures { result ≡ moved_on self hours }
     {
-        let date = self.date;
-        let kind = self.kind;
         if !is_clock(self.hour, self.minute, self.second) {
-            return Moved::NoMoment;
+            return Err(NotMoved::NoMoment);
         }
-        let DayNumber::Day(n) = date.day_number() else {
-            return Moved::NoMoment;
+        let Some(n) = self.date.day_number() else {
+            return Err(NotMoved::NoMoment);
         };
         let here = (n as u64) * 24 + (self.hour as u64);
         if HOUR_COUNT - here <= hours {
-            return Moved::Past;
+            return Err(NotMoved::Past);
         }
         let there = here + hours;
-        let DateAt::On(day) = Date::from_day_number((there / 24) as u32) else {
-            return Moved::Past;
+        let Some(date) = Date::from_day_number((there / 24) as u32) else {
+            return Err(NotMoved::Past);
         };
-        Moved::At(Moment {
-            date: day,
+        Ok(Moment {
+            date,
             hour: (there % 24) as u32,
-            minute: self.minute,
-            second: self.second,
-            kind: kind,
+            ..self
         })
     }
 }
@@ -94,25 +83,19 @@ fn moment_from(t: &[u8]) -> Moment
         month: pair(t, 5),
         day: pair(t, 8),
     };
-    let kind = kind_of(t);
     Moment {
-        date: date,
+        date,
         hour: pair(t, 11),
         minute: pair(t, 14),
         second: pair(t, 17),
-        kind: kind,
+        kind: kind_of(t),
     }
 }
 
-// The moment of a date or a date-time in the basic form.
-pub fn read_moment(s: &[u8]) -> MomentRead
-    ensures { moment_said result ≡ read_moment s.now }
+// The moment of a date or a date-time in the basic form, if the text is one.
+pub fn read_moment(s: &[u8]) -> Option<Moment>
+    ensures { said result ≡ read_moment s.now }
 {
-    let t = extended_moment(&*s);
-    let o = t.octets;
-    let n = t.len;
-    if n == 0 {
-        return MomentRead::NoMoment;
-    }
-    MomentRead::Is(moment_from(&o[0..n]))
+    let t = extended_moment(s)?;
+    Some(moment_from(t.as_slice()))
 }

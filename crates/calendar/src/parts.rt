@@ -1,16 +1,51 @@
 // The parts of a recurrence rule by places in its text, and of what sort the values of each are.
-ghost use Rattle.std.specs.Prelude.{◌≡◌, length};
-ghost use Rattle.octets.specs.Basics.{pick};
+ghost use Rattle.std.specs.Prelude.{◌≡◌, ◌<◌, length};
+ghost use Rattle.octets.specs.Basics.{pick, among};
+ghost use Rattle.octets.specs.Optional.{said, when};
 ghost use Rattle.octets.specs.Classes.{upper, same_name};
 ghost use Rattle.calendar.specs.Recurrence.{numbers, frequencies};
-ghost use Rattle.calendar.specs.Walk.{before_first, word_place, key_names, word_place_from, key_place, key_at, part_sort_said, first_part};
+ghost use Rattle.calendar.specs.Rules.{frequency_of};
+ghost use Rattle.calendar.specs.Walk.{before_first, key_names, word_place_from, key_place, key_at, key_number, key_said, part_said, part_sort_said, first_part};
 
+use crate::rules::Frequency;
 use octets::same_name;
 
-// A part: its key's place among the keys (14: none), the length of its name, where its values begin, and where it ends.
+// The keys of parts, in the order of the definition `keys`.
+#[derive(Clone, Copy)]
+pub enum Key {
+    Freq,
+    Until,
+    Count,
+    Interval,
+    BySecond,
+    ByMinute,
+    ByHour,
+    ByDay,
+    ByMonthDay,
+    ByYearDay,
+    ByWeekNo,
+    ByMonth,
+    BySetPos,
+    Wkst,
+}
+
+impl Key {
+    // How many keys there are.
+    pub(crate) const COUNT: usize = 14;
+
+    // The place of a key among the keys.
+    #[tactic(auto, unfolding(crate::specs::Walk::key_number))]
+    pub(crate) fn place(self) -> usize
+        ensures { (result ≡ key_number self) × (result < 14) }
+    {
+        self as usize
+    }
+}
+
+// A part: its key, if it has one, the length of its name, where its values begin, and where it ends.
 #[derive(Clone, Copy)]
 pub struct PartAt {
-    pub key: usize,
+    pub key: Option<Key>,
     pub name: usize,
     pub from: usize,
     pub to: usize,
@@ -40,100 +75,89 @@ pub enum PartSort {
 pub fn find(s: &[u8], sep: u8) -> usize
     ensures { result ≡ length (before_first sep s.now) }
 {
-    let mut i = 0;
-    while i < s.len() {
-        if s[i] == sep {
-            return i;
-        }
-        i += 1;
-    }
-    i
+    octets::find(s, 0, sep)
 }
 
-// A place where the name is this word, without case, or else another.
-fn chosen(name: &[u8], word: &[u8], place: usize, other: usize) -> usize
-    ensures { result ≡ pick (same_name word.now name.now) place other }
+// What is named where a test is passed, or else another.
+pub(crate) fn chosen<T: Copy>(passed: bool, named: T, other: Option<T>) -> Option<T>
+    ensures { result ≡ pick passed (Some named) other }
 {
-    if same_name(word, name) {
-        return place;
-    }
-    other
+    if passed { Some(named) } else { other }
 }
 
-// The place of a name among the keys (14: none), without case.
-pub fn key_place(name: &[u8]) -> usize
-    ensures { result ≡ key_place (upper name.now) }
+// The key that a name is, without case.
+pub fn key_named(name: &[u8]) -> Option<Key>
+    ensures { key_said result ≡ key_place (upper name.now) }
 {
     match name.len() {
         4 => {
-            let wkst = chosen(&*name, b"WKST", 13, 14);
-            chosen(&*name, b"FREQ", 0, wkst)
+            let wkst = chosen(same_name(b"WKST", name), Key::Wkst, None);
+            chosen(same_name(b"FREQ", name), Key::Freq, wkst)
         }
         5 => {
-            let by_day = chosen(&*name, b"BYDAY", 7, 14);
-            let count = chosen(&*name, b"COUNT", 2, by_day);
-            chosen(&*name, b"UNTIL", 1, count)
+            let by_day = chosen(same_name(b"BYDAY", name), Key::ByDay, None);
+            let count = chosen(same_name(b"COUNT", name), Key::Count, by_day);
+            chosen(same_name(b"UNTIL", name), Key::Until, count)
         }
-        6 => chosen(&*name, b"BYHOUR", 6, 14),
-        7 => chosen(&*name, b"BYMONTH", 11, 14),
-        8 => long_key_place(&*name),
-        9 => chosen(&*name, b"BYYEARDAY", 9, 14),
-        10 => chosen(&*name, b"BYMONTHDAY", 8, 14),
-        _ => 14,
+        6 => chosen(same_name(b"BYHOUR", name), Key::ByHour, None),
+        7 => chosen(same_name(b"BYMONTH", name), Key::ByMonth, None),
+        8 => long_key_named(name),
+        9 => chosen(same_name(b"BYYEARDAY", name), Key::ByYearDay, None),
+        10 => chosen(same_name(b"BYMONTHDAY", name), Key::ByMonthDay, None),
+        _ => None,
     }
 }
 
-// The place of a name of eight octets.
-fn long_key_place(name: &[u8]) -> usize
-    ensures { result ≡ word_place_from 0 8 key_names (upper name.now) }
+// The key that a name of eight octets is.
+fn long_key_named(name: &[u8]) -> Option<Key>
+    ensures { key_said result ≡ word_place_from 0 8 key_names (upper name.now) }
 {
-    let by_set = chosen(name, b"BYSETPOS", 12, 14);
-    let by_week = chosen(name, b"BYWEEKNO", 10, by_set);
-    let by_minute = chosen(name, b"BYMINUTE", 5, by_week);
-    let by_second = chosen(name, b"BYSECOND", 4, by_minute);
-    chosen(name, b"INTERVAL", 3, by_second)
+    let by_set = chosen(same_name(b"BYSETPOS", name), Key::BySetPos, None);
+    let by_week = chosen(same_name(b"BYWEEKNO", name), Key::ByWeekNo, by_set);
+    let by_minute = chosen(same_name(b"BYMINUTE", name), Key::ByMinute, by_week);
+    let by_second = chosen(same_name(b"BYSECOND", name), Key::BySecond, by_minute);
+    chosen(same_name(b"INTERVAL", name), Key::Interval, by_second)
 }
 
-// The place of a name among the frequencies (7: none), without case.
-pub fn frequency_place(name: &[u8]) -> usize
-    ensures { result ≡ word_place frequencies (upper name.now) }
+// The frequency that a name is, without case.
+pub fn frequency_named(name: &[u8]) -> Option<Frequency>
+    ensures { said result ≡ when (among (upper name.now) frequencies) (frequency_of (upper name.now)) }
 {
     match name.len() {
-        5 => chosen(&*name, b"DAILY", 3, 7),
+        5 => chosen(same_name(b"DAILY", name), Frequency::Daily, None),
         6 => {
-            let yearly = chosen(&*name, b"YEARLY", 6, 7);
-            let weekly = chosen(&*name, b"WEEKLY", 4, yearly);
-            chosen(&*name, b"HOURLY", 2, weekly)
+            let yearly = chosen(same_name(b"YEARLY", name), Frequency::Yearly, None);
+            let weekly = chosen(same_name(b"WEEKLY", name), Frequency::Weekly, yearly);
+            chosen(same_name(b"HOURLY", name), Frequency::Hourly, weekly)
         }
-        7 => chosen(&*name, b"MONTHLY", 5, 7),
+        7 => chosen(same_name(b"MONTHLY", name), Frequency::Monthly, None),
         8 => {
-            let minutely = chosen(&*name, b"MINUTELY", 1, 7);
-            chosen(&*name, b"SECONDLY", 0, minutely)
+            let minutely = chosen(same_name(b"MINUTELY", name), Frequency::Minutely, None);
+            chosen(same_name(b"SECONDLY", name), Frequency::Secondly, minutely)
         }
-        _ => 7,
+        _ => None,
     }
 }
 
 // The part that a text begins with.
 pub fn first_part(s: &[u8]) -> PartAt
-    ensures { result ≡ first_part s.now }
+    ensures { part_said result ≡ first_part s.now }
 {
     let to = find(s, b';');
     let name = find(&s[0..to], b'=');
     if name < to {
-        let key = key_place(&s[0..name]);
         PartAt {
-            key: key,
-            name: name,
+            key: key_named(&s[0..name]),
+            name,
             from: name + 1,
-            to: to,
+            to,
         }
     } else {
         PartAt {
-            key: 14,
-            name: name,
+            key: None,
+            name,
             from: name,
-            to: to,
+            to,
         }
     }
 }
@@ -142,31 +166,33 @@ fn numbers(signed: bool, most: usize, lo: u32, hi: u32) -> PartSort
     ensures { part_sort_said result ≡ numbers signed most lo hi }
 {
     PartSort::Numbers(Bounds {
-        signed: signed,
-        most: most,
-        lo: lo,
-        hi: hi,
+        signed,
+        most,
+        lo,
+        hi,
     })
 }
 
-// What the values of the part with a key are.
-pub fn sort_of(key: usize) -> PartSort
-    ensures { part_sort_said result ≡ (key_at key).sort }
+// What the values of the part with a key are; those of a part with no key are words, as those of FREQ.
+#[tactic(auto, unfolding(crate::specs::Walk::part_sort_said, crate::specs::Walk::key_at, crate::specs::Recurrence::keys))]
+pub fn sort_of(key: Option<Key>) -> PartSort
+    ensures { part_sort_said result ≡ (key_at (key_said key)).sort }
 {
     match key {
-        1 => PartSort::Moment,
-        2 => PartSort::Count,
-        3 => PartSort::Count,
-        4 => numbers(false, 2, 0, 60),
-        5 => numbers(false, 2, 0, 59),
-        6 => numbers(false, 2, 0, 23),
-        7 => PartSort::Ordinal,
-        8 => numbers(true, 2, 1, 31),
-        9 => numbers(true, 3, 1, 366),
-        10 => numbers(true, 2, 1, 53),
-        11 => numbers(false, 2, 1, 12),
-        12 => numbers(true, 3, 1, 366),
-        13 => PartSort::Weekday,
-        _ => PartSort::Frequency,
+        None => PartSort::Frequency,
+        Some(key) => match key {
+            Key::Freq => PartSort::Frequency,
+            Key::Until => PartSort::Moment,
+            Key::Count | Key::Interval => PartSort::Count,
+            Key::BySecond => numbers(false, 2, 0, 60),
+            Key::ByMinute => numbers(false, 2, 0, 59),
+            Key::ByHour => numbers(false, 2, 0, 23),
+            Key::ByDay => PartSort::Ordinal,
+            Key::ByMonthDay => numbers(true, 2, 1, 31),
+            Key::ByYearDay | Key::BySetPos => numbers(true, 3, 1, 366),
+            Key::ByWeekNo => numbers(true, 2, 1, 53),
+            Key::ByMonth => numbers(false, 2, 1, 12),
+            Key::Wkst => PartSort::Weekday,
+        },
     }
 }

@@ -1,18 +1,19 @@
 // Recurrence rules.
 ghost use Rattle.std.specs.Prelude.{◌≡◌, ◌<◌, [], ◌∷◌, eqb};
-ghost use Rattle.octets.specs.Basics.{pick};
-ghost use Rattle.octets.specs.Optional.{map?, is_some};
+ghost use Rattle.octets.specs.Basics.{pick, among};
+ghost use Rattle.octets.specs.Optional.{map?, is_some, said, when};
 ghost use Rattle.octets.specs.Classes.{upper};
 ghost use Rattle.octets.specs.Pieces.{split};
-ghost use Rattle.calendar.specs.Recurrence.{parts_of};
-ghost use Rattle.calendar.specs.Rules.{frequency_of, weekday_of, with_day, with_month_day, gathered, read_rule, rule_said};
+ghost use Rattle.calendar.specs.Recurrence.{parts_of, weekdays};
+ghost use Rattle.calendar.specs.Walk.{key_number};
+ghost use Rattle.calendar.specs.Rules.{frequency_of, weekday_of, with_day, with_month_day, gathered, read_rule};
 ghost use Rattle.calendar.specs.declared.rules.End.TheVariants.{Count};
 ghost use Rattle.calendar.specs.Reading.{counted, last_of, with_part, kept, barred, may_follow, by_seen, rule_read};
 
-use crate::by_days::{ByDays, no_days, with_values};
+use crate::by_days::{ByDays, no_days, with_day, with_month_day};
 use crate::items::values_stand;
-use crate::moments::{Moment, MomentRead, read_moment};
-use crate::parts::{first_part, frequency_place, sort_of};
+use crate::moments::{Moment, read_moment};
+use crate::parts::{Key, chosen, first_part, frequency_named, sort_of};
 use octets::{MOST_INTEGER, upper_octet, value_of};
 
 #[derive(Clone, Copy)]
@@ -28,13 +29,13 @@ pub enum Frequency {
 
 #[derive(Clone, Copy)]
 pub enum Weekday {
-    Sunday,
     Monday,
     Tuesday,
     Wednesday,
     Thursday,
     Friday,
     Saturday,
+    Sunday,
 }
 
 // A rule's end: a number of moments, a last moment, or none.
@@ -69,12 +70,6 @@ pub struct Rule {
     pub days: ByDays,
 }
 
-#[derive(Clone, Copy)]
-pub enum RuleRead {
-    Is(Rule),
-    NoRule,
-}
-
 // A rule while its parts are read, but for which BY parts there are.
 #[derive(Clone, Copy)]
 struct RuleHead {
@@ -89,52 +84,44 @@ struct RuleHead {
 fn frequency_of(s: &[u8]) -> Frequency
     ensures { result ≡ frequency_of (upper s.now) }
 {
-    match frequency_place(&*s) {
-        0 => Frequency::Secondly,
-        1 => Frequency::Minutely,
-        2 => Frequency::Hourly,
-        3 => Frequency::Daily,
-        4 => Frequency::Weekly,
-        5 => Frequency::Monthly,
-        _ => Frequency::Yearly,
-    }
+    frequency_named(s).unwrap_or(Frequency::Yearly)
 }
 
-// A weekday where the octet is this letter, or else another.
-fn weekday_if(c: u8, letter: u8, day: Weekday, other: Weekday) -> Weekday
-    ensures { result ≡ pick (eqb c letter) day other }
-{
-    if c == letter {
-        return day;
-    }
-    other
-}
-
-// The weekday that two capital letters say; any that say none are read as Saturday.
-fn weekday_named(a: u8, b: u8) -> Weekday
-    ensures { result ≡ weekday_of (a ∷ b ∷ []) }
+// The weekday that two capital letters say.
+fn weekday_lettered(a: u8, b: u8) -> Option<Weekday>
+    ensures { said result ≡ when (among (a ∷ b ∷ []) weekdays) (weekday_of (a ∷ b ∷ [])) }
 {
     match a {
-        b'S' => weekday_if(b, b'U', Weekday::Sunday, Weekday::Saturday),
-        b'M' => weekday_if(b, b'O', Weekday::Monday, Weekday::Saturday),
-        b'T' => {
-            let thursday = weekday_if(b, b'H', Weekday::Thursday, Weekday::Saturday);
-            weekday_if(b, b'U', Weekday::Tuesday, thursday)
+        b'S' => {
+            let saturday = chosen(b == b'A', Weekday::Saturday, None);
+            chosen(b == b'U', Weekday::Sunday, saturday)
         }
-        b'W' => weekday_if(b, b'E', Weekday::Wednesday, Weekday::Saturday),
-        b'F' => weekday_if(b, b'R', Weekday::Friday, Weekday::Saturday),
-        _ => Weekday::Saturday,
+        b'M' => chosen(b == b'O', Weekday::Monday, None),
+        b'T' => {
+            let thursday = chosen(b == b'H', Weekday::Thursday, None);
+            chosen(b == b'U', Weekday::Tuesday, thursday)
+        }
+        b'W' => chosen(b == b'E', Weekday::Wednesday, None),
+        b'F' => chosen(b == b'R', Weekday::Friday, None),
+        _ => None,
     }
 }
 
 // The weekday that a name says, letters in either case.
+pub(crate) fn weekday_named(s: &[u8]) -> Option<Weekday>
+    ensures { said result ≡ when (among (upper s.now) weekdays) (weekday_of (upper s.now)) }
+{
+    if s.len() != 2 {
+        return None;
+    }
+    weekday_lettered(upper_octet(s[0]), upper_octet(s[1]))
+}
+
+// The weekday that a name says; a name that is none is read as Saturday.
 pub(crate) fn weekday_of(s: &[u8]) -> Weekday
     ensures { result ≡ weekday_of (upper s.now) }
 {
-    if s.len() != 2 {
-        return Weekday::Saturday;
-    }
-    weekday_named(upper_octet(s[0]), upper_octet(s[1]))
+    weekday_named(s).unwrap_or(Weekday::Saturday)
 }
 
 fn count_of(s: &[u8]) -> u32
@@ -147,145 +134,123 @@ fn until_of(s: &[u8]) -> End
     ensures { result ≡ last_of s.now }
 {
     match read_moment(s) {
-        MomentRead::Is(m) => End::Until(m),
-        MomentRead::NoMoment => End::Open,
+        Some(m) => End::Until(m),
+        None => End::Open,
     }
 }
 
-// A rule's end once the part with the key at a place and its value is read.
-fn end_with(end: End, key: usize, v: &[u8]) -> End
-    ensures { result ≡ pick (eqb key 1) (last_of v.now) (pick (eqb key 2) (Count (counted v.now)) end) }
+// A rule's end once the part with a key and its value is read.
+fn end_with(end: End, key: Key, v: &[u8]) -> End
+    ensures { result ≡ pick (eqb (key_number key) 1) (last_of v.now) (pick (eqb (key_number key) 2) (Count (counted v.now)) end) }
 {
     match key {
-        1 => until_of(v),
-        2 => End::Count(count_of(v)),
+        Key::Until => until_of(v),
+        Key::Count => End::Count(count_of(v)),
         _ => end,
     }
 }
 
-// The days that a rule's BY parts name once the part with the key at a place and its values is read, where they are gathered.
-fn days_with(days: ByDays, key: usize, v: &[u8], gather: bool) -> ByDays
-    ensures { result ≡ pick gather (pick (eqb key 7) (gathered with_day days (split 44 v.now)) (pick (eqb key 8) (gathered with_month_day days (split 44 v.now)) days)) days }
+// The days that a rule's BY parts name once the part with a key and its values is read, where they are gathered.
+fn days_with(days: ByDays, key: Key, v: &[u8], gather: bool) -> ByDays
+    ensures { result ≡ pick gather (pick (eqb (key_number key) 7) (gathered with_day days (split 44 v.now)) (pick (eqb (key_number key) 8) (gathered with_month_day days (split 44 v.now)) days)) days }
 {
     if !gather {
         return days;
     }
     match key {
-        7 => with_values(days, true, v),
-        8 => with_values(days, false, v),
+        Key::ByDay => v
+            .split(|&c| c == b',')
+            .fold(days, |all, value| with_day(all, value)),
+        Key::ByMonthDay => v
+            .split(|&c| c == b',')
+            .fold(days, |all, value| with_month_day(all, value)),
         _ => days,
     }
 }
 
-// One part more, with the key at a place and its value; its days are gathered, or they are not.
-fn with_value(head: RuleHead, key: usize, v: &[u8], gather: bool) -> RuleHead
-    ensures { result ≡ with_part gather head key v.now }
+// One part more, with a key and its value; its days are gathered, or they are not.
+fn with_value(head: RuleHead, key: Key, v: &[u8], gather: bool) -> RuleHead
+    ensures { result ≡ with_part gather head (key_number key) v.now }
 {
-    let frequency = head.frequency;
-    let end = head.end;
-    let wkst = head.wkst;
-    let days = head.days;
     match key {
-        0 => RuleHead {
+        Key::Freq => RuleHead {
             frequency: frequency_of(v),
-            interval: head.interval,
-            end: end,
-            wkst: wkst,
-            days: days,
+            ..head
         },
-        3 => RuleHead {
-            frequency: frequency,
+        Key::Interval => RuleHead {
             interval: count_of(v),
-            end: end,
-            wkst: wkst,
-            days: days,
+            ..head
         },
-        13 => RuleHead {
-            frequency: frequency,
-            interval: head.interval,
-            end: end,
+        Key::Wkst => RuleHead {
             wkst: weekday_of(v),
-            days: days,
+            ..head
         },
         _ => RuleHead {
-            frequency: frequency,
-            interval: head.interval,
-            end: end_with(end, key, &*v),
-            wkst: wkst,
-            days: days_with(days, key, v, gather),
+            end: end_with(head.end, key, v),
+            days: days_with(head.days, key, v, gather),
+            ..head
         },
     }
 }
 
-// A part with the key at a place may not follow the parts that were seen.
-fn is_barred(seen: [bool; 14], key: usize) -> bool
-    requires { key < 14 }
-    ensures { result ≡ barred seen key }
+// A part with a key may not follow the parts that were seen.
+fn is_barred(seen: [bool; Key::COUNT], key: Key) -> bool
+    ensures { result ≡ barred seen (key_number key) }
 {
-    if seen[key] {
+    if seen[key.place()] {
         return true;
     }
     match key {
-        1 => seen[2],
-        2 => seen[1],
+        Key::Until => seen[Key::Count.place()],
+        Key::Count => seen[Key::Until.place()],
         _ => false,
     }
 }
 
-// A part with the key at a place (14: none) and these values may follow the parts that were seen.
-fn may_follow(seen: [bool; 14], key: usize, v: &[u8]) -> bool
-    ensures { result ≡ may_follow seen key v.now }
+// A part with a key and these values may follow the parts that were seen.
+fn may_follow(seen: [bool; Key::COUNT], key: Key, v: &[u8]) -> bool
+    ensures { result ≡ may_follow seen (key_number key) v.now }
 {
-    if key >= 14 {
-        return false;
-    }
-    if is_barred(seen, key) {
-        return false;
-    }
-    values_stand(sort_of(key), &*v)
+    !is_barred(seen, key) && values_stand(sort_of(Some(key)), v)
 }
 
-fn by_seen(seen: [bool; 14]) -> ByParts
+#[tactic(auto, unfolding(crate::specs::Reading::by_seen))]
+fn by_seen(seen: [bool; Key::COUNT]) -> ByParts
     ensures { result ≡ by_seen seen }
 {
     ByParts {
-        second: seen[4],
-        minute: seen[5],
-        hour: seen[6],
-        day: seen[7],
-        monthday: seen[8],
-        yearday: seen[9],
-        weekno: seen[10],
-        month: seen[11],
-        setpos: seen[12],
+        second: seen[Key::BySecond.place()],
+        minute: seen[Key::ByMinute.place()],
+        hour: seen[Key::ByHour.place()],
+        day: seen[Key::ByDay.place()],
+        monthday: seen[Key::ByMonthDay.place()],
+        yearday: seen[Key::ByYearDay.place()],
+        weekno: seen[Key::ByWeekNo.place()],
+        month: seen[Key::ByMonth.place()],
+        setpos: seen[Key::BySetPos.place()],
     }
 }
 
-// The rule of parts that are all read.
-fn rule_of(head: RuleHead, seen: [bool; 14]) -> RuleRead
-    ensures { rule_said result ≡ rule_read head seen }
+// The rule of parts that are all read, if FREQ is one of them.
+fn rule_of(head: RuleHead, seen: [bool; Key::COUNT]) -> Option<Rule>
+    ensures { said result ≡ rule_read head seen }
 {
-    if !seen[0] {
-        return RuleRead::NoRule;
+    if !seen[Key::Freq.place()] {
+        return None;
     }
-    let frequency = head.frequency;
-    let end = head.end;
-    let wkst = head.wkst;
-    let by = by_seen(seen);
-    let days = head.days;
-    RuleRead::Is(Rule {
-        frequency: frequency,
+    Some(Rule {
+        frequency: head.frequency,
         interval: head.interval,
-        end: end,
-        wkst: wkst,
-        by: by,
-        days: days,
+        end: head.end,
+        wkst: head.wkst,
+        by: by_seen(seen),
+        days: head.days,
     })
 }
 
-// The rule that a text says, with the days that its BY parts name or without them, or that it says none.
-fn read_parts(s: &[u8], gather: bool) -> RuleRead
-    ensures { rule_said result ≡ map? (kept gather) (read_rule s.now) }
+// The rule that a text says, if it says one, with the days that its BY parts name or without them.
+fn read_parts(s: &[u8], gather: bool) -> Option<Rule>
+    ensures { said result ≡ map? (kept gather) (read_rule s.now) }
 {
     let mut head = RuleHead {
         frequency: Frequency::Yearly,
@@ -294,39 +259,32 @@ fn read_parts(s: &[u8], gather: bool) -> RuleRead
         wkst: Weekday::Monday,
         days: no_days(),
     };
-    let mut seen = [false; 14];
-    let mut at = 0;
-    loop {
-        let rest = &s[at..];
-        let part = first_part(rest);
-        let key = part.key;
-        let from = part.from;
-        let to = part.to;
-        if !may_follow(seen, key, &rest[from..to]) {
-            return RuleRead::NoRule;
+    let mut seen = [false; Key::COUNT];
+    for part in s.split(|&c| c == b';') {
+        let at = first_part(part);
+        let Some(key) = at.key else {
+            return None;
+        };
+        let values = &part[at.from..at.to];
+        if !may_follow(seen, key, values) {
+            return None;
         }
-        seen[key] = true;
-        head = with_value(head, key, &rest[from..to], gather);
-        if to >= rest.len() {
-            return rule_of(head, seen);
-        }
-        at = at + to + 1;
+        seen[key.place()] = true;
+        head = with_value(head, key, values, gather);
     }
+    rule_of(head, seen)
 }
 
-// The rule that a text says, or that it says none.
-pub fn read_rule(s: &[u8]) -> RuleRead
-    ensures { rule_said result ≡ read_rule s.now }
+// The rule that a text says, if it says one.
+pub fn read_rule(s: &[u8]) -> Option<Rule>
+    ensures { said result ≡ read_rule s.now }
 {
-    read_parts(&*s, true)
+    read_parts(s, true)
 }
 
 // A text that says a rule.
 pub fn is_rule(s: &[u8]) -> bool
     ensures { result ≡ is_some (parts_of (upper s.now)) }
 {
-    match read_parts(&*s, false) {
-        RuleRead::Is(_) => true,
-        RuleRead::NoRule => false,
-    }
+    read_parts(s, false).is_some()
 }

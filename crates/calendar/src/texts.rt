@@ -1,16 +1,17 @@
 // Dates, times, date-times and UTC offsets as texts, in iCalendar's basic form and in jCal's extended form.
-ghost use Rattle.std.specs.Prelude.{◌≡◌, true, false, ◌+◌, ◌*◌, ◌≤◌, length, take, drop};
+ghost use Rattle.std.specs.Prelude.{◌≡◌, true, false, ◌+◌, ◌*◌, ◌≤◌, List, ℕ, length, take, drop};
 ghost use Rattle.octets.specs.Basics.{pick};
-ghost use Rattle.octets.specs.Optional.{is_some};
+ghost use Rattle.octets.specs.Optional.{is_some, said};
 ghost use Rattle.octets.specs.Classes.{upper};
 ghost use Rattle.octets.specs.Decimal.{value_from};
 ghost use Rattle.octets.specs.Pen.{pen, Wrote};
 ghost use Rattle.calendar.specs.Forms.{takes, extended, basic, number_at};
 ghost use Rattle.calendar.specs.Dates.{day_in, is_clock, clock_in, offset_in, moment_of, moment_is};
-ghost use Rattle.calendar.specs.Texts.{form_of, form_is, form_text, octets_in, Says, Carries, is_added, place_at, slots, shaped, numbers_in, read_form};
+ghost use Rattle.calendar.specs.Texts.{form_of, form_is, form_text, is_added, place_at, slots, shaped, numbers_in, read_form};
 
 use crate::dates::is_day;
-use octets::{is_digit, peek, put_all, upper_octet};
+use octets::{is_digit, is_sign, peek, put_all, upper_octet};
+use std::marker::Model;
 
 #[derive(Clone, Copy)]
 pub enum Form {
@@ -20,95 +21,94 @@ pub enum Form {
     Offset,
 }
 
-// A short text; length 0 where there is none.
-#[derive(Clone, Copy)]
+// A short text; a clause sees its octets.
+#[derive(Drop)]
 pub struct ShortText {
-    pub octets: [u8; 20],
-    pub len: usize,
+    octets: [u8; 20],
+    len: usize,
+}
+
+impl Model for ShortText {
+    ghost Value = { List ℕ };
+
+    ghost view = { λ t. take t.len t.octets };
+
+    ghost invariant = { λ t. t.len ≤ 20 };
+}
+
+impl ShortText {
+    pub fn as_slice(&self) -> &[u8]
+        ensures { result.now ≡ self.now }
+    {
+        &self.octets[..self.len]
+    }
 }
 
 // The place is one that only the extended form has.
+#[tactic(auto, unfolding(crate::specs::Texts::is_added))]
 fn is_added(whole: bool, c: u8) -> bool
     ensures { result ≡ is_added whole c }
 {
-    if whole {
-        return false;
-    }
-    if c == b'-' {
-        return true;
-    }
-    c == b':'
+    !whole && (c == b'-' || c == b':')
 }
 
 // The octet x may stand at the place c.
+#[tactic(auto, unfolding(crate::specs::Texts::place_at, crate::specs::Forms::takes))]
 fn takes(c: u8, x: u8) -> bool
     ensures { result ≡ takes (place_at c) x }
 {
-    if c == b'9' {
-        return is_digit(x);
+    match c {
+        b'9' => is_digit(x),
+        b'+' => is_sign(x),
+        _ => x == c,
     }
-    if c == b'+' {
-        if x == b'+' {
-            return true;
-        }
-        return x == b'-';
-    }
-    x == c
 }
 
 // The extended text of a text that has the form.
-fn read(form: &[u8], whole: bool, s: &[u8]) -> ShortText
+fn read(form: &[u8], whole: bool, s: &[u8]) -> Option<ShortText>
     requires { (1 ≤ length form.now) × (length form.now ≤ 20) }
-    ensures { Says result (extended (slots whole form.now) (upper s.now)) }
+    ensures { said result ≡ extended (slots whole form.now) (upper s.now) }
 {
-    let mut o = [0u8; 20];
+    let mut octets = [0u8; 20];
     let mut i = 0;
-    let mut k = 0;
-    while k < form.len() {
-        let f = form[k];
+    for (k, &f) in form.iter().enumerate() {
         if is_added(whole, f) {
-            o[k] = f;
-            k += 1;
-        } else {
-            if s.len() <= i {
-                return ShortText { octets: o, len: 0 };
-            }
-            let x = upper_octet(s[i]);
-            if !takes(f, x) {
-                return ShortText { octets: o, len: 0 };
-            }
-            o[k] = x;
-            i += 1;
-            k += 1;
+            octets[k] = f;
+            continue;
         }
+        if s.len() <= i {
+            return None;
+        }
+        let x = upper_octet(s[i]);
+        if !takes(f, x) {
+            return None;
+        }
+        octets[k] = x;
+        i += 1;
     }
     if i < s.len() {
-        return ShortText { octets: o, len: 0 };
+        return None;
     }
-    ShortText { octets: o, len: k }
+    Some(ShortText {
+        octets,
+        len: form.len(),
+    })
 }
 
 // The basic text of a text in the extended form.
 fn strip(form: &[u8], t: &[u8]) -> ShortText
     requires { length form.now ≤ 20 }
-    ensures { Carries result (basic (slots false form.now) (upper t.now)) }
+    ensures { result ≡ basic (slots false form.now) (upper t.now) }
 {
-    let mut o = [0u8; 20];
-    let mut n = 0;
-    let mut k = 0;
-    while k < form.len() {
-        if t.len() <= k {
-            return ShortText { octets: o, len: n };
-        }
-        if is_added(false, form[k]) {
-            k += 1;
-        } else {
-            o[n] = upper_octet(t[k]);
-            n += 1;
-            k += 1;
+    let mut octets = [0u8; 20];
+    let mut len = 0;
+    for (&f, &c) in form.iter().zip(t) {
+        if !is_added(false, f) {
+            octets[len] = upper_octet(c);
+            len += 1;
         }
     }
-    ShortText { octets: o, len: n }
+    ShortText { octets, len }
 }
 
 // A number with the digit at a place behind it, if the text has one there.
@@ -144,23 +144,19 @@ pub fn year(t: &[u8]) -> u32
 }
 
 // yyyy-mm-dd at the front is a day.
+#[tactic(auto, unfolding(crate::specs::Dates::day_in))]
 fn day_in(t: &[u8]) -> bool
     ensures { result ≡ day_in t.now }
 {
-    is_day(year(&*t), pair(&*t, 5), pair(&*t, 8))
+    is_day(year(t), pair(t, 5), pair(t, 8))
 }
 
 // There is such a time of day.
+#[tactic(auto, unfolding(crate::specs::Dates::is_clock))]
 pub fn is_clock(h: u32, m: u32, s: u32) -> bool
     ensures { result ≡ is_clock h m s }
 {
-    if 23 < h {
-        return false;
-    }
-    if 59 < m {
-        return false;
-    }
-    s <= 60
+    h <= 23 && m <= 59 && s <= 60
 }
 
 // hh:mm:ss at a place is a time.
@@ -172,37 +168,22 @@ fn clock_in(t: &[u8], at: usize) -> bool
 }
 
 // The numbers of a UTC offset: no minus stands before zeros.
+#[tactic(auto, unfolding(crate::specs::Dates::offset_in, octets::specs::Decimal::minus))]
 fn offset_in(t: &[u8]) -> bool
     ensures { result ≡ offset_in t.now }
 {
-    if !clock_in(t, 1) {
-        return false;
-    }
-    if peek(t, 0) != b'-' {
-        return true;
-    }
-    if pair(t, 1) != 0 {
-        return true;
-    }
-    if pair(t, 4) != 0 {
-        return true;
-    }
-    pair(t, 7) != 0
+    clock_in(t, 1) && (peek(t, 0) != b'-' || pair(t, 1) != 0 || pair(t, 4) != 0 || pair(t, 7) != 0)
 }
 
 // The numbers of a text in the extended form are real.
+#[tactic(auto, unfolding(crate::specs::Texts::numbers_in, crate::specs::Dates::moment_in))]
 fn numbers_in(form: Form, t: &[u8]) -> bool
     ensures { result ≡ numbers_in form t.now }
 {
     match form {
         Form::Date => day_in(t),
         Form::Time => clock_in(t, 0),
-        Form::DateTime => {
-            if !day_in(t) {
-                return false;
-            }
-            clock_in(t, 11)
-        }
+        Form::DateTime => day_in(t) && clock_in(t, 11),
         Form::Offset => offset_in(t),
     }
 }
@@ -215,8 +196,8 @@ fn least(whole: bool, extended: usize, basic: usize) -> usize
 }
 
 // The extended text of one that has the form.
-fn shape(form: Form, whole: bool, s: &[u8]) -> ShortText
-    ensures { Says result (shaped whole form (upper s.now)) }
+fn shape(form: Form, whole: bool, s: &[u8]) -> Option<ShortText>
+    ensures { said result ≡ shaped whole form (upper s.now) }
 {
     match form {
         Form::Date => read(b"9999-99-99", whole, s),
@@ -242,24 +223,19 @@ fn shape(form: Form, whole: bool, s: &[u8]) -> ShortText
 }
 
 // The extended text of one that has the form, and whose numbers are real.
-fn take(form: Form, whole: bool, s: &[u8]) -> ShortText
-    ensures { Says result (read_form whole form (upper s.now)) }
+fn take(form: Form, whole: bool, s: &[u8]) -> Option<ShortText>
+    ensures { said result ≡ read_form whole form (upper s.now) }
 {
-    let t = shape(form, whole, &*s);
-    let o = t.octets;
-    let n = t.len;
-    if n == 0 {
-        return t;
+    let t = shape(form, whole, s)?;
+    if numbers_in(form, t.as_slice()) {
+        return Some(t);
     }
-    if numbers_in(form, &o[0..n]) {
-        return t;
-    }
-    ShortText { octets: o, len: 0 }
+    None
 }
 
 // The extended text of a text in the basic form.
-pub fn extended(form: Form, s: &[u8]) -> ShortText
-    ensures { Says result (form_of form (upper s.now)) }
+pub fn extended(form: Form, s: &[u8]) -> Option<ShortText>
+    ensures { said result ≡ form_of form (upper s.now) }
 {
     take(form, false, s)
 }
@@ -268,59 +244,46 @@ pub fn extended(form: Form, s: &[u8]) -> ShortText
 pub fn is_basic(form: Form, s: &[u8]) -> bool
     ensures { result ≡ is_some (form_of form (upper s.now)) }
 {
-    let t = take(form, false, s);
-    t.len != 0
+    take(form, false, s).is_some()
 }
 
 // The text is one in the extended form.
 pub fn is_extended(form: Form, t: &[u8]) -> bool
     ensures { result ≡ form_is form (upper t.now) }
 {
-    let u = take(form, true, t);
-    u.len != 0
+    take(form, true, t).is_some()
 }
 
 // The basic text of one in the extended form, which may end before the form does.
 pub fn basic(form: Form, t: &[u8]) -> ShortText
-    ensures { Carries result (form_text form (upper t.now)) }
+    ensures { result ≡ form_text form (upper t.now) }
 {
     match form {
-        Form::Date => strip(b"9999-99-99", &*t),
-        Form::Time => strip(b"99:99:99Z", &*t),
-        Form::DateTime => strip(b"9999-99-99T99:99:99Z", &*t),
-        Form::Offset => strip(b"+99:99:99", &*t),
+        Form::Date => strip(b"9999-99-99", t),
+        Form::Time => strip(b"99:99:99Z", t),
+        Form::DateTime => strip(b"9999-99-99T99:99:99Z", t),
+        Form::Offset => strip(b"+99:99:99", t),
     }
 }
 
 // The extended text of a date or a date-time.
-pub fn extended_moment(s: &[u8]) -> ShortText
-    ensures { Says result (moment_of (upper s.now)) }
+pub fn extended_moment(s: &[u8]) -> Option<ShortText>
+    ensures { said result ≡ moment_of (upper s.now) }
 {
-    let d = extended(Form::Date, s);
-    if d.len != 0 {
-        return d;
-    }
-    extended(Form::DateTime, s)
+    extended(Form::Date, s).or_else(|| extended(Form::DateTime, s))
 }
 
 // The text is a date or a date-time in the extended form.
+#[tactic(auto, unfolding(crate::specs::Dates::moment_is))]
 pub fn is_extended_moment(t: &[u8]) -> bool
     ensures { result ≡ moment_is (upper t.now) }
 {
-    if is_extended(Form::Date, t) {
-        return true;
-    }
-    is_extended(Form::DateTime, t)
+    is_extended(Form::Date, t) || is_extended(Form::DateTime, t)
 }
 
 // Writes a text.
 pub fn put_text(out: &mut [u8], at: usize, t: ShortText) -> usize
-    ensures { Wrote (pen out.old at) (octets_in t) (pen out.new result) }
+    ensures { Wrote (pen out.old at) t (pen out.new result) }
 {
-    let o = t.octets;
-    let n = t.len;
-    if n < 20 {
-        return put_all(out, at, &o[0..n]);
-    }
-    put_all(out, at, &o[0..20])
+    put_all(out, at, t.as_slice())
 }

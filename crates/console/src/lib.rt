@@ -5,7 +5,7 @@ ghost use Rattle.std.specs.Prelude.{◌≡◌, ◌≤◌, eqb, length, drop};
 ghost use Rattle.octets.specs.Answers.{outcome};
 ghost use Rattle.octets.specs.Basics.{all};
 
-use octets::Converted;
+use octets::Refusal;
 use std::io::{ErrorKind, Read};
 use std::rt::Files;
 use std::{fs, io};
@@ -26,6 +26,7 @@ pub fn read_text<R: Input>(rt: &R, buf: &mut [u8]) -> usize
 
 // Reads a file as far as there is room, and answers its length; 0 where there is none. Of a file that is there and cannot be read it makes the octet 0 alone,
 // which is no row and no text. A file is not there only where the system says so of its name, so a path that is not UTF-8 cannot be read.
+// A length and not a Result: with the octet 0 in place of what cannot be read, the converter itself keeps the order of its refusals, 1 before 2 (docs/DECISIONS.md).
 pub fn load<R: Files>(rt: &R, path: &[u8], buf: &mut [u8]) -> usize
     ensures { result ≤ length buf.new }
 {
@@ -68,20 +69,16 @@ fn read_full<F: Read>(file: &mut F, buf: &mut [u8]) -> usize
 
 // The n octets that were read are all for which there is room, or all that the file has: one more read finds its end and does not fail.
 fn is_all<F: Read>(file: &mut F, n: usize, room: usize) -> bool {
-    if n == room {
-        return true;
-    }
-    let mut next = [0u8; 1];
-    matches!(file.read(&mut next), Ok(0))
+    n == room || matches!(file.read(&mut [0]), Ok(0))
 }
 
 fn unreadable(buf: &mut [u8]) -> usize
     ensures { result ≤ length buf.new }
 {
-    if buf.len() == 0 {
+    let Some(first) = buf.first_mut() else {
         return 0;
-    }
-    buf[0] = 0;
+    };
+    *first = 0;
     1
 }
 
@@ -89,32 +86,29 @@ fn unreadable(buf: &mut [u8]) -> usize
 pub fn rest_is(s: &[u8], from: usize, b: u8) -> bool
     ensures { result ≡ all (λ c. eqb c b) (drop from s.now) }
 {
-    let mut i = from;
-    while i < s.len() {
-        if s[i] != b {
-            return false;
-        }
-        i += 1;
-    }
-    true
+    s.iter().skip(from).all(|&c| c == b)
 }
 
 fn print_text(rt: &impl Print, out: &[u8], n: usize) -> (u8, io::Result<()>)
     ensures { result.0 ≡ 0 }
 {
     if n <= out.len() {
-        return (0, rt.write_all(&out[0..n]));
+        return (0, rt.write_all(&out[..n]));
     }
     (0, Ok(()))
 }
 
 // Prints the text that was written, or a line with the refusal's number; answers that number, 0 for none, and whether it could print.
-pub fn print_answer(rt: &impl Print, out: &[u8], answer: Converted) -> (u8, io::Result<()>)
+pub fn print_answer(
+    rt: &impl Print,
+    out: &[u8],
+    answer: Result<usize, Refusal>,
+) -> (u8, io::Result<()>)
     ensures { result.0 ≡ (outcome answer out.now).number }
 {
     match answer {
-        Converted::Written(n) => print_text(rt, out, n),
-        Converted::Refused(why) => {
+        Ok(n) => print_text(rt, out, n),
+        Err(why) => {
             let number = why.number();
             (number, println!(rt; "refused {number}"))
         }

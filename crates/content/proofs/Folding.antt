@@ -1,8 +1,8 @@
 -- The laws of the folding pen: two writes are one, where no line is broken, and what a loop has left to write.
 use Prim.Native.Nat.{ℕ, suc, ◌+◌, ◌-◌, min, ◌≤◌}
 use mathlib.Core.Path.{◌≡◌, refl, sym, ap, ◌∙◌}
-use mathlib.Core.Bool.{true, false}
-use mathlib.Core.List.{List, [], ◌∷◌, ◌++◌, append_assoc}
+use mathlib.Core.Bool.{Bool, true, false}
+use mathlib.Core.List.{List, [], ◌∷◌, ◌++◌, append_assoc, map-append}
 use native.Mathlib.Nat.{add-zero, min-eq_left}
 use native.Mathlib.Omega.{arith}
 use borrow.Author.Tests.{lt-ltb, le-ltb, ltb-true, ltb-false}
@@ -17,7 +17,7 @@ use Rattle.octets.proofs.Classes.{map-length}
 use Rattle.octets.proofs.Limits.{most-columns}
 use Rattle.octets.proofs.Pen.{nothing, then as Wrote-then, wrote-append, as-text}
 use Rattle.content.specs.Fold.{width, breaks, folded_octet, next_column, fold_from, column_after, text_of}
-use Rattle.content.specs.Folding.{FoldPen, Folded}
+use Rattle.content.specs.Folding.{FoldPen, Folded, cased_octet, cased}
 
 pub fold-append : (col : ℕ) (xs ys : List ℕ) → fold_from col (xs ++ ys) ≡ fold_from col xs ++ fold_from (column_after col xs) ys
 unfolding fold_from column_after
@@ -114,6 +114,22 @@ pub run-upper : {p q : Pen} {col : ℕ} (xs : List ℕ) → col + length xs + 3 
 run-upper {col} xs h w =
     let e : length (upper xs) ≡ length xs = unfold upper in map-length upper_octet xs in
     rw e at (run-plain {col = col} {xs = upper xs} (rw e h) w)
+
+-- in uppercase, or as it is
+pub cased-append : (u : Bool) (xs ys : List ℕ) → cased u (xs ++ ys) ≡ cased u xs ++ cased u ys
+unfolding upper
+cased-append true xs ys = map-append upper_octet xs ys
+cased-append false xs ys = refl
+
+pub cased-one : (u : Bool) (x : ℕ) (xs : List ℕ) → cased u (x ∷ xs) ≡ cased_octet u x ∷ cased u xs
+unfolding upper
+cased-one true x xs = refl
+cased-one false x xs = refl
+
+pub cased-none : (u : Bool) → cased u [] ≡ []
+unfolding upper
+cased-none true = refl
+cased-none false = refl
 
 -- for loops: to write `rest` from q on is to write `all` from p on
 pub record Leads (p : FoldPen) (all : List ℕ) (q : FoldPen) (rest : List ℕ) : Type 0 where

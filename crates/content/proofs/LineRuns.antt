@@ -1,23 +1,23 @@
 -- Unfolding by runs: what stands before an LF goes into its line, but for a CR right before it; the LF ends the line or folds it.
-use Prim.Native.Nat.{ℕ, ◌+◌, ◌-◌, ◌≤◌, ◌<◌}
+use Prim.Native.Nat.{ℕ, suc, ◌+◌, ◌-◌, ◌≤◌, ◌<◌}
 use Prim.Native.Char.{code}
-use mathlib.Core.Path.{◌≡◌, refl, ap, ◌∙◌}
-use mathlib.Core.Bool.{Bool, true, false}
+use mathlib.Core.Path.{◌≡◌, refl, sym, ap, ◌∙◌}
+use mathlib.Core.Bool.{Bool, true, false, not}
 use mathlib.Core.List.{List, [], ◌∷◌, ◌++◌, append-nil, append_assoc}
 use native.Mathlib.Omega.{arith}
-use borrow.Author.Tests.{eqb-true, ltb-true, ltb-false}
-use lib.Dec.{eqb, ltb}
+use borrow.Author.Tests.{eqb-true, ne_eqb}
+use lib.Dec.{eqb}
 use lib.ListN.{length, get_or, take, drop}
 use lib.Seq.{drop-drop}
-use Rattle.octets.specs.Basics.{pick, ◌and◌, ◌or◌, filled, All}
+use Rattle.octets.specs.Basics.{pick, ◌or◌, filled, All}
 use Rattle.octets.specs.Pieces.{onto, cut}
 use Rattle.octets.proofs.Cases.{cases, and-false-right, or-false-right, or_true_right}
 use Rattle.octets.proofs.Pieces.{Free}
-use Rattle.octets.proofs.Positions.{here, ended, part-more, part_length, first_of}
-use Rattle.content.specs.Lines.{newlines, is_blank, unfolded_from, is_lf, cut_lines, lines_of}
+use Rattle.octets.proofs.Positions.{here, ended, first_of}
+use Rattle.content.specs.Lines.{newlines, is_blank, unfolded_from, is_lf, without_cr, cut_lines, lines_of}
 use Rattle.octets.specs.Search.{until}
 use Rattle.content.specs.Buffer.{laid_out}
-use Rattle.octets.proofs.Search.{until-free, scan-low, scan-is, scan-stop, scan-split, scan-whole}
+use Rattle.octets.proofs.Search.{until-free, scan-is, scan-stop, scan-split, scan-whole}
 use Rattle.content.proofs.LineStarts.{lines_none, lines-octet, lines-cr, behind_lf, lines-lf, lines-short}
 use Rattle.content.proofs.Buffer.{cut-free}
 
@@ -25,12 +25,6 @@ use Rattle.content.proofs.Buffer.{cut-free}
 onto_all : List ℕ → List (List ℕ) → List (List ℕ)
 onto_all [] ls = ls
 onto_all (c ∷ s) ls = onto c (onto_all s ls)
-
--- without a last CR
-without_cr : List ℕ → List ℕ
-without_cr [] = []
-without_cr (c ∷ []) = pick (eqb c (code "\r")) [] (c ∷ [])
-without_cr (c ∷ d ∷ s) = c ∷ without_cr (d ∷ s)
 
 run-one : (c : ℕ) (t : List ℕ) → eqb c (code "\n") ≡ false → lines_of (c ∷ code "\n" ∷ t) ≡ onto_all (without_cr (c ∷ [])) (behind_lf t)
 unfolding without_cr onto_all
@@ -81,63 +75,35 @@ unfolding laid_from laid_out
 laid-lf b [] = refl
 laid-lf b (l ∷ ls) = refl
 
--- without its last CR, by places
+pub filled-by : (s : List ℕ) (b : Bool) → b ≡ eqb (length s) 0 → not b ≡ filled s
+unfolding filled
+filled-by [] b e = rw e
+filled-by (c ∷ s) b e = rw (e, ne_eqb (length (c ∷ s)) 0 (λ z. omega arith))
+
+-- without its last CR, by the last octet
 without-last : (xs : List ℕ) (c : ℕ) → without_cr (xs ++ c ∷ []) ≡ xs ++ pick (eqb c (code "\r")) [] (c ∷ [])
 unfolding without_cr
 without-last [] c = refl
 without-last (x ∷ []) c = refl
 without-last (x ∷ y ∷ xs) c = ap (λ (r : List ℕ). x ∷ r) (without-last (y ∷ xs) c)
 
--- where the octets of a line end that run from i to the LF at e
-abbrev pub trim_to : List ℕ → ℕ → ℕ → ℕ
-trim_to s i e = pick (ltb i e and eqb (get_or s (e - 1) 0) (code "\r")) (e - 1) e
-
-module _ (s : List ℕ) (i e : ℕ) (h : i ≤ e) (l : e ≤ length s) where
-  last_of : i < e → take (e - i) (drop i s) ≡ take (e - 1 - i) (drop i s) ++ get_or s (e - 1) 0 ∷ []
-  last_of g =
-      let n : e - 1 + 1 ≡ e = omega arith in
-      rw n at (part-more s i (e - 1) (omega arith) (omega arith))
-
-  trim-cr : i < e → eqb (get_or s (e - 1) 0) (code "\r") ≡ true → without_cr (take (e - i) (drop i s)) ≡ take (e - 1 - i) (drop i s)
-  trim-cr g c = rw (last_of g, without-last, c) (append-nil _)
-
-  trim-not : i < e → eqb (get_or s (e - 1) 0) (code "\r") ≡ false → without_cr (take (e - i) (drop i s)) ≡ take (e - i) (drop i s)
-  trim-not g c = rw (last_of g, without-last, c)
-
-  trim-empty : e ≤ i → without_cr (take (e - i) (drop i s)) ≡ take (e - i) (drop i s)
-  unfolding without_cr
-  trim-empty g = let n : e - i ≡ 0 = omega arith in rw n
-
-  trim-is : without_cr (take (e - i) (drop i s)) ≡ take (trim_to s i e - i) (drop i s)
-  trim-is = cases (ltb i e)
-      (λ g. rw g (cases (eqb (get_or s (e - 1) 0) (code "\r"))
-      (λ c. rw c (trim-cr (ltb-true i e g) c))
-      (λ c. rw c (trim-not (ltb-true i e g) c))))
-      (λ g. rw g (trim-empty (ltb-false i e g)))
-
-  trim-low : i ≤ trim_to s i e
-  trim-low = cases (ltb i e)
-      (λ g. rw g (cases (eqb (get_or s (e - 1) 0) (code "\r")) (λ c. rw c (omega (arith, ltb-true i e g))) (λ c. rw c h)))
-      (λ g. rw g h)
-
-  trim-high : trim_to s i e ≤ e
-  trim-high = cases (ltb i e)
-      (λ g. rw g (cases (eqb (get_or s (e - 1) 0) (code "\r")) (λ c. rw c (omega arith)) (λ c. rw c (omega arith))))
-      (λ g. rw g (omega arith))
-
-  pub trim-within : (k : ℕ) → k ≡ trim_to s i e → (i ≤ k) × (k ≤ e)
-  trim-within k t = (rw t trim-low, rw t trim-high)
-
--- a part from i to k is filled where i is below k
-part_filled : (s : List ℕ) (i k : ℕ) → i ≤ k → k ≤ length s → filled (take (k - i) (drop i s)) ≡ ltb i k
-unfolding filled
-part_filled s i k h l = cases (ltb i k)
-    (λ g. rw g (some (take (k - i) (drop i s)) (rw (part_length s i k h l) (omega (arith, ltb-true i k g)))))
-    (λ g. let n : k - i ≡ 0 = omega (arith, ltb-false i k g) in rw (g, n))
+last_of : (s : List ℕ) → 1 ≤ length s → s ≡ take (length s - 1) s ++ get_or s (length s - 1) 0 ∷ []
+last_of [] h = absurd (omega arith)
+last_of (c ∷ s) h = by c s
   where
-    some : (t : List ℕ) → 0 < length t → filled t ≡ true
-    some [] g = absurd (omega arith)
-    some (c ∷ t) g = refl
+    by : (c : ℕ) (s : List ℕ) → c ∷ s ≡ take (length (c ∷ s) - 1) (c ∷ s) ++ get_or (c ∷ s) (length (c ∷ s) - 1) 0 ∷ []
+    by c [] = refl
+    by c (d ∷ s) =
+        let n : length (c ∷ d ∷ s) - 1 ≡ suc (length (d ∷ s) - 1) = omega arith in
+        rw n (ap (λ (r : List ℕ). c ∷ r) (by d s))
+
+pub trim-cr : (s : List ℕ) → 1 ≤ length s → get_or s (length s - 1) 0 ≡ code "\r" → take (length s - 1) s ≡ without_cr s
+trim-cr s h e = sym (ap without_cr (last_of s h) ∙ without-last (take (length s - 1) s) (get_or s (length s - 1) 0) ∙ rw e (append-nil (take (length s - 1) s)))
+
+pub trim-not : (s : List ℕ) → (1 ≤ length s → get_or s (length s - 1) 0 ≡ code "\r" → ⊥) → s ≡ without_cr s
+unfolding without_cr
+trim-not [] n = refl
+trim-not (c ∷ s) n = sym (ap without_cr (last_of (c ∷ s) (omega arith)) ∙ without-last (take (length (c ∷ s) - 1) (c ∷ s)) (get_or (c ∷ s) (length (c ∷ s) - 1) 0) ∙ rw (ne_eqb _ (code "\r") (n (omega arith))) (sym (last_of (c ∷ s) (omega arith))))
 
 -- One turn: the run from i to e goes into its line. What stands behind the LF, or at the end of the text?
 module _ (s : List ℕ) (b : Bool) (i e : ℕ) (q : e ≡ i + length (until is_lf (drop i s))) where
@@ -148,31 +114,23 @@ module _ (s : List ℕ) (b : Bool) (i e : ℕ) (q : e ≡ i + length (until is_l
       let f : filled (drop i s) ≡ true = rw (here s i h) in
       rw (scan-is is_lf s i e q, w) (ap (laid_from b) (run_end (drop i s) (rw w at (until-free is_lf (drop i s)))) ∙ laid-all b (drop i s) [] ∙ rw (f, or_true_right b))
 
-  behind-run : e < length s → lines_of (drop i s) ≡ onto_all (take (trim_to s i e - i) (drop i s)) (behind_lf (drop (e + 1) s))
-  behind-run l =
-      let c : get_or s e 0 ≡ code "\n" = eqb-true (get_or s e 0) (code "\n") (scan-stop is_lf s i e q l) in
-      ap lines_of (scan-split is_lf s i e q l)
-      ∙ rw (c, run-lf (until is_lf (drop i s)) (drop (e + 1) s) (until-free is_lf (drop i s)), ← scan-is is_lf s i e q, trim-is s i e (scan-low is_lf s i e q) (omega arith))
-
   -- the run's octets in front of what an LF makes
   run_on : e < length s → laid_from b (lines_of (drop i s))
-      ≡ take (trim_to s i e - i) (drop i s) ++ laid_from (b or ltb i (trim_to s i e)) (behind_lf (drop (e + 1) s))
+      ≡ without_cr (take (e - i) (drop i s)) ++ laid_from (b or filled (without_cr (take (e - i) (drop i s)))) (behind_lf (drop (e + 1) s))
   run_on l =
-      let g = scan-low is_lf s i e q in
-      let n : trim_to s i e ≤ length s = omega (arith, trim-high s i e g (omega arith)) in
-      let w : e ≤ length s = omega arith in
-      ap (laid_from b) (behind-run l) ∙ laid-all b _ _ ∙ rw (part_filled s i (trim_to s i e) (trim-low s i e g w) n)
+      let c : get_or s e 0 ≡ code "\n" = eqb-true (get_or s e 0) (code "\n") (scan-stop is_lf s i e q l) in
+      ap (λ r. laid_from b (lines_of r)) (scan-split is_lf s i e q l)
+      ∙ rw (c, run-lf (until is_lf (drop i s)) (drop (e + 1) s) (until-free is_lf (drop i s)), ← scan-is is_lf s i e q) (laid-all b _ _)
 
-  pub turn-fold : (k : ℕ) → k ≡ trim_to s i e → e < length s → is_blank (get_or s (e + 1) 0) ≡ true
-      → laid_from b (lines_of (drop i s)) ≡ take (k - i) (drop i s) ++ laid_from (b or ltb i k) (lines_of (drop (e + 2) s))
-  turn-fold k t l f =
-      let n : e + 1 + 1 ≡ e + 2 = omega arith in
-      let d : drop 1 (drop (e + 1) s) ≡ drop (e + 2) s = drop-drop 1 (e + 1) s ∙ rw n in
-      run_on l ∙ rw (t, first_of s (e + 1), f, d)
+  module _ (run : List ℕ) (t : run ≡ without_cr (take (e - i) (drop i s))) (l : e < length s) where
+    pub turn-fold : is_blank (get_or s (e + 1) 0) ≡ true → laid_from b (lines_of (drop i s)) ≡ run ++ laid_from (b or filled run) (lines_of (drop (e + 2) s))
+    turn-fold f =
+        let n : e + 1 + 1 ≡ e + 2 = omega arith in
+        let d : drop 1 (drop (e + 1) s) ≡ drop (e + 2) s = drop-drop 1 (e + 1) s ∙ rw n in
+        run_on l ∙ rw (t, first_of s (e + 1), f, d)
 
-  pub turn_end : (k : ℕ) → k ≡ trim_to s i e → e < length s → is_blank (get_or s (e + 1) 0) ≡ false
-      → laid_from b (lines_of (drop i s)) ≡ (take (k - i) (drop i s) ++ code "\n" ∷ []) ++ laid_from false (lines_of (drop (e + 1) s))
-  turn_end k t l f = run_on l ∙ rw (t, append_assoc, first_of s (e + 1), f, laid-lf)
+    pub turn_end : is_blank (get_or s (e + 1) 0) ≡ false → laid_from b (lines_of (drop i s)) ≡ (run ++ code "\n" ∷ []) ++ laid_from false (lines_of (drop (e + 1) s))
+    turn_end f = run_on l ∙ rw (t, append_assoc, first_of s (e + 1), f, laid-lf)
 
 pub turn-none : (s : List ℕ) (b : Bool) (i : ℕ) → length s ≤ i → laid_from b (lines_of (drop i s)) ≡ pick b (code "\n" ∷ []) []
 unfolding laid_from

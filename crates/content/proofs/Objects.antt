@@ -14,22 +14,19 @@ use Rattle.octets.proofs.Pen.{then}
 use Rattle.octets.proofs.Positions.{here, ended, from, upto}
 use Rattle.json_text.specs.Tree.{str, obj, items_of}
 use Rattle.json_text.specs.Print.{escaped, quoted, print_string, print_key, print, first_item, more_items, first_member, more_members}
-use Rattle.content.specs.Line.{Param, param_value, pieces}
+use Rattle.content.specs.Line.{Param, unquote, param_value, pieces}
 use Rattle.content.specs.Carets.{decoded}
 use Rattle.content.specs.Scan.{until_bare}
-use Rattle.content.specs.Parts.{params_in, param_at, CutParam, Inner}
+use Rattle.content.specs.Parts.{params_in, param_cut}
 use Rattle.content.specs.Parameters.{called, is_base64, encodes, without_value, without_encoding, staying, plain_or, members_of}
 use Rattle.content.specs.Object.{left_out}
-use Rattle.content.specs.declared.parts.ParamParts.{ParamParts}
-use Rattle.content.specs.declared.parts.Span.{Span}
 use Rattle.content.proofs.Separators.{one_of, pieces-filled, piece-last, piece-on}
-use Rattle.content.proofs.ParamPlaces.{Stands, no-params, param-here}
 use Rattle.content.proofs.ParamAnswers.{is-value, is-encoding}
 
 -- a value as a string
-pub value-wrote : (v : List ℕ) (p : Span) {o q r : Pen} → Inner v 0 (length v) p → Wrote o (code "\"" ∷ []) q → Wrote q (quoted (decoded (take (p.end - p.from) (drop p.from v)))) r → Wrote o (print_string (param_value v)) r
+pub value-wrote : (v u : List ℕ) {o q r : Pen} → u ≡ unquote v → Wrote o (code "\"" ∷ []) q → Wrote q (quoted (decoded u)) r → Wrote o (print_string (param_value v)) r
 unfolding print_string param_value
-value-wrote v p k a b = rw (← from v 0, ← k.is) (then a b)
+value-wrote v u k a b = rw (← k) (then a b)
 
 -- the text of values behind a comma, and of all of them
 abbrev pub more_text : List (List ℕ) → List ℕ
@@ -38,15 +35,15 @@ more_text ps = more_items (items_of (map str (map param_value ps)))
 abbrev pub values_text : List (List ℕ) → List ℕ
 values_text ps = print (plain_or (map str (map param_value ps)))
 
-module _ (s : List ℕ) (i e : ℕ) (q : e ≡ i + length (until_bare (one_of (code ",") (code ",")) false (drop i s))) where
-  pub more-last : length s ≤ e → more_text (pieces (code ",") false (drop i s)) ≡ (octets "," ++ print_string (param_value (take (e - i) (drop i s)))) ++ octets "]"
+module _ (s : List ℕ) (e : ℕ) (q : e ≡ 0 + length (until_bare (one_of (code ",") (code ",")) false (drop 0 s))) where
+  pub more-last : length s ≤ e → more_text (pieces (code ",") false s) ≡ (octets "," ++ print_string (param_value (take e s))) ++ octets "]"
   unfolding more_items print items_of
-  more-last h = rw (piece-last (code ",") refl s i e q h)
+  more-last h = rw (piece-last (code ",") refl s 0 e q h, upto s e)
 
-  pub more-on : e < length s → more_text (pieces (code ",") false (drop i s))
-      ≡ (octets "," ++ print_string (param_value (take (e - i) (drop i s)))) ++ more_text (pieces (code ",") false (drop (e + 1) s))
+  pub more-on : e < length s → more_text (pieces (code ",") false s)
+      ≡ (octets "," ++ print_string (param_value (take e s))) ++ more_text (pieces (code ",") false (take (length s - (e + 1)) (drop (e + 1) s)))
   unfolding more_items print items_of
-  more-on h = rw (piece-on (code ",") refl s i e q h)
+  more-on h = rw (from s (e + 1)) (rw (piece-on (code ",") refl s 0 e q h, upto s e))
 
 many-text : (v : List ℕ) (ps : List (List ℕ)) → (ps ≡ [] → ⊥) → values_text (v ∷ ps) ≡ octets "[" ++ (print_string (param_value v) ++ more_text ps)
 unfolding plain_or print first_item items_of
@@ -62,8 +59,8 @@ module _ (s : List ℕ) (e : ℕ) (q : e ≡ 0 + length (until_bare (one_of (cod
       one_piece h = piece-last (code ",") refl s 0 e q h ∙ rw (upto s e, take_all e s h)
 
   pub values-many : e < length s → values_text (pieces (code ",") false s)
-      ≡ octets "[" ++ (print_string (param_value (take (e - 0) (drop 0 s))) ++ more_text (pieces (code ",") false (drop (e + 1) s)))
-  values-many h = ap values_text (piece-on (code ",") refl s 0 e q h) ∙ many-text (take (e - 0) (drop 0 s)) (pieces (code ",") false (drop (e + 1) s)) (pieces-filled (code ",") false (drop (e + 1) s))
+      ≡ octets "[" ++ (print_string (param_value (take e s)) ++ more_text (pieces (code ",") false (take (length s - (e + 1)) (drop (e + 1) s))))
+  values-many h = rw (from s (e + 1), ← upto s e) (ap values_text (piece-on (code ",") refl s 0 e q h) ∙ many-text (take (e - 0) (drop 0 s)) (pieces (code ",") false (drop (e + 1) s)) (pieces-filled (code ",") false (drop (e + 1) s)))
 
 -- a key
 module _ (s : List ℕ) (i : ℕ) where
@@ -112,25 +109,22 @@ unfolding members_text members_of more_members first_member
 members-put d true p ps e = rw (stays d p ps, e) (ap (λ (r : List ℕ). code "," ∷ r) (sym (append_assoc (print_key p.name) _ _)))
 members-put d false p ps e = rw (stays d p ps, e) (sym (append_assoc (print_key p.name) _ _))
 
--- whether the parameter at i is left out
-pub left_out_lem : (s : List ℕ) (i : ℕ) (p : ParamParts) (d : Bool) → left_out d (param_at s i p)
-    ≡ (same_name (take (p.name - i) (drop i s)) (octets "value")
-    or (d and same_name (take (p.name - i) (drop i s)) (octets "encoding") and is_base64 (map param_value (pieces (code ",") false (take (p.end - p.values) (drop p.values s))))))
-unfolding left_out encodes param_at
-left_out_lem s i p d = rw (is-value s i p, is-encoding s i p)
+-- whether a parameter is left out
+pub left_out_lem : (n v : List ℕ) (d : Bool) → left_out d (param_cut n v)
+    ≡ (same_name n (octets "value") or (d and same_name n (octets "encoding") and is_base64 (map param_value (pieces (code ",") false v))))
+unfolding left_out encodes param_cut
+left_out_lem n v d = rw (is-value n v, is-encoding n v)
 
 -- the walk
-module _ (s : List ℕ) (e : ℕ) (d b : Bool) where
-  pub object-end : length s ≤ e → members_text d b (params_in (drop e s)) ≡ octets "}"
-  object-end h = rw (no-params s e h) (members-none d b)
+pub object-end : (s : List ℕ) (d b : Bool) → params_in s ≡ [] → members_text d b (params_in s) ≡ octets "}"
+object-end s d b k = rw k (members-none d b)
 
-  module _ (st : Stands s e) (h : e < length s) (p : ParamParts) (k : CutParam s (e + 1) p) (out : Bool) (q : out ≡ left_out d (param_at s (e + 1) p)) where
-    pub object-skip : out ≡ true → members_text d b (params_in (drop e s)) ≡ members_text d b (params_in (drop p.end s))
-    object-skip t = rw (param-here s e st h p k) (members-skip d b (param_at s (e + 1) p) _ (sym q ∙ t))
+module _ (s n v r : List ℕ) (d b : Bool) (k : params_in s ≡ param_cut n v ∷ params_in r) (out : Bool) (q : out ≡ left_out d (param_cut n v)) where
+  pub object-skip : out ≡ true → members_text d b (params_in s) ≡ members_text d b (params_in r)
+  object-skip t = rw k (members-skip d b (param_cut n v) _ (sym q ∙ t))
 
-    pub object-on : out ≡ false
-        → members_text d b (params_in (drop e s))
-        ≡ (pick b (octets ",") [] ++ (print_key (lower (take (p.name - (e + 1)) (drop (e + 1) s))) ++ values_text (pieces (code ",") false (take (p.end - p.values) (drop p.values s)))))
-        ++ members_text d true (params_in (drop p.end s))
-    unfolding param_at
-    object-on t = rw (param-here s e st h p k) (members-put d b (param_at s (e + 1) p) _ (sym q ∙ t))
+  pub object-on : out ≡ false
+      → members_text d b (params_in s)
+      ≡ (pick b (octets ",") [] ++ (print_key (lower n) ++ values_text (pieces (code ",") false v))) ++ members_text d true (params_in r)
+  unfolding param_cut
+  object-on t = rw k (members-put d b (param_cut n v) _ (sym q ∙ t))

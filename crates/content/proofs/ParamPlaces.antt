@@ -1,20 +1,23 @@
 -- The parameters of a line by their places: each stands behind a semicolon.
 use Prim.Native.Nat.{ℕ, ◌+◌, ◌-◌, ◌≤◌, ◌<◌}
 use Prim.Native.Char.{code}
-use mathlib.Core.Path.{◌≡◌, ap, ◌∙◌}
+use mathlib.Core.Path.{◌≡◌, ◌∙◌}
 use mathlib.Core.Bool.{Bool, true, false}
 use mathlib.Core.List.{List, [], ◌∷◌, map}
 use borrow.Author.Tests.{eqb-true}
 use lib.Dec.{eqb}
-use lib.ListN.{length, get_or, take, drop}
-use Rattle.octets.specs.Basics.{◌or◌, any, same, among, twice}
+use lib.ListN.{length, get_or, take, drop, length-drop}
+use Rattle.octets.specs.Basics.{◌or◌, any, among, twice}
 use Rattle.octets.specs.Pieces.{cut}
-use Rattle.octets.specs.Classes.{lower}
+use Rattle.octets.specs.Classes.{lower, same_name}
+use Rattle.octets.proofs.Positions.{from}
+use Rattle.content.proofs.Names.{same-lower}
+use native.Mathlib.Omega.{arith}
 use Rattle.octets.proofs.Cases.{or-second, or-false-right}
 use Rattle.octets.proofs.Positions.{here, ended}
 use Rattle.content.specs.Line.{Param, quote_after, bare, pieces, param_of, name_of}
 use Rattle.content.specs.Scan.{until_bare}
-use Rattle.content.specs.Parts.{other_pieces, params_in, param_at, CutParam}
+use Rattle.content.specs.Parts.{other_pieces, params_in, param_at, param_cut, CutParam}
 use Rattle.content.specs.Parameters.{name_twice}
 use Rattle.content.specs.declared.parts.ParamParts.{ParamParts}
 use Rattle.content.proofs.Scanning.{bare-rest, bare-stop}
@@ -51,60 +54,48 @@ module _ (s : List ℕ) (e : ℕ) (st : Stands s e) (h : e < length s) where
 pub param-next : (s : List ℕ) (i : ℕ) (p : ParamParts) → CutParam s i p → Stands s p.end
 param-next s i p k = record { semicolon = k.next }
 
--- a walk over the parameters from a on, at e: what f says of those from a on, it says of those from e on
-pub record Passing {A : Type 0} (f : List Param → A) (s : List ℕ) (a e : ℕ) : Type 0 where
-  pub stands : Stands s e
-  pub alike : f (params_in (drop a s)) ≡ f (params_in (drop e s))
+-- the next parameter, as it is answered: the parts of the text that the places cut out
+module _ (s : List ℕ) (e : ℕ) (q : e ≡ 0 + length (until_bare (one_of (code ";") (code ";")) false (drop 0 s))) where
+  pub next-none : length s ≤ e → params_in s ≡ []
+  next-none h = first-params s 0 e q ∙ no-params s e h
 
-pub passing-start : {A : Type 0} {f : List Param → A} (s : List ℕ) (a e : ℕ) → e ≡ a + length (until_bare (one_of (code ";") (code ";")) false (drop a s)) → Passing f s a e
-passing-start {f = f} s a e q = record { stands = first-stands s a e q; alike = ap f (first-params s a e q) }
+  module _ (h : e < length s) (p : ParamParts) (k : CutParam s (e + 1) p) where
+    pub next-rest : length (take (length s - p.end) (drop p.end s)) < length s
+    next-rest = rw (from s p.end, length-drop p.end s) (omega (arith, k.name-low, k.name-within, k.values-within))
 
-module _ {A : Type 0} {f : List Param → A} {s : List ℕ} {a e : ℕ} (w : Passing f s a e) where
-  pub passing-end : length s ≤ e → f (params_in (drop a s)) ≡ f []
-  passing-end h = w.alike ∙ ap f (no-params s e h)
-
-  module _ (h : e < length s) {p : ParamParts} (k : CutParam s (e + 1) p) where
-    pub passing-at : f (params_in (drop a s)) ≡ f (param_at s (e + 1) p ∷ params_in (drop p.end s))
-    passing-at = w.alike ∙ ap f (param-here s e w.stands h p k)
-
-    pub passing-on : f (param_at s (e + 1) p ∷ params_in (drop p.end s)) ≡ f (params_in (drop p.end s)) → Passing f s a p.end
-    passing-on o = record { stands = param-next s (e + 1) p k; alike = passing-at ∙ o }
+    pub next-some : params_in s ≡ param_cut (take (p.name - (e + 1)) (drop (e + 1) s)) (take (p.end - p.values) (drop p.values s)) ∷ params_in (take (length s - p.end) (drop p.end s))
+    unfolding param_cut param_at
+    next-some = rw (from s p.end) (first-params s 0 e q ∙ param-here s e (first-stands s 0 e q) h p k)
 
 -- a name among those of the parameters
 abbrev pub has_name : List ℕ → List Param → Bool
 has_name n ps = among n (map name_of ps)
 
-module _ (n : List ℕ) {s : List ℕ} {a e : ℕ} (w : Passing (has_name n) s a e) where
-  pub among_none : length s ≤ e → has_name n (params_in (drop a s)) ≡ false
-  unfolding among any
-  among_none h = passing-end w h
+pub no-name : (n s : List ℕ) → params_in s ≡ [] → has_name n (params_in s) ≡ false
+unfolding among any
+no-name n s k = rw k
 
-  module _ (h : e < length s) {p : ParamParts} (k : CutParam s (e + 1) p) where
-    pub among-here : same n (lower (take (p.name - (e + 1)) (drop (e + 1) s))) ≡ true → has_name n (params_in (drop a s)) ≡ true
-    unfolding among any param_at
-    among-here t = passing-at w h k ∙ rw t
+module _ (w : List ℕ) (s n v r : List ℕ) (k : params_in s ≡ param_cut n v ∷ params_in r) where
+  pub among-here : same_name w n ≡ true → has_name (lower w) (params_in s) ≡ true
+  unfolding among any param_cut
+  among-here t = rw (k, ← same-lower w n, t)
 
-    pub among-on : same n (lower (take (p.name - (e + 1)) (drop (e + 1) s))) ≡ false → Passing (has_name n) s a p.end
-    unfolding among any param_at
-    among-on t = passing-on w h k (rw t)
+  pub among-on : same_name w n ≡ false → has_name (lower w) (params_in s) ≡ has_name (lower w) (params_in r)
+  unfolding among any param_cut
+  among-on t = rw (k, ← same-lower w n, t)
 
 -- a name twice
-module _ (s : List ℕ) (e : ℕ) where
-  pub twice-none : length s ≤ e → name_twice (params_in (drop e s)) ≡ false
-  unfolding name_twice twice
-  twice-none h = rw (no-params s e h)
+pub never-twice : (s : List ℕ) → params_in s ≡ [] → name_twice (params_in s) ≡ false
+unfolding name_twice twice
+never-twice s k = rw k
 
-  module _ (st : Stands s e) (h : e < length s) (p : ParamParts) (k : CutParam s (e + 1) p) where
-    -- the name stands again behind the parameter
-    abbrev again : Bool
-    again = among (lower (take (p.name - (e + 1)) (drop (e + 1) s))) (map name_of (params_in (drop p.end s)))
+module _ (s n v r : List ℕ) (k : params_in s ≡ param_cut n v ∷ params_in r) where
+  twice-turn : name_twice (params_in s) ≡ (among (lower n) (map name_of (params_in r)) or name_twice (params_in r))
+  unfolding name_twice twice param_cut
+  twice-turn = rw k
 
-    twice-turn : name_twice (params_in (drop e s)) ≡ (again or name_twice (params_in (drop p.end s)))
-    unfolding name_twice twice param_at
-    twice-turn = rw (param-here s e st h p k)
+  pub twice-behind : name_twice (params_in r) ≡ true → name_twice (params_in s) ≡ true
+  twice-behind t = twice-turn ∙ or-second (among (lower n) (map name_of (params_in r))) t
 
-    pub twice-behind : name_twice (params_in (drop p.end s)) ≡ true → name_twice (params_in (drop e s)) ≡ true
-    twice-behind t = twice-turn ∙ or-second again t
-
-    pub twice-first : name_twice (params_in (drop p.end s)) ≡ false → name_twice (params_in (drop e s)) ≡ again
-    twice-first t = twice-turn ∙ rw t (or-false-right again)
+  pub twice-first : name_twice (params_in r) ≡ false → name_twice (params_in s) ≡ among (lower n) (map name_of (params_in r))
+  twice-first t = twice-turn ∙ rw t (or-false-right (among (lower n) (map name_of (params_in r))))

@@ -1,5 +1,5 @@
 -- One value of a parameter: without its quotes, by places; and names, which decoding leaves as they are.
-use Prim.Native.Nat.{ℕ, suc, ◌+◌, ◌-◌, ◌≤◌, ◌<◌}
+use Prim.Native.Nat.{ℕ, suc, ◌-◌, ◌≤◌}
 use Prim.Native.Char.{code}
 use mathlib.Core.Path.{◌≡◌, refl, sym, ap, ◌∙◌}
 use mathlib.Core.Bool.{Bool, true, false}
@@ -8,16 +8,13 @@ use native.Mathlib.Omega.{arith}
 use borrow.Author.Tests.{ne_eqb}
 use lib.Dec.{eqb}
 use lib.ListN.{length, get_or, take, drop}
-use lib.Seq.{take-take}
 use Rattle.octets.specs.Basics.{octets, pick, all, same, filled}
 use Rattle.octets.specs.Classes.{between, is_digit, is_upper, is_lower, is_letter, name_octet, is_name, upper, upper_octet}
 use Rattle.octets.proofs.Cases.{cases, never, same?, apart, both, and-true, and-false-right, or-first, or-second}
 use Rattle.octets.proofs.Classes.{same-is}
-use Rattle.octets.proofs.Positions.{here, part_length}
+use Rattle.octets.proofs.Positions.{from}
 use Rattle.content.specs.Line.{front, unquote}
 use Rattle.content.specs.Carets.{decoded_octet, caret_after, decoded_from, decoded}
-use Rattle.content.specs.Parts.{Inner}
-use Rattle.content.proofs.PlaceSpans.{beyond}
 
 -- decoding leaves a name as it is, and makes no name of what is none
 out-by : (a b d : Bool) (c : ℕ) (s : List ℕ)
@@ -98,35 +95,15 @@ front-take (c ∷ d ∷ s) =
     let m : suc (length s) - 1 ≡ length s = omega arith in
     rw n (ap (λ (l : List ℕ). c ∷ l) (rw m at (front-take (d ∷ s))))
 
--- a value from v to e, without its quotes
-module _ (s : List ℕ) (v e : ℕ) (l : v ≤ e) (h : e ≤ length s) where
-  pub inner-empty : v ≡ e → Inner s v e (record { from = v; end = e })
-  unfolding unquote
-  inner-empty g = let z : e - v ≡ 0 = omega arith in record { low = omega arith; order = l; high = omega arith; is = rw z }
+-- a value without its quotes, by whether it begins with one
+pub unquote-plain : (v : List ℕ) → (1 ≤ length v → get_or v 0 0 ≡ code "\"" → ⊥) → unquote v ≡ v
+unfolding unquote
+unquote-plain [] n = refl
+unquote-plain (c ∷ v) n = rw (ne_eqb c (code "\"") (n (omega arith)))
 
-  pub inner-plain : v < e → (get_or s v 0 ≡ code "\"" → ⊥) → Inner s v e (record { from = v; end = e })
-  unfolding unquote
-  inner-plain g n =
-      let m : e - v ≡ suc (e - (v + 1)) = omega arith in
-      record { low = omega arith; order = l; high = omega arith; is = rw (m, here s v (omega arith), ne_eqb (get_or s v 0) (code "\"") n) }
-
-  module _ (q : get_or s v 0 ≡ code "\"") (g : v < e) where
-    opened : unquote (take (e - v) (drop v s)) ≡ take (e - (v + 1) - 1) (drop (v + 1) s)
-    unfolding unquote
-    opened =
-        let m : e - v ≡ suc (e - (v + 1)) = omega arith in
-        let k : length (take (e - (v + 1)) (drop (v + 1) s)) ≡ e - (v + 1) = part_length s (v + 1) e (omega arith) h in
-        let o : e - (v + 1) - 1 ≤ e - (v + 1) = omega arith in
-        rw (m, here s v (omega arith), q) (front-take (take (e - (v + 1)) (drop (v + 1) s)) ∙ rw (k, take-take (e - (v + 1) - 1) (e - (v + 1)) (drop (v + 1) s) o))
-
-    pub inner-lone : v + 1 ≡ e → Inner s v e (record { from = e; end = e })
-    inner-lone d =
-        let z : e - e ≡ 0 = omega arith in
-        let y : e - (v + 1) - 1 ≡ 0 = omega arith in
-        record { low = l; order = omega arith; high = omega arith; is = sym (opened ∙ rw (y, z)) }
-
-    pub inner-quoted : (v + 1 ≡ e → ⊥) → Inner s v e (record { from = v + 1; end = e - 1 })
-    inner-quoted d =
-        let k : e - 1 - (v + 1) ≡ e - (v + 1) - 1 = omega arith in
-        let o : v + 1 < e = beyond (v + 1) e (omega arith) (λ z. d (sym z)) in
-        record { low = omega arith; order = omega arith; high = omega arith; is = sym (opened ∙ rw k) }
+pub unquote-quoted : (v : List ℕ) → 1 ≤ length v → get_or v 0 0 ≡ code "\"" → unquote v ≡ take (length (take (length v - 1) (drop 1 v)) - 1) (take (length v - 1) (drop 1 v))
+unquote-quoted v h q = rw (from v 1) (by v h q)
+  where
+    by : (v : List ℕ) → 1 ≤ length v → get_or v 0 0 ≡ code "\"" → unquote v ≡ take (length (drop 1 v) - 1) (drop 1 v)
+    by [] h q = absurd (omega arith)
+    by (c ∷ v) h q = unfold unquote in rw q (front-take v)

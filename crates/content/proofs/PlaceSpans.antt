@@ -1,5 +1,5 @@
 -- The form of a content line by spans: what each step of the walk passes.
-use Prim.Native.Nat.{ℕ, ◌+◌, ◌≤◌, ◌<◌}
+use Prim.Native.Nat.{ℕ, ◌+◌, ◌-◌, ◌≤◌, ◌<◌}
 use Prim.Native.Char.{code}
 use mathlib.Core.Path.{◌≡◌, refl, sym, ap, ◌∙◌}
 use mathlib.Core.Bool.{Bool, true, false, not}
@@ -7,12 +7,13 @@ use mathlib.Core.List.{List, [], ◌∷◌, ◌++◌}
 use native.Mathlib.Omega.{arith}
 use borrow.Author.Tests.{ne_eqb, ltb-true, ltb-false, not-true, not-false}
 use lib.Dec.{eqb, ltb}
-use lib.ListN.{length, get_or, drop}
+use lib.ListN.{length, get_or, take, drop, length-drop}
+use lib.Seq.{drop-drop}
 use Rattle.octets.specs.Basics.{pick, ◌and◌, All}
 use Rattle.octets.specs.Classes.{name_octet}
 use Rattle.octets.specs.Groups.{safe_octet}
 use Rattle.octets.proofs.Cases.{cases, never, both}
-use Rattle.octets.proofs.Positions.{here, ended, past_end}
+use Rattle.octets.proofs.Positions.{here, ended, past_end, from}
 use Rattle.content.specs.Form.{formed}
 use Rattle.content.specs.LinePlaces.{LinePlace, start, name, param_start, param_name, value_start, plain, quoted, unquoted, value, nowhere, behind_value, in_value, place_behind, place_after, is_value, Passes}
 use Rattle.octets.specs.Search.{until}
@@ -226,6 +227,14 @@ module _ (s : List ℕ) (i : ℕ) (l : i ≤ length s) (n : ℕ) (e : n ≡ i + 
       told = on ∙ moved s param_name n value_start (param-inside c) (unfold place_behind in rw (not-true (name_octet (get_or s n 0)) (scan-stop off_name s i n e (param-inside c)), c)) ∙ p.told;
     }
 
+-- what a text passes, a longer text passes behind its first n octets
+pub behind-first : (s : List ℕ) (p q : LinePlace) (n e : ℕ) → n ≤ length s → Passes (take (length s - n) (drop n s)) p 0 q e → Passes s p n q (n + e)
+behind-first s p q n e h k =
+    let f = from s n in
+    let l : length (take (length s - n) (drop n s)) ≡ length s - n = rw (f, length-drop n s) in
+    let d : drop e (drop n s) ≡ drop (n + e) s = drop-drop e n s in
+    record { low = omega arith; high = omega (arith, k.high, l); told = rw (f) at k.told ∙ ap (λ r. is_value (place_after q r)) d }
+
 -- behind a value
 module _ (s : List ℕ) (i : ℕ) where
   pub tail-end : length s ≤ i → Formed s unquoted i ≡ false
@@ -235,11 +244,26 @@ module _ (s : List ℕ) (i : ℕ) where
     pub tail-colon : get_or s i 0 ≡ code ":" → Formed s unquoted i ≡ true
     tail-colon c = won s unquoted i h (unfold place_behind behind_value in rw c)
 
-    pub tail-comma : (r : ℕ) → get_or s i 0 ≡ code "," → Passes s value_start (i + 1) unquoted r → Formed s unquoted i ≡ Formed s unquoted r
-    tail-comma r c p = moved s unquoted i value_start h (unfold place_behind behind_value in rw c) ∙ p.told
-
-    pub tail-semicolon : (r : ℕ) → get_or s i 0 ≡ code ";" → Passes s param_start (i + 1) unquoted r → Formed s unquoted i ≡ Formed s unquoted r
-    tail-semicolon r c p = moved s unquoted i param_start h (unfold place_behind behind_value in rw c) ∙ p.told
-
     pub tail-lost : (get_or s i 0 ≡ code "," → ⊥) → (get_or s i 0 ≡ code ";" → ⊥) → (get_or s i 0 ≡ code ":" → ⊥) → Formed s unquoted i ≡ false
     tail-lost a b c = lost s unquoted i h (unfold place_behind behind_value in rw (ne_eqb _ (code ",") a, ne_eqb _ (code ";") b, ne_eqb _ (code ":") c))
+
+-- behind the octet that a text begins with
+abbrev behind_one : List ℕ → List ℕ
+behind_one s = take (length s - 1) (drop 1 s)
+
+module _ (s : List ℕ) (h : 0 < length s) where
+  on-from : (p : LinePlace) (e : ℕ) → place_behind unquoted (get_or s 0 0) ≡ p → Passes (behind_one s) p 0 unquoted e
+      → is_value (place_after unquoted s) ≡ is_value (place_after unquoted (take (length (behind_one s) - e) (drop e (behind_one s))))
+  on-from p e c k =
+      moved s unquoted 0 p h c
+      ∙ ap (λ r. is_value (place_after p r)) (sym (from s 1))
+      ∙ k.told
+      ∙ ap (λ r. is_value (place_after unquoted r)) (sym (from (behind_one s) e))
+
+  pub tail-comma : get_or s 0 0 ≡ code "," → (e : ℕ) → Passes (behind_one s) value_start 0 unquoted e
+      → is_value (place_after unquoted s) ≡ is_value (place_after unquoted (take (length (behind_one s) - e) (drop e (behind_one s))))
+  tail-comma c e k = on-from value_start e (unfold place_behind behind_value in rw c) k
+
+  pub tail-semicolon : get_or s 0 0 ≡ code ";" → (e : ℕ) → Passes (behind_one s) param_start 0 unquoted e
+      → is_value (place_after unquoted s) ≡ is_value (place_after unquoted (take (length (behind_one s) - e) (drop e (behind_one s))))
+  tail-semicolon c e k = on-from param_start e (unfold place_behind behind_value in rw c) k

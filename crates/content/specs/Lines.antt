@@ -24,6 +24,12 @@ unfolded_from p (c ∷ s) = pick (folds p c (get_or s 0 0)) [] (c ∷ []) ++ unf
 abbrev pub is_lf : ℕ → Bool
 is_lf c = eqb c (code "\n")
 
+-- without a last CR
+unfoldable pub without_cr : List ℕ → List ℕ
+without_cr [] = []
+without_cr (c ∷ []) = pick (eqb c (code "\r")) [] (c ∷ [])
+without_cr (c ∷ d ∷ s) = c ∷ without_cr (d ∷ s)
+
 -- cut at LF; a last line without an ending counts if it has octets
 unfoldable pub cut_lines : List ℕ → List (List ℕ)
 cut_lines [] = []

@@ -2,10 +2,9 @@
 use Rattle.std.specs.Prelude.{ℕ, ◌-◌, ◌≤◌, ◌<◌, ◌≡◌, false, List, [], ◌∷◌, map, length, get_or, take, drop}
 use Prim.Native.Char.{code}
 use Rattle.octets.specs.Classes.{lower}
-use Rattle.content.specs.Line.{Param, Line, before, pieces, unquote, param_value, param_of, line_of}
+use Rattle.content.specs.Line.{Param, Line, before, pieces, param_value, param_of, line_of}
 use Rattle.content.specs.declared.parts.Parts.{Parts}
 use Rattle.content.specs.declared.parts.ParamParts.{ParamParts}
-use Rattle.content.specs.declared.parts.Span.{Span}
 
 -- all pieces but the first
 unfoldable pub other_pieces : List (List ℕ) → List (List ℕ)
@@ -45,9 +44,6 @@ pub record CutParam (s : List ℕ) (i : ℕ) (p : ParamParts) : Type 0 where
   pub next : p.end < length s → get_or s p.end 0 ≡ code ";"
   pub params : map param_of (pieces (code ";") false (drop i s)) ≡ param_at s i p ∷ params_in (drop p.end s)
 
--- the value from v to e without the quotes around it
-pub record Inner (s : List ℕ) (v e : ℕ) (p : Span) : Type 0 where
-  pub low : v ≤ p.from
-  pub order : p.from ≤ p.end
-  pub high : p.end ≤ e
-  pub is : take (p.end - p.from) (drop p.from s) ≡ unquote (take (e - v) (drop v s))
+-- a parameter by the texts of its name and its values
+unfoldable pub param_cut : List ℕ → List ℕ → Param
+param_cut n v = record { name = lower n; values = map param_value (pieces (code ",") false v) }

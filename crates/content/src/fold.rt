@@ -5,7 +5,7 @@ ghost use Rattle.octets.specs.Classes.{upper};
 ghost use Rattle.octets.specs.Limits.{most_columns};
 ghost use Rattle.octets.specs.Pen.{pen, Wrote};
 ghost use Rattle.content.specs.Fold.{width, breaks};
-ghost use Rattle.content.specs.Folding.{folding, Folded};
+ghost use Rattle.content.specs.Folding.{folding, Folded, cased_octet, cased};
 
 use octets::{MOST_COLUMNS, put, put_all, put_upper, upper_octet};
 
@@ -19,7 +19,7 @@ pub struct Folder {
 // A character that begins before this column ends in its line, whatever its width.
 const SAFE_COLUMNS: usize = MOST_COLUMNS - 3;
 
-// The octets of the character that c begins, or 0.
+// The octets of the character that c begins, or 0, as the definition `width` counts them.
 fn width(c: u8) -> usize
     ensures { result ≡ width c }
 {
@@ -50,37 +50,39 @@ fn breaks(column: usize, c: u8) -> bool
 pub fn fold_octet(out: &mut [u8], p: Folder, c: u8) -> Folder
     ensures { Folded (folding out.old p) (c ∷ []) (folding out.new result) }
 {
-    let at = p.at;
-    let column = p.column;
-    if breaks(column, c) {
-        let to = put_all(out, at, b"\r\n ");
-        let end = put(out, to, c);
-        return Folder { at: end, column: 2 };
+    if breaks(p.column, c) {
+        let to = put_all(out, p.at, b"\r\n ");
+        let at = put(out, to, c);
+        return Folder { at, column: 2 };
     }
-    let end = put(out, at, c);
-    if column < MOST_COLUMNS {
-        return Folder {
-            at: end,
-            column: column + 1,
-        };
-    }
-    Folder {
-        at: end,
-        column: MOST_COLUMNS + 1,
-    }
+    let at = put(out, p.at, c);
+    let column = if p.column < MOST_COLUMNS {
+        p.column + 1
+    } else {
+        MOST_COLUMNS + 1
+    };
+    Folder { at, column }
+}
+
+// An octet in its case as written: in uppercase, or as it is.
+fn cased<const UPPER: bool>(c: u8) -> u8
+    ensures { result ≡ cased_octet UPPER c }
+{
+    if UPPER { upper_octet(c) } else { c }
 }
 
 // Writes octets that all stand in safe columns.
-fn fold_run(out: &mut [u8], p: Folder, s: &[u8]) -> Folder
+fn fold_run<const UPPER: bool>(out: &mut [u8], p: Folder, s: &[u8]) -> Folder
     requires { p.column + length s.now + 3 ≤ most_columns }
-    ensures { Folded (folding out.old p) s.now (folding out.new result) }
+    ensures { Folded (folding out.old p) (cased UPPER s.now) (folding out.new result) }
 {
-    let at = p.at;
-    let end = put_all(out, at, s);
-    Folder {
-        at: end,
-        column: p.column + s.len(),
+    let column = p.column + s.len();
+    if UPPER {
+        let at = put_upper(out, p.at, s);
+        return Folder { at, column };
     }
+    let at = put_all(out, p.at, s);
+    Folder { at, column }
 }
 
 // The end of the octets from i on that fit into safe columns.
@@ -93,22 +95,19 @@ fn fitting_end(column: usize, i: usize, len: usize) -> usize
 }
 
 // Writes a slice that may end behind the safe columns: run by run.
-fn fold_long(out: &mut [u8], p: Folder, s: &[u8]) -> Folder
-    ensures { Folded (folding out.old p) s.now (folding out.new result) }
+// How far a step goes depends on the column that was reached: over a run, or over the one octet before which a fold may stand.
+fn fold_long<const UPPER: bool>(out: &mut [u8], p: Folder, s: &[u8]) -> Folder
+    ensures { Folded (folding out.old p) (cased UPPER s.now) (folding out.new result) }
 {
-    let mut q = Folder {
-        at: p.at,
-        column: p.column,
-    };
+    let mut q = p;
     let mut i = 0;
     while i < s.len() {
-        let column = q.column;
-        if column < SAFE_COLUMNS {
-            let end = fitting_end(column, i, s.len());
-            q = fold_run(out, q, &s[i..end]);
+        if q.column < SAFE_COLUMNS {
+            let end = fitting_end(q.column, i, s.len());
+            q = fold_run::<UPPER>(out, q, &s[i..end]);
             i = end;
         } else {
-            q = fold_octet(out, q, s[i]);
+            q = fold_octet(out, q, cased::<UPPER>(s[i]));
             i += 1;
         }
     }
@@ -116,88 +115,27 @@ fn fold_long(out: &mut [u8], p: Folder, s: &[u8]) -> Folder
 }
 
 // Writes a slice; one that stands whole in safe columns is written at once.
+fn fold_cased<const UPPER: bool>(out: &mut [u8], p: Folder, s: &[u8]) -> Folder
+    ensures { Folded (folding out.old p) (cased UPPER s.now) (folding out.new result) }
+{
+    if p.column < SAFE_COLUMNS && s.len() <= SAFE_COLUMNS - p.column {
+        return fold_run::<UPPER>(out, p, s);
+    }
+    fold_long::<UPPER>(out, p, s)
+}
+
+// Writes a slice as it is.
 pub fn fold_all(out: &mut [u8], p: Folder, s: &[u8]) -> Folder
     ensures { Folded (folding out.old p) s.now (folding out.new result) }
 {
-    let at = p.at;
-    let column = p.column;
-    if column < SAFE_COLUMNS {
-        if s.len() <= SAFE_COLUMNS - column {
-            return fold_run(
-                out,
-                Folder {
-                    at: at,
-                    column: column,
-                },
-                &*s,
-            );
-        }
-    }
-    fold_long(
-        out,
-        Folder {
-            at: at,
-            column: column,
-        },
-        &*s,
-    )
+    fold_cased::<false>(out, p, s)
 }
 
-// Writes octets in uppercase that all stand in safe columns.
-fn fold_upper_run(out: &mut [u8], p: Folder, s: &[u8]) -> Folder
-    requires { p.column + length s.now + 3 ≤ most_columns }
-    ensures { Folded (folding out.old p) (upper s.now) (folding out.new result) }
-{
-    let at = p.at;
-    let end = put_upper(out, at, &*s);
-    Folder {
-        at: end,
-        column: p.column + s.len(),
-    }
-}
-
-// Writes a slice in uppercase that may end behind the safe columns: octet by octet.
-fn fold_upper_long(out: &mut [u8], p: Folder, s: &[u8]) -> Folder
-    ensures { Folded (folding out.old p) (upper s.now) (folding out.new result) }
-{
-    let mut q = Folder {
-        at: p.at,
-        column: p.column,
-    };
-    let mut i = 0;
-    while i < s.len() {
-        q = fold_octet(out, q, upper_octet(s[i]));
-        i += 1;
-    }
-    q
-}
-
-// Writes a slice in uppercase; one that stands whole in safe columns is written at once.
+// Writes a slice in uppercase.
 pub fn fold_upper(out: &mut [u8], p: Folder, s: &[u8]) -> Folder
     ensures { Folded (folding out.old p) (upper s.now) (folding out.new result) }
 {
-    let at = p.at;
-    let column = p.column;
-    if column < SAFE_COLUMNS {
-        if s.len() <= SAFE_COLUMNS - column {
-            return fold_upper_run(
-                out,
-                Folder {
-                    at: at,
-                    column: column,
-                },
-                &*s,
-            );
-        }
-    }
-    fold_upper_long(
-        out,
-        Folder {
-            at: at,
-            column: column,
-        },
-        &*s,
-    )
+    fold_cased::<true>(out, p, s)
 }
 
 // Ends a line; the next one begins at the place returned, in column 0.

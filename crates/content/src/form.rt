@@ -1,5 +1,5 @@
 // The form of content lines: name, parameters, colon, value.
-ghost use Rattle.std.specs.Prelude.{◌≡◌, ◌≤◌, length, drop};
+ghost use Rattle.std.specs.Prelude.{◌≡◌};
 ghost use Rattle.octets.specs.Basics.{all};
 ghost use Rattle.content.specs.Lines.{cut_lines};
 ghost use Rattle.content.specs.Form.{formed};
@@ -8,47 +8,44 @@ ghost use Rattle.content.specs.LinePlaces.{param_start, value_start, unquoted, p
 use crate::lines::line_end;
 use octets::{Class, find, peek, run_end};
 
-// The end of the parameter value at `at`, with its quotes.
-fn value_end(s: &[u8], at: usize) -> usize
-    requires { at ≤ length s.now }
-    ensures { Passes s.now value_start at unquoted result }
+// The end of the parameter value that a text begins with, with its quotes.
+fn value_end(s: &[u8]) -> usize
+    ensures { Passes s.now value_start 0 unquoted result }
 {
-    if peek(s, at) != b'"' {
-        return run_end(s, at, Class::Safe);
+    if peek(s, 0) != b'"' {
+        return run_end(s, 0, Class::Safe);
     }
-    let e = find(s, at + 1, b'"');
+    let e = find(s, 1, b'"');
     if e < s.len() { e + 1 } else { e }
 }
 
-// The end of the first value of the parameter at `at`; the end of the line where it lacks its form.
-fn param_end(s: &[u8], at: usize) -> usize
-    requires { at ≤ length s.now }
-    ensures { Passes s.now param_start at unquoted result }
+// The end of the first value of the parameter that a text begins with; the end of the text where it lacks its form.
+fn param_end(s: &[u8]) -> usize
+    ensures { Passes s.now param_start 0 unquoted result }
 {
-    let n = run_end(s, at, Class::Name);
-    if n == at {
+    let n = run_end(s, 0, Class::Name);
+    if n == 0 {
         return s.len();
     }
     if peek(s, n) != b'=' {
         return s.len();
     }
-    value_end(s, n + 1)
+    n + 1 + value_end(&s[n + 1..])
 }
 
 // The form of a line behind its name or behind a parameter value.
-fn tail_formed(s: &[u8], at: usize) -> bool
-    requires { at ≤ length s.now }
-    ensures { result ≡ is_value (place_after unquoted (drop at s.now)) }
+fn tail_formed(s: &[u8]) -> bool
+    ensures { result ≡ is_value (place_after unquoted s.now) }
 {
-    let mut i = at;
-    while i < s.len() {
-        match s[i] {
+    let mut rest = s;
+    while let [c, next @ ..] = rest {
+        match c {
             b':' => return true,
             b',' => {
-                i = value_end(s, i + 1);
+                rest = &next[value_end(next)..];
             }
             b';' => {
-                i = param_end(s, i + 1);
+                rest = &next[param_end(next)..];
             }
             _ => return false,
         }
@@ -67,10 +64,10 @@ fn is_formed(line: &[u8]) -> bool
     if peek(line, n) == b',' {
         return false;
     }
-    tail_formed(line, n)
+    tail_formed(&line[n..])
 }
 
-// Test 4 of every line in a buffer.
+// Test 4 of every line in a buffer. The next LF is found many octets at a time, which a `split` does not do.
 pub(crate) fn all_formed(buf: &[u8]) -> bool
     ensures { result ≡ all formed (cut_lines buf.now) }
 {

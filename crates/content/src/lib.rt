@@ -18,9 +18,9 @@ mod twice;
 
 pub use lines::line_end;
 pub use object::put_params;
-pub use params::{ValueType, is_encoded, value_type};
+pub use params::{NoType, is_encoded, value_type};
 pub use parts::{Parts, parts_of};
-pub use reading::{Lines, read_lines};
+pub use reading::read_lines;
 pub use twice::name_twice;
 
 // Room for the lines of any text: an LF more than it has octets.

@@ -1,13 +1,13 @@
 // The lines of a text: unfolded into a buffer, each ended by LF alone, and found there again.
-ghost use Rattle.std.specs.Prelude.{◌≡◌, ◌+◌, ◌-◌, ◌≤◌, ◌<◌, eqb, ltb, length, get_or, drop};
-ghost use Rattle.octets.specs.Basics.{pick, ◌and◌, ◌or◌, all};
+ghost use Rattle.std.specs.Prelude.{◌≡◌, ◌+◌, length, get_or, drop};
+ghost use Rattle.octets.specs.Basics.{◌or◌, all, filled};
 ghost use Rattle.octets.specs.Utf8.{clean};
 ghost use Rattle.octets.specs.Pen.{pen, Wrote};
-ghost use Rattle.content.specs.Lines.{is_blank, is_lf, cut_lines, lines_of};
+ghost use Rattle.content.specs.Lines.{is_blank, is_lf, without_cr, cut_lines, lines_of};
 ghost use Rattle.octets.specs.Search.{until};
 ghost use Rattle.content.specs.Buffer.{laid_out};
 
-use octets::{all_text, find, is_utf8, put, put_all};
+use octets::{all_text, find, is_utf8, peek, put, put_all};
 
 // The place of the LF that ends the line at `at`, or the end of the buffer.
 pub fn line_end(buf: &[u8], at: usize) -> usize
@@ -16,45 +16,33 @@ pub fn line_end(buf: &[u8], at: usize) -> usize
     find(buf, at, b'\n')
 }
 
-// Where the octets of a line end that run from `i` to the LF at `e`: a CR before the LF belongs to the ending.
-fn trimmed(text: &[u8], i: usize, e: usize) -> usize
-    requires { e ≤ length text.now }
-    ensures { result ≡ pick (ltb i e and eqb (get_or text.now (e - 1) 0) 13) (e - 1) e }
+// The octets of a line without the CR before its LF, which belongs to the ending.
+fn without_cr(run: &[u8]) -> &[u8]
+    ensures { result.now ≡ without_cr run.now }
 {
-    if i < e {
-        let k = e - 1;
-        if text[k] == b'\r' {
-            return k;
-        }
+    match run {
+        [front @ .., b'\r'] => front,
+        _ => run,
     }
-    e
 }
 
 // Whether the octet at `i` is a space or a tab.
 fn blank_at(text: &[u8], i: usize) -> bool
     ensures { result ≡ is_blank (get_or text.now i 0) }
 {
-    if i < text.len() {
-        let c = text[i];
-        if c == b' ' {
-            return true;
-        }
-        return c == b'\t';
-    }
-    false
+    let c = peek(text, i);
+    c == b' ' || c == b'\t'
 }
 
-// Whether a line is begun, where octets from `i` to `k` are added.
-fn begun_after(begun: bool, i: usize, k: usize) -> bool
-    ensures { result ≡ (begun or ltb i k) }
+// Whether a line is begun, where a run is added.
+fn begun_after(begun: bool, run: &[u8]) -> bool
+    ensures { result ≡ (begun or filled run.now) }
 {
-    if begun {
-        return true;
-    }
-    i < k
+    begun || !run.is_empty()
 }
 
-// Lays the lines of a text into the buffer, unfolded, each ended by LF alone; answers where they end.
+// Lays the lines of a text into the buffer, unfolded, each ended by LF alone; answers where they end. What stands behind an LF says whether it ends its line:
+// the pieces of a `split` do not show it.
 pub(crate) fn unfold(text: &[u8], out: &mut [u8]) -> usize
     ensures { Wrote (pen out.old 0) (laid_out (lines_of text.now)) (pen out.new result) }
 {
@@ -67,10 +55,10 @@ pub(crate) fn unfold(text: &[u8], out: &mut [u8]) -> usize
             let a = put_all(out, at, &text[i..e]);
             return put(out, a, b'\n');
         }
-        let k = trimmed(text, i, e);
-        let a = put_all(out, at, &text[i..k]);
+        let run = without_cr(&text[i..e]);
+        let a = put_all(out, at, run);
         if blank_at(text, e + 1) {
-            begun = begun_after(begun, i, k);
+            begun = begun_after(begun, run);
             at = a;
             i = e + 2;
         } else {

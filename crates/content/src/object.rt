@@ -1,5 +1,5 @@
 // The parameters of a content line as a jCal object.
-ghost use Rattle.std.specs.Prelude.{◌≡◌, false, [], ◌++◌, map, ◌≤◌, length, drop};
+ghost use Rattle.std.specs.Prelude.{◌≡◌, false, [], ◌++◌, map};
 ghost use Rattle.octets.specs.Basics.{octets, pick};
 ghost use Rattle.octets.specs.Classes.{lower};
 ghost use Rattle.octets.specs.Pen.{pen, Wrote};
@@ -7,12 +7,12 @@ ghost use Rattle.json_text.specs.Tree.{str, obj, items_of};
 ghost use Rattle.json_text.specs.Print.{quoted, print_string, print_key, more_items, print};
 ghost use Rattle.content.specs.Line.{pieces, param_value};
 ghost use Rattle.content.specs.Carets.{decoded};
-ghost use Rattle.content.specs.Parts.{params_in, param_at, CutParam};
+ghost use Rattle.content.specs.Parts.{params_in, param_cut};
 ghost use Rattle.content.specs.Parameters.{without_value, staying, plain_or, members_of};
 ghost use Rattle.content.specs.Object.{left_out, stands_for, octets_read};
 
 use crate::params::is_base64;
-use crate::parts::{ParamParts, inner, param_at};
+use crate::parts::{next_param, unquoted};
 use crate::scan::next_bare;
 use json_text::put_escaped;
 use octets::{Class, lower_octet, peek, put, put_all, run_end, same_name};
@@ -70,29 +70,25 @@ fn put_decoded(out: &mut [u8], at: usize, v: &[u8]) -> usize
 fn put_value(out: &mut [u8], at: usize, v: &[u8]) -> usize
     ensures { Wrote (pen out.old at) (print_string (param_value v.now)) (pen out.new result) }
 {
-    let span = inner(&*v, 0, v.len());
-    let from = span.from;
-    let end = span.end;
     let a = put(out, at, b'"');
-    put_decoded(out, a, &v[from..end])
+    put_decoded(out, a, unquoted(v))
 }
 
-// Writes the values from `from` on, each behind a comma, and the closing bracket.
-fn put_more(out: &mut [u8], at: usize, values: &[u8], from: usize) -> usize
-    requires { from ≤ length values.now }
-    ensures { Wrote (pen out.old at) (more_items (items_of (map str (map param_value (pieces 44 false (drop from values.now)))))) (pen out.new result) }
+// Writes further values, each behind a comma, and the closing bracket.
+fn put_more(out: &mut [u8], at: usize, values: &[u8]) -> usize
+    ensures { Wrote (pen out.old at) (more_items (items_of (map str (map param_value (pieces 44 false values.now))))) (pen out.new result) }
 {
-    let mut i = from;
+    let mut rest = values;
     let mut to = at;
     loop {
-        let e = next_bare(values, i, b',', b',');
+        let e = next_bare(rest, 0, b',', b',');
         let a = put(out, to, b',');
-        let b = put_value(out, a, &values[i..e]);
-        if e >= values.len() {
+        let b = put_value(out, a, &rest[..e]);
+        if e >= rest.len() {
             return put(out, b, b']');
         }
         to = b;
-        i = e + 1;
+        rest = &rest[e + 1..];
     }
 }
 
@@ -105,8 +101,8 @@ fn put_values(out: &mut [u8], at: usize, values: &[u8]) -> usize
         return put_value(out, at, values);
     }
     let a = put(out, at, b'[');
-    let b = put_value(out, a, &values[0..e]);
-    put_more(out, b, values, e + 1)
+    let b = put_value(out, a, &values[..e]);
+    put_more(out, b, &values[e + 1..])
 }
 
 // Writes a name in lowercase as a key.
@@ -114,10 +110,8 @@ fn put_key(out: &mut [u8], at: usize, name: &[u8]) -> usize
     ensures { Wrote (pen out.old at) (print_key (lower name.now)) (pen out.new result) }
 {
     let mut to = put(out, at, b'"');
-    let mut i = 0;
-    while i < name.len() {
-        to = put_escaped(out, to, lower_octet(name[i]));
-        i += 1;
+    for &c in name {
+        to = put_escaped(out, to, lower_octet(c));
     }
     put_all(out, to, b"\":")
 }
@@ -141,22 +135,20 @@ fn put_member(out: &mut [u8], at: usize, begun: bool, name: &[u8], values: &[u8]
     put_values(out, b, values)
 }
 
-// Whether the parameter that begins at `i` is left out: VALUE is, and ENCODING=BASE64 where the value is decoded.
-fn is_left_out(s: &[u8], i: usize, p: ParamParts, decodes: bool) -> bool
-    requires { CutParam s.now i p }
-    ensures { result ≡ left_out decodes (param_at s.now i p) }
+// Whether a parameter is left out: VALUE is, and ENCODING=BASE64 where the value is decoded.
+fn is_left_out(name: &[u8], values: &[u8], decodes: bool) -> bool
+    ensures { result ≡ left_out decodes (param_cut name.now values.now) }
 {
-    let n = p.name;
-    if same_name(&s[i..n], b"value") {
+    if same_name(name, b"value") {
         return true;
     }
     if !decodes {
         return false;
     }
-    if !same_name(&s[i..n], b"encoding") {
+    if !same_name(name, b"encoding") {
         return false;
     }
-    is_base64(s, p.values, p.end)
+    is_base64(values)
 }
 
 // Writes the parameters as an object, without VALUE, and without ENCODING=BASE64 where the value is decoded.
@@ -165,20 +157,14 @@ pub fn put_params(out: &mut [u8], at: usize, s: &[u8], decodes: bool) -> usize
 {
     let mut to = put(out, at, b'{');
     let mut begun = false;
-    let mut e = next_bare(s, 0, b';', b';');
-    while e < s.len() {
-        let i = e + 1;
-        let p = param_at(s, i);
-        let n = p.name;
-        let from = p.values;
-        let end = p.end;
-        if is_left_out(s, i, p, decodes) {
-            e = end;
-        } else {
-            to = put_member(out, to, begun, &s[i..n], &s[from..end]);
-            begun = true;
-            e = end;
+    let mut rest = s;
+    while let Some(p) = next_param(rest) {
+        rest = p.rest;
+        if is_left_out(p.name, p.values, decodes) {
+            continue;
         }
+        to = put_member(out, to, begun, p.name, p.values);
+        begun = true;
     }
     put(out, to, b'}')
 }

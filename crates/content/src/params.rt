@@ -1,103 +1,80 @@
 // What the parameters of a content line say. They are given as they stand in the line, each behind a semicolon.
-ghost use Rattle.std.specs.Prelude.{◌≡◌, map, false, ◌-◌, ◌≤◌, length, take, drop};
+ghost use Rattle.std.specs.Prelude.{◌≡◌, map, false};
 ghost use Rattle.octets.specs.Basics.{single};
 ghost use Rattle.content.specs.Parameters.{token, value_type, is_base64, is_encoded};
-ghost use Rattle.content.specs.Kinds.{TellsType};
+ghost use Rattle.content.specs.Kinds.{value_type_said};
 ghost use Rattle.content.specs.Line.{pieces, param_value};
 ghost use Rattle.content.specs.Parts.{params_in};
 
-use crate::parts::{inner, param_at};
+use crate::parts::{next_param, unquoted};
 use crate::scan::next_bare;
 use octets::{is_name, same_name};
 
-// The type that VALUE names, by its bounds in the parameters, if there is a VALUE that names one.
+// There is a VALUE, and it names no type.
 #[derive(Clone, Copy)]
-pub enum ValueType {
-    Absent,
-    Stated(usize, usize),
-    Faulty,
+pub struct NoType;
+
+// Whether a parameter's values are a single one.
+fn is_single(values: &[u8]) -> bool
+    ensures { result ≡ single (pieces 44 false values.now) }
+{
+    values.len() <= next_bare(values, 0, b',', b',')
 }
 
-// Whether a parameter's values, from `from` to `end`, are a single one.
-fn is_single(s: &[u8], from: usize, end: usize) -> bool
-    requires { (from ≤ end) × (end ≤ length s.now) }
-    ensures { result ≡ single (pieces 44 false (take (end - from) (drop from s.now))) }
+// The type that the values of VALUE name: one token, and not UNKNOWN.
+fn type_named(values: &[u8]) -> Result<Option<&[u8]>, NoType>
+    ensures { value_type_said (λ t. t.now) result ≡ token (map param_value (pieces 44 false values.now)) }
 {
-    let values = &s[from..end];
-    let comma = next_bare(values, 0, b',', b',');
-    end - from <= comma
+    if !is_single(values) {
+        return Err(NoType);
+    }
+    let value = unquoted(values);
+    if !is_name(value) {
+        return Err(NoType);
+    }
+    if same_name(value, b"unknown") {
+        return Err(NoType);
+    }
+    Ok(Some(value))
 }
 
-// The type that the values from `from` to `end` name: one token, and not UNKNOWN.
-fn type_at(s: &[u8], from: usize, end: usize) -> ValueType
-    requires { (from ≤ end) × (end ≤ length s.now) }
-    ensures { TellsType s.now (token (map param_value (pieces 44 false (take (end - from) (drop from s.now))))) result }
+// The type that VALUE names, as it stands in the parameters, if there is a VALUE. Of several places that hold its name any may be answered.
+pub fn value_type(s: &[u8]) -> Result<Option<&[u8]>, NoType>
+    ensures { value_type_said (λ t. t.now) result ≡ value_type (params_in s.now) }
 {
-    if !is_single(s, from, end) {
-        return ValueType::Faulty;
-    }
-    let value = inner(s, from, end);
-    let a = value.from;
-    let e = value.end;
-    if !is_name(&s[a..e]) {
-        return ValueType::Faulty;
-    }
-    if same_name(&s[a..e], b"unknown") {
-        return ValueType::Faulty;
-    }
-    ValueType::Stated(a, e)
-}
-
-// The type that VALUE names. Of several places that hold its name any may be answered.
-pub fn value_type(s: &[u8]) -> ValueType
-    ensures { TellsType s.now (value_type (params_in s.now)) result }
-{
-    let mut e = next_bare(s, 0, b';', b';');
-    while e < s.len() {
-        let i = e + 1;
-        let p = param_at(s, i);
-        let n = p.name;
-        let from = p.values;
-        let end = p.end;
-        if same_name(&s[i..n], b"value") {
-            return type_at(s, from, end);
+    let mut rest = s;
+    while let Some(p) = next_param(rest) {
+        if same_name(p.name, b"value") {
+            return type_named(p.values);
         }
-        e = end;
+        rest = p.rest;
     }
-    ValueType::Absent
+    Ok(None)
 }
 
-// Whether the values from `from` to `end` are BASE64 alone.
-pub(crate) fn is_base64(s: &[u8], from: usize, end: usize) -> bool
-    requires { (from ≤ end) × (end ≤ length s.now) }
-    ensures { result ≡ is_base64 (map param_value (pieces 44 false (take (end - from) (drop from s.now)))) }
+// Whether a parameter's values are BASE64 alone.
+pub(crate) fn is_base64(values: &[u8]) -> bool
+    ensures { result ≡ is_base64 (map param_value (pieces 44 false values.now)) }
 {
-    if !is_single(s, from, end) {
+    if !is_single(values) {
         return false;
     }
-    let value = inner(s, from, end);
-    let a = value.from;
-    let e = value.end;
-    same_name(&s[a..e], b"BASE64")
+    same_name(unquoted(values), b"BASE64")
 }
 
 // Whether ENCODING is BASE64.
 pub fn is_encoded(s: &[u8]) -> bool
     ensures { result ≡ is_encoded (params_in s.now) }
 {
-    let mut e = next_bare(s, 0, b';', b';');
-    while e < s.len() {
-        let i = e + 1;
-        let p = param_at(s, i);
-        let n = p.name;
-        let from = p.values;
-        let end = p.end;
-        if same_name(&s[i..n], b"encoding") {
-            if is_base64(s, from, end) {
-                return true;
-            }
+    let mut rest = s;
+    while let Some(p) = next_param(rest) {
+        rest = p.rest;
+        if !same_name(p.name, b"encoding") {
+            continue;
         }
-        e = end;
+        if is_base64(p.values) {
+            return true;
+        }
     }
     false
 }

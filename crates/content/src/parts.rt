@@ -1,10 +1,11 @@
 // A content line and its parameters by the places of their parts.
-ghost use Rattle.std.specs.Prelude.{◌≤◌, length};
-ghost use Rattle.content.specs.Parts.{Cut, CutParam, Inner};
+ghost use Rattle.std.specs.Prelude.{◌≡◌, ◌≤◌, ◌<◌, [], ◌∷◌, length, MatchOption};
+ghost use Rattle.content.specs.Line.{unquote};
+ghost use Rattle.content.specs.Parts.{Cut, CutParam, params_in, param_cut};
 
 use crate::scan::next_bare;
 
-// The end of the name, the end of the parameters and the start of the value.
+// The end of the name, the end of the parameters and the start of the value. They are places, and not parts of the line: `Cut` promises where the colon is.
 #[derive(Clone, Copy)]
 pub struct Parts {
     pub name: usize,
@@ -20,11 +21,12 @@ pub struct ParamParts {
     pub end: usize,
 }
 
-// Octets from a place up to another.
+// A parameter as it stands, and what stands behind it.
 #[derive(Clone, Copy)]
-pub struct Span {
-    pub from: usize,
-    pub end: usize,
+pub(crate) struct Param<'a> {
+    pub name: &'a [u8],
+    pub values: &'a [u8],
+    pub rest: &'a [u8],
 }
 
 // Finds the parts of a content line; the parameters stand from `name` to `colon`, each behind a semicolon.
@@ -35,14 +37,14 @@ pub fn parts_of(line: &[u8]) -> Parts
     let colon = next_bare(line, name, b':', b':');
     if colon < line.len() {
         return Parts {
-            name: name,
-            colon: colon,
+            name,
+            colon,
             value: colon + 1,
         };
     }
     Parts {
-        name: name,
-        colon: colon,
+        name,
+        colon,
         value: colon,
     }
 }
@@ -56,44 +58,43 @@ pub(crate) fn param_at(s: &[u8], at: usize) -> ParamParts
     let end = next_bare(s, name, b';', b';');
     if name < end {
         return ParamParts {
-            name: name,
+            name,
             values: name + 1,
-            end: end,
+            end,
         };
     }
     ParamParts {
-        name: name,
+        name,
         values: name,
-        end: end,
+        end,
     }
 }
 
-// The parameter value from `from` to `end`, without the quotes around it.
-pub(crate) fn inner(s: &[u8], from: usize, end: usize) -> Span
-    requires { (from ≤ end) × (end ≤ length s.now) }
-    ensures { Inner s.now from end result }
+// The next parameter of some that stand each behind a semicolon; none where there is no more.
+pub(crate) fn next_param(s: &[u8]) -> Option<Param<'_>>
+    ensures { MatchOption result (params_in s.now ≡ []) (λ p. (length p.rest.now < length s.now) × (params_in s.now ≡ param_cut p.name.now p.values.now ∷ params_in p.rest.now)) }
 {
-    if from == end {
-        return Span {
-            from: from,
-            end: end,
-        };
+    let e = next_bare(s, 0, b';', b';');
+    if s.len() <= e {
+        return None;
     }
-    if s[from] != b'"' {
-        return Span {
-            from: from,
-            end: end,
-        };
+    let p = param_at(s, e + 1);
+    Some(Param {
+        name: &s[e + 1..p.name],
+        values: &s[p.values..p.end],
+        rest: &s[p.end..],
+    })
+}
+
+// A parameter value without the quotes around it.
+pub(crate) fn unquoted(v: &[u8]) -> &[u8]
+    ensures { result.now ≡ unquote v.now }
+{
+    let [first, inside @ ..] = v else {
+        return v;
+    };
+    if *first != b'"' {
+        return v;
     }
-    let next = from + 1;
-    if next == end {
-        return Span {
-            from: end,
-            end: end,
-        };
-    }
-    Span {
-        from: next,
-        end: end - 1,
-    }
+    &inside[..inside.len().saturating_sub(1)]
 }

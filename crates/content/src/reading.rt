@@ -3,30 +3,22 @@ ghost use Rattle.content.specs.Reading.{ReadLines};
 
 use crate::form::all_formed;
 use crate::lines::{all_clean, unfold};
+use octets::Refusal;
 
-// Where the lines in the buffer end, or why there are none.
-#[derive(Clone, Copy)]
-pub enum Lines {
-    Laid(usize),
-    NotClean,
-    NotFormed,
-    NoRoom,
-}
-
-// Unfolds a text into the buffer and tests its lines. An octet more than the text has is room enough.
-pub fn read_lines(text: &[u8], buf: &mut [u8]) -> Lines
+// Unfolds a text into the buffer and tests its lines; answers where they end, or why there are none. An octet more than the text has is room enough.
+pub fn read_lines(text: &[u8], buf: &mut [u8]) -> Result<usize, Refusal>
     ensures { ReadLines text.now buf.old buf.new result }
 {
     let n = unfold(text, buf);
     if buf.len() < n {
-        return Lines::NoRoom;
+        return Err(Refusal::NoRoom);
     }
-    let lines = &buf[0..n];
+    let lines = &buf[..n];
     if !all_clean(lines) {
-        return Lines::NotClean;
+        return Err(Refusal::NotClean);
     }
     if !all_formed(lines) {
-        return Lines::NotFormed;
+        return Err(Refusal::NotContentLine);
     }
-    Lines::Laid(n)
+    Ok(n)
 }

@@ -14,30 +14,21 @@ fn quote_after(quoted: bool, c: u8) -> bool
 fn is_bare(quoted: bool, c: u8, a: u8, b: u8) -> bool
     ensures { result ≡ (not quoted and (eqb c a or eqb c b)) }
 {
-    if quoted {
-        return false;
-    }
-    if c == a {
-        return true;
-    }
-    c == b
+    !quoted && (c == a || c == b)
 }
 
-// The place of the next `a` or `b` from `at` on that is not in quotes, or the end, where quotes are looked for.
-fn next_past_quotes(s: &[u8], at: usize, a: u8, b: u8) -> usize
-    ensures { result ≡ at + length (until_bare (λ c. eqb c a or eqb c b) false (drop at s.now)) }
+// The place of the first `a` or `b` that is not in quotes, or the end, where quotes are looked for.
+fn past_quotes(s: &[u8], a: u8, b: u8) -> usize
+    ensures { result ≡ length (until_bare (λ c. eqb c a or eqb c b) false s.now) }
 {
-    let mut i = at;
     let mut quoted = false;
-    while i < s.len() {
-        let c = s[i];
+    for (i, &c) in s.iter().enumerate() {
         if is_bare(quoted, c, a, b) {
             return i;
         }
         quoted = quote_after(quoted, c);
-        i += 1;
     }
-    i
+    s.len()
 }
 
 fn greater(a: u8, b: u8) -> u8
@@ -46,23 +37,32 @@ fn greater(a: u8, b: u8) -> u8
     if a < b { b } else { a }
 }
 
-// The place of the next `a` or `b` from `at` on that is not in quotes, or the end. Most octets are above `a`, `b` and the quote.
+// The place of the first `a` or `b` that is not in quotes, or the end. Most octets are above `a`, `b` and the quote.
+#[inline(always)]
+fn first_bare(s: &[u8], a: u8, b: u8) -> usize
+    ensures { result ≡ length (until_bare (λ c. eqb c a or eqb c b) false s.now) }
+{
+    let most = greater(greater(a, b), b'"');
+    for (i, &c) in s.iter().enumerate() {
+        if most < c {
+            continue;
+        }
+        if is_bare(false, c, a, b) {
+            return i;
+        }
+        if c == b'"' {
+            return i + past_quotes(&s[i..], a, b);
+        }
+    }
+    s.len()
+}
+
+// The place of the next `a` or `b` from `at` on that is not in quotes, or the end.
 pub(crate) fn next_bare(s: &[u8], at: usize, a: u8, b: u8) -> usize
     ensures { result ≡ at + length (until_bare (λ c. eqb c a or eqb c b) false (drop at s.now)) }
 {
-    let most = greater(greater(a, b), b'"');
-    let mut i = at;
-    while i < s.len() {
-        let c = s[i];
-        if most < c {
-            i += 1;
-        } else if is_bare(false, c, a, b) {
-            return i;
-        } else if c == b'"' {
-            return next_past_quotes(s, i, a, b);
-        } else {
-            i += 1;
-        }
+    match s.get(at..) {
+        Some(rest) => at + first_bare(rest, a, b),
+        None => at,
     }
-    i
 }

@@ -28,12 +28,10 @@ fn asks_quotes(c: u8) -> bool
 fn is_quoted(v: &[u8]) -> bool
     ensures { result ≡ any asks_quotes v.now }
 {
-    let mut i = 0;
-    while i < v.len() {
-        if asks_quotes(v[i]) {
+    for &c in v {
+        if asks_quotes(c) {
             return true;
         }
-        i += 1;
     }
     false
 }
@@ -42,7 +40,7 @@ fn is_quoted(v: &[u8]) -> bool
 fn plain_end(v: &[u8], at: usize) -> usize
     ensures { result ≡ at + length (until (λ c. not (caret_free c)) (drop at v.now)) }
 {
-    run_end(&*v, at, Class::CaretFree)
+    run_end(v, at, Class::CaretFree)
 }
 
 // Writes an octet, a caret encoding it where it must.
@@ -64,7 +62,7 @@ fn fold_encoded(out: &mut [u8], p: Folder, v: &[u8]) -> Folder
     let mut q = p;
     let mut i = 0;
     loop {
-        let end = plain_end(&*v, i);
+        let end = plain_end(v, i);
         q = fold_all(out, q, &v[i..end]);
         if end >= v.len() {
             return q;
@@ -79,7 +77,7 @@ pub fn begin_param(out: &mut [u8], p: Folder, name: &[u8]) -> Folder
     ensures { Folded (folding out.old p) (octets ";" ++ upper name.now ++ octets "=") (folding out.new result) }
 {
     let a = fold_octet(out, p, b';');
-    let b = fold_upper(out, a, &*name);
+    let b = fold_upper(out, a, name);
     fold_octet(out, b, b'=')
 }
 
@@ -87,15 +85,15 @@ pub fn begin_param(out: &mut [u8], p: Folder, name: &[u8]) -> Folder
 pub fn write_param_value(out: &mut [u8], p: Folder, v: &[u8]) -> Folder
     ensures { Folded (folding out.old p) (param_value_text v.now) (folding out.new result) }
 {
-    if is_quoted(&*v) {
+    if is_quoted(v) {
         let a = fold_octet(out, p, b'"');
-        let b = fold_encoded(out, a, &*v);
+        let b = fold_encoded(out, a, v);
         return fold_octet(out, b, b'"');
     }
-    if plain_end(&*v, 0) == v.len() {
-        return fold_all(out, p, &*v);
+    if plain_end(v, 0) == v.len() {
+        return fold_all(out, p, v);
     }
-    fold_encoded(out, p, &*v)
+    fold_encoded(out, p, v)
 }
 
 // Writes a further value of a parameter.

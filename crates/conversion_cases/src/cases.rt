@@ -5,7 +5,7 @@ use console::{ROOM_FOR_FILE, ROOM_FOR_TEXT, rest_is};
 use content::line_end;
 use ical::to_ical;
 use jcal::to_jcal;
-use octets::{Converted, MOST_TEXT, put, put_all, put_decimal, same};
+use octets::{MOST_TEXT, Refusal, put, put_all, put_decimal, same};
 use std::io;
 use std::rt::Files;
 
@@ -49,28 +49,19 @@ fn is_line(number: u8, want: &[u8]) -> bool {
     let a = put_all(&mut line, 0, b"refused ");
     let b = put_decimal(&mut line, a, number as u64);
     let n = put(&mut line, b, b'\n');
-    if 32 < n {
-        return false;
-    }
-    same(&line[0..n], want)
+    n <= 32 && same(&line[0..n], want)
 }
 
 // The text stands at the front, and what lies behind is unchanged.
 fn is_text(out: &[u8], n: usize, want: &[u8]) -> bool {
-    if out.len() < n {
-        return false;
-    }
-    if !rest_is(out, n, BLANK) {
-        return false;
-    }
-    same(&out[0..n], want)
+    n <= out.len() && rest_is(out, n, BLANK) && same(&out[0..n], want)
 }
 
 // The answer and the buffer are as they must be: where it is refused, the buffer is zeroed.
-fn is_answer(r: Converted, out: &[u8], want: &[u8]) -> bool {
+fn is_answer(r: Result<usize, Refusal>, out: &[u8], want: &[u8]) -> bool {
     match r {
-        Converted::Written(n) => is_text(out, n, want),
-        Converted::Refused(why) => {
+        Ok(n) => is_text(out, n, want),
+        Err(why) => {
             if !rest_is(out, 0, 0) {
                 return false;
             }
@@ -79,7 +70,7 @@ fn is_answer(r: Converted, out: &[u8], want: &[u8]) -> bool {
     }
 }
 
-fn convert(to: Direction, text: &[u8], rows: &[u8], out: &mut [u8]) -> Converted {
+fn convert(to: Direction, text: &[u8], rows: &[u8], out: &mut [u8]) -> Result<usize, Refusal> {
     match to {
         Direction::ToJcal => to_jcal(text, rows, out),
         Direction::ToIcal => to_ical(text, rows, out),
@@ -99,13 +90,7 @@ fn gives(to: Direction, text: &[u8], rows: &[u8], n: usize, want: &[u8]) -> bool
 
 // A text fits into a buffer of its length, and into no shorter one.
 fn just_fits(to: Direction, text: &[u8], rows: &[u8], n: usize, want: &[u8]) -> bool {
-    if n == 0 {
-        return false;
-    }
-    if !gives(to, text, rows, n, want) {
-        return false;
-    }
-    gives(to, text, rows, n - 1, b"refused 10\n")
+    n != 0 && gives(to, text, rows, n, want) && gives(to, text, rows, n - 1, b"refused 10\n")
 }
 
 fn holds(to: Direction, text: &[u8], rows: &[u8], want: &[u8]) -> bool {
@@ -115,8 +100,8 @@ fn holds(to: Direction, text: &[u8], rows: &[u8], want: &[u8]) -> bool {
         return false;
     }
     match r {
-        Converted::Written(n) => just_fits(to, text, rows, n, want),
-        Converted::Refused(_) => true,
+        Ok(n) => just_fits(to, text, rows, n, want),
+        Err(_) => true,
     }
 }
 
@@ -145,6 +130,7 @@ fn run_all(
 ) -> io::Result<u64> {
     let mut n: u64 = 0;
     let mut i = 0;
+    // A `for` over `split_inclusive` does not prove here: the module that the check makes for its iterator is refused.
     while i < index.len() {
         let e = line_end(index, i);
         run(rt, folder, to, &index[i..e])?;

@@ -1,6 +1,5 @@
 // The four routes of a property that only the newer table lists: to jCal under the older or the newer, back under either. Prints the jCal and the
 // iCalendar of each, for a value that is sent as it is and for the same sent encoded.
-use octets::Converted;
 use std::io;
 
 const SENT: [u8; 59] = *b"BEGIN:VCALENDAR\r\nX-TROUGH:20240229T060000Z\r\nEND:VCALENDAR\r\n";
@@ -25,7 +24,7 @@ fn route(rt: &impl Print, text: &[u8], there: &[u8], back: &[u8]) -> io::Result<
     let (_, printed) = console::print_answer(rt, &out, r);
     printed?;
     rt.write_all(b"\n")?;
-    if let Converted::Written(n) = r {
+    if let Ok(n) = r {
         if n <= 1024 {
             return come_back(rt, &out[0..n], back);
         }

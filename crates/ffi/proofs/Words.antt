@@ -5,8 +5,8 @@ use mathlib.Core.List.{List}
 use Rattle.octets.specs.Answers.{number, Settled, settled, outcome}
 use Rattle.octets.specs.declared.Refusal.{Refusal}
 use Rattle.octets.specs.declared.Refusal.TheVariants.{TextTooLong, RowsMalformed, NotClean, NotContentLine, NotPaired, TooDeep, BadParameter, BadEncoding, BadValue, NoRoom, NotJson, NotJcal, BadStart, BadRule, NotServed}
-use Rattle.octets.specs.declared.Converted.{Converted}
-use Rattle.octets.specs.declared.Converted.TheVariants.{Written, Refused}
+use Rattle.std.specs.declared.result.Result.{Result}
+use Rattle.std.specs.Prelude.{Ok, Err}
 use Rattle.ffi.specs.Words.{most_word, word, Worded, Returns}
 
 pub refused-word : (r : Refusal) (out : List ℕ) → most_word - number r ≡ word (settled (number r) 0 out)
@@ -27,11 +27,11 @@ refused-word BadStart out = refl
 refused-word BadRule out = refl
 refused-word NotServed out = refl
 
-same-buffer : (c : Converted) (out : List ℕ) → out ≡ (outcome c out).buffer
+same-buffer : (c : Result ℕ Refusal) (out : List ℕ) → out ≡ (outcome c out).buffer
 unfolding outcome
-same-buffer (Written n) out = refl
-same-buffer (Refused r) out = refl
+same-buffer (Ok n) out = refl
+same-buffer (Err r) out = refl
 
 -- what a conversion answers, as a word
-pub returns : (c : Converted) (r : ℕ) (out : List ℕ) (s : Settled) → Worded c r → outcome c out ≡ s → Returns s r out
+pub returns : (c : Result ℕ Refusal) (r : ℕ) (out : List ℕ) (s : Settled) → Worded c r → outcome c out ≡ s → Returns s r out
 returns c r out s w e = record { is = w out ∙ ap word e; buffer = same-buffer c out ∙ ap (λ (x : Settled). x.buffer) e }

@@ -2,7 +2,8 @@
 use Rattle.std.specs.Prelude.{ℕ, ◌-◌, ◌≡◌, List, eqb}
 use Rattle.octets.specs.Basics.{pick}
 use Rattle.octets.specs.Answers.{Settled, outcome}
-use Rattle.octets.specs.declared.Converted.{Converted}
+use Rattle.std.specs.declared.result.Result.{Result}
+use Rattle.octets.specs.declared.Refusal.{Refusal}
 
 -- the greatest number of a word
 unfoldable pub most_word : ℕ
@@ -13,7 +14,7 @@ unfoldable pub word : Settled → ℕ
 word s = pick (eqb s.number 0) s.length (most_word - s.number)
 
 -- r is the word of an answer, whatever the buffer is then
-abbrev pub Worded : Converted → ℕ → Type 0
+abbrev pub Worded : Result ℕ Refusal → ℕ → Type 0
 Worded c r = (out : List ℕ) → r ≡ word (outcome c out)
 
 -- the word and the buffer as it is then settle what the conversion leaves

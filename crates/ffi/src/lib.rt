@@ -9,15 +9,15 @@ ghost use Rattle.conversion_theory.specs.ToJcal.{to_jcal};
 ghost use Rattle.conversion_theory.specs.ToIcal.{to_ical};
 ghost use Rattle.ffi.specs.Words.{Worded, Returns};
 
-use octets::Converted;
+use octets::Refusal;
 
 // A conversion's answer as a word.
-fn word_of(c: Converted) -> usize
+fn word_of(c: Result<usize, Refusal>) -> usize
     ensures { Worded c result }
 {
     match c {
-        Converted::Written(n) => n,
-        Converted::Refused(why) => usize::MAX - why.number() as usize,
+        Ok(n) => n,
+        Err(why) => usize::MAX - why.number() as usize,
     }
 }
 

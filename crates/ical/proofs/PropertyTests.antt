@@ -10,11 +10,11 @@ use lib.ListN.{length, take, drop}
 use borrow.Author.Tests.{eq-eqb}
 use lib.Dec.{leb}
 use Rattle.octets.specs.Basics.{octets, pick, ◌and◌, ◌or◌, all, same, filled}
+use Rattle.std.specs.declared.option.Option as code
+use Rattle.std.specs.Prelude.{Some, None}
 use Rattle.octets.specs.Optional.{is_some, holds, map?, then?}
 use Rattle.octets.specs.Classes.{lower_name_octet, is_lower_name, lower, is_name}
-use Rattle.octets.specs.Answers.{Answer, refused, accepted, then, or_else, unless, number}
-use Rattle.octets.specs.Pen.{pen, FrontKept}
-use Rattle.octets.specs.declared.Refusal.{Refusal}
+use Rattle.octets.specs.Answers.{Answer, refused, accepted, then, or_else, unless}
 use Rattle.octets.proofs.Answers.{not-accepted}
 use Rattle.octets.proofs.Cases.{same?, never, both, and-true-right, and-false-right}
 use Rattle.octets.proofs.Classes.{lower-name, lower-name-stays}
@@ -32,19 +32,17 @@ use Rattle.content.specs.declared.fold.Folder.{Folder}
 use Rattle.values.specs.Sorts.{Sort, sort_of}
 use Rattle.values.specs.Base64.{binary_fits, is_decoded, text_sent}
 use Rattle.values.specs.Decoding.{DecodedAs}
-use Rattle.values.specs.declared.base64.Decoding.{Decoding}
-use Rattle.values.specs.declared.base64.Decoding.TheVariants.{Octets, Invalid as Undecoded}
+use Rattle.std.specs.Prelude.{Some, None}
+use Rattle.std.specs.declared.option.Option as code
 use Rattle.values.specs.Coded.{sort_said}
 use Rattle.values.specs.declared.sorts.Sort.{Sort as SortCode}
 use Rattle.values.specs.Read.{values_of}
 use Rattle.values.specs.Write.{values_are}
-use Rattle.values.proofs.Decoded.{told-octets, told-invalid}
+use Rattle.values.proofs.Decoded.{told-some, told-none}
 use Rattle.jcal_values.specs.Attempts.{values_read}
 use Rattle.ical_recur.specs.Room.{has_room}
 use Rattle.ical_recur.proofs.Room.{room}
 use Rattle.ical_values.specs.Valued.{ValuedAs}
-use Rattle.ical_values.specs.declared.Valued.{Valued}
-use Rattle.ical_values.specs.declared.Valued.TheVariants.{Written, Invalid}
 use Rattle.conversion_theory.specs.Tree.{Property}
 use Rattle.conversion_theory.specs.Property.{code_of, many_of, decodes_in, values_sent, read_as}
 use Rattle.conversion_theory.specs.Skeleton.{are_parameters, is_property_name, is_property, params_from, property_from}
@@ -57,9 +55,7 @@ use Rattle.ical_properties.specs.Ruled.{Rules, fits_by}
 use Rattle.ical_properties.specs.declared.Ruling.{Ruling}
 use Rattle.ical_properties.proofs.RowAnswers.{fits-ruled}
 use Rattle.ical.specs.Writes.{is_taken, standing, ValuesWritten}
-use Rattle.ical.specs.Converts.{checked_in, Puts, Converts}
-use Rattle.ical.specs.declared.Conversion.{Conversion}
-use Rattle.ical.specs.declared.Conversion.TheVariants.{Passed, Refused}
+use Rattle.ical.specs.Converts.{checked_in}
 use Rattle.ical.proofs.Arrays.{property-array}
 
 -- a string's test is passed by its octets
@@ -110,14 +106,14 @@ module _ (s : SortCode) (n : List ℕ) (c : ℕ) (m encoded : Bool) {raw got : L
   taken-by-decoding h = rw (e, f, sym g ∙ h)
 
 -- the values in what is decoded, where there is room for it
-module _ (o : Option (List ℕ)) (room : Bool) (out : List ℕ) (r : Decoding) (d : DecodedAs room o out r) (k : Sort) (m : Bool) where
-  pub decoded-taken : {n : ℕ} → r ≡ Octets n → is_some (values_read m k (take (n - 0) (drop 0 out))) ≡ is_some (then? o (values_read m k))
+module _ (o : Option (List ℕ)) (room : Bool) (out : List ℕ) (r : code.Option ℕ) (d : DecodedAs room o out r) (k : Sort) (m : Bool) where
+  pub decoded-taken : {n : ℕ} → r ≡ Some n → is_some (values_read m k (take (n - 0) (drop 0 out))) ≡ is_some (then? o (values_read m k))
   unfolding then?
-  decoded-taken {n} z = let e : n - 0 ≡ n = omega arith in rw (e, (told-octets room o out r d n z).1)
+  decoded-taken {n} z = let e : n - 0 ≡ n = omega arith in rw (e, (told-some room o out r d n z).1)
 
-  pub none-taken : room ≡ true → r ≡ Undecoded → false ≡ is_some (then? o (values_read m k))
+  pub none-taken : room ≡ true → r ≡ None → false ≡ is_some (then? o (values_read m k))
   unfolding then? is_some
-  none-taken h z = rw (told-invalid room o out r d h z)
+  none-taken h z = rw (told-none room o out r d h z)
 
 -- the values of a ruling, where there is room for them
 module _ (k : Ruling) (n : List ℕ) (encoded : Bool) where
@@ -129,18 +125,10 @@ module _ (k : Ruling) (n : List ℕ) (encoded : Bool) where
   unfolding standing
   is-standing vs e f g = rw (sym e ∙ f, g) (and-true-right _)
 
-  pub stood : (t s : List ℕ) (i : ℕ) (f : FoldPen) (out : List ℕ) {b : Bool} (r : Valued) → b ≡ is_taken k n encoded (list_at t i) → b ≡ true
+  pub stood : (t s : List ℕ) (i : ℕ) (f : FoldPen) (out : List ℕ) {b : Bool} (r : code.Option (ℕ × Folder)) → b ≡ is_taken k n encoded (list_at t i) → b ≡ true
       → length t ≤ length s → ValuedAs (has_room t s) k.many (sort_said k.sort) t i f out r → ValuesWritten k n encoded t i f out r
-  stood t s i f out (Written e q) g h l v = (is-standing (list_at t i) g h (rw (room t s l) at v.0), v.1, v.2)
-  stood t s i f out Invalid g h l v = (is-standing (list_at t i) g h (rw (room t s l) at v.0), v.1)
-
-  -- by the answer
-  module _ (t : List ℕ) (i : ℕ) (f : FoldPen) (out : List ℕ) (r : Valued) (v : ValuesWritten k n encoded t i f out r) where
-    pub stands-told : {e : ℕ} {q : Folder} → r ≡ Written e q → ValuesWritten k n encoded t i f out (Written e q)
-    stands-told z = rw z at v
-
-    pub invalid-told : r ≡ Invalid → ValuesWritten k n encoded t i f out Invalid
-    invalid-told z = rw z at v
+  stood t s i f out (Some r) g h l v = (is-standing (list_at t i) g h (rw (room t s l) at v.0), v.1, v.2)
+  stood t s i f out None g h l v = (is-standing (list_at t i) g h (rw (room t s l) at v.0), v.1)
 
 -- nothing stands against it
 abbrev pub ok : Answer (Unit {0})
@@ -288,14 +276,6 @@ module _ (T : Table) (t : List ℕ) (i : ℕ) where
 
     pub properties-off : {m : ℕ} → checked_in T (property_from (value_at t i)) ≡ refused m → checked_all T (map property_from (list_at t i)) ≡ refused m
     properties-off h = rw (list-first t i n) (checked-off T (property_from (value_at t i)) _ h)
-
--- what an answer tells
-module _ (t : List ℕ) (i : ℕ) (a : Answer (Unit {0})) (out : List ℕ) (to : ℕ) (lines : List (List ℕ)) (out' : List ℕ) (r : Conversion) (c : Converts t i a out to lines out' r) where
-  pub passes : {n q : ℕ} → r ≡ Passed n q → Puts t i a out to lines out' n q
-  passes z = rw z at c
-
-  pub refuses : {w : Refusal} → r ≡ Refused w → (a ≡ refused (number w)) × FrontKept (pen out to) out'
-  refuses z = rw z at c
 
 -- the property at i of a tape, by its parts
 module _ (T : Table) {t : List ℕ} {i : ℕ} {p : PropertyParts} (h : is_property (value_at t i) ≡ true) (x : PartsAt t i p) where

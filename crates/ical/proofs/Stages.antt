@@ -12,8 +12,8 @@ use Rattle.octets.specs.Limits.{most_text, most_levels, most_open}
 use Rattle.octets.specs.Utf8.{utf8}
 use Rattle.octets.specs.Answers.{refused, accepted, then, unless, answer, outcome}
 use Rattle.octets.specs.declared.Refusal.{Refusal}
-use Rattle.octets.specs.declared.Converted.{Converted}
-use Rattle.octets.specs.declared.Converted.TheVariants.{Written, Refused}
+use Rattle.std.specs.declared.result.Result.{Result}
+use Rattle.std.specs.Prelude.{Ok, Err}
 use Rattle.octets.proofs.Positions.{upto}
 use Rattle.octets.proofs.Limits.{most-text, most-levels}
 use Rattle.octets.proofs.Cases.{cases, both}
@@ -22,9 +22,6 @@ use Rattle.types.specs.Rows.{table_of}
 use Rattle.types.specs.Laid.{table_in, laid_of, room_for_rows}
 use Rattle.types.proofs.Reading.{rows_written, rows-refused}
 use Rattle.json_text.specs.Parse.{most_tape}
-use Rattle.ical_skeleton.specs.Checks.{Shapes}
-use Rattle.ical_skeleton.specs.declared.Shape.{Shape}
-use Rattle.ical_skeleton.specs.declared.Shape.TheVariants.{Calendar, Other}
 use Rattle.json_text.specs.Tree.{Json, element, octets_of}
 use Rattle.json_text.specs.Reads.{Out, deep, bad}
 use Rattle.json_text.specs.Reader.{parse_text}
@@ -85,15 +82,6 @@ module _ (T : Table) (t : List ℕ) where
   unfolding tape_text then
   text-accepted e = rw e
 
--- a refusal leaves what the buffer's length says
--- what the shape of a tape tells
-module _ (t : List ℕ) (r : Shape) (c : Shapes t r) where
-  pub calendar-told : {n : ℕ} → r ≡ Calendar n → (is_calendar (value_at t 0) ≡ true) × (n ≡ levels (component_from most_open (value_at t 0)))
-  calendar-told q = rw q at c
-
-  pub other-told : r ≡ Other → is_calendar (value_at t 0) ≡ false
-  other-told q = rw q at c
-
 -- a tape that shows the value
 by_value : (T : Table) (t : List ℕ) (j : Json) → value_at t 0 ≡ j → sound_tape t ≡ sound j → tape_text T t ≡ then (calendar_of j) (written T)
 unfolding tape_text judged component_on calendar_of written unless then
@@ -124,11 +112,11 @@ unfolding most_tape
 tape-is n = refl
 
 -- the added rows, by what was read of them
-module _ (hex o b : List ℕ) {r : Converted} (h : room_for_rows ≤ length o) (e : outcome r b ≡ answer (laid_of hex) o) where
-  pub table-read : {n : ℕ} → r ≡ Written n → (table_of hex ≡ accepted (table_in (take (n - 0) (drop 0 b)))) × (n ≤ length b)
+module _ (hex o b : List ℕ) {r : Result ℕ Refusal} (h : room_for_rows ≤ length o) (e : outcome r b ≡ answer (laid_of hex) o) where
+  pub table-read : {n : ℕ} → r ≡ Ok n → (table_of hex ≡ accepted (table_in (take (n - 0) (drop 0 b)))) × (n ≤ length b)
   table-read {n} q = let w = rows_written hex o b h n (rw q at e) in (rw (upto b n) w.table, w.within)
 
-  pub table-refused : {w : Refusal} → r ≡ Refused w → table_of hex ≡ refused 2
+  pub table-refused : {w : Refusal} → r ≡ Err w → table_of hex ≡ refused 2
   table-refused {w} q = (rows-refused hex o b h w (rw q at e)).0
 
 -- the whole conversion

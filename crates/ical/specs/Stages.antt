@@ -12,13 +12,6 @@ use Rattle.conversion_theory.specs.Tree.{Component, levels, properties_of}
 use Rattle.conversion_theory.specs.Skeleton.{is_calendar, component_from, calendar_of}
 use Rattle.conversion_theory.specs.ToIcal.{json_of, checked_all, component_lines, written}
 
--- the longest text for which short memory is lent, and the longest for which memory of middle length is
-abbrev pub short_jcal : ℕ
-short_jcal = 8192
-
-abbrev pub middle_jcal : ℕ
-middle_jcal = 24576
-
 -- the component on a tape
 unfoldable pub component_on : List ℕ → Component
 component_on t = component_from most_open (value_at t 0)

@@ -7,11 +7,3 @@ mod lines;
 mod property;
 
 pub use converting::to_ical;
-use octets::Refusal;
-
-// What became of the value at a place: it is written, with the place behind it and the place of the next line; or why it is refused.
-#[derive(Clone, Copy)]
-pub enum Conversion {
-    Passed(usize, usize),
-    Refused(Refusal),
-}

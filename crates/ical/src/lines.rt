@@ -17,10 +17,8 @@ pub(crate) fn write_mark(out: &mut [u8], at: usize, word: &[u8], t: &[u8], name:
     requires { (name.from ≤ name.to) × (name.to ≤ length t.now) }
     ensures { Wrote (pen out.old at) (text_of ((word.now ++ upper (take (name.to - name.from) (drop name.from t.now))) ∷ [])) (pen out.new result) }
 {
-    let from = name.from;
-    let to = name.to;
-    let p = fold_all(out, Folder { at: at, column: 0 }, &*word);
-    let q = fold_upper(out, p, &t[from..to]);
+    let p = fold_all(out, Folder { at, column: 0 }, word);
+    let q = fold_upper(out, p, &t[name.from..name.to]);
     end_line(out, q)
 }
 

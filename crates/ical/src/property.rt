@@ -14,15 +14,14 @@ ghost use Rattle.jcal_values.specs.Attempts.{values_read};
 ghost use Rattle.ical.specs.Writes.{is_taken, ValuesWritten};
 ghost use Rattle.ical.specs.Converts.{checked_in, Converts};
 
-use super::Conversion;
 use super::lines::write_head;
 use content::{Folder, end_line};
 use ical_properties::{Ruling, any_encodes, encoding_fits, may_return, property_parts, ruling_of};
-use ical_values::{Valued, write_tested};
+use ical_values::write_tested;
 use jcal_values::holds_values;
 use octets::Refusal;
 use tape::{END, after, tag, text_at};
-use values::base64::{Decoding, decode, is_decoded};
+use values::base64::{decode, is_decoded};
 use values::{Sort, sort_of};
 
 // Whether the value that is encoded in `raw` is of the sort, or several where there may be many; it is decoded into `rule`.
@@ -32,8 +31,8 @@ fn holds_decoded(sort: Sort, many: bool, raw: &[u8], rule: &mut [u8]) -> bool
 {
     let d = decode(raw, rule);
     match d {
-        Decoding::Octets(n) => holds_values(sort, many, &rule[0..n]),
-        Decoding::Invalid => false,
+        Some(n) => holds_values(sort, many, &rule[0..n]),
+        None => false,
     }
 }
 
@@ -47,12 +46,11 @@ fn is_taken(t: &[u8], name: &[u8], at: usize, k: Ruling, encoded: bool, rule: &m
     }
     let sort = sort_of(name, k.code);
     let x = text_at(t, at);
-    let from = x.from;
-    let to = x.to;
+    let raw = &t[x.from..x.to];
     if is_decoded(k.code, encoded) {
-        return holds_decoded(sort, k.many, &t[from..to], rule);
+        return holds_decoded(sort, k.many, raw, rule);
     }
-    holds_values(sort, k.many, &t[from..to])
+    holds_values(sort, k.many, raw)
 }
 
 // Number 9: writes the values from `at` on, if they are what the ruling asks for.
@@ -65,18 +63,17 @@ fn write_stood(
     k: Ruling,
     encoded: bool,
     rule: &mut [u8],
-) -> Valued
+) -> Option<(usize, Folder)>
     requires { length t.now ≤ length rule.old }
     ensures { ValuesWritten k (lower name.now) encoded t.now at (folding out.old p) out.new result }
 {
     if !is_taken(t, name, at, k, encoded, rule) {
-        return Valued::Invalid;
+        return None;
     }
-    let sort = k.sort;
-    write_tested(out, p, t, at, sort, k.many, rule)
+    write_tested(out, p, t, at, k.sort, k.many, rule)
 }
 
-// The content line of the property at `at`.
+// The content line of the property at `at`: the place behind the property, and that of the next line; or why it is refused.
 fn convert_property(
     t: &[u8],
     at: usize,
@@ -84,37 +81,26 @@ fn convert_property(
     out: &mut [u8],
     to: usize,
     rule: &mut [u8],
-) -> Conversion
+) -> Result<(usize, usize), Refusal>
     requires { (is_property (value_at t.now at) ≡ true) × (length t.now ≤ length rule.old) }
     ensures { Converts t.now at (checked_in (table_in rows.now) (property_from (value_at t.now at)))
         out.old to (property_line (table_in rows.now) (property_from (value_at t.now at)) ∷ []) out.new result }
 {
     let p = property_parts(t, at);
-    let params = p.params;
-    if !may_return(t, params) {
-        return Conversion::Refused(Refusal::BadParameter);
+    if !may_return(t, p.params) {
+        return Err(Refusal::BadParameter);
     }
-    let name = p.name;
-    let kind = p.kind;
-    let a = name.from;
-    let b = name.to;
-    let c = kind.from;
-    let d = kind.to;
-    let k = ruling_of(rows, &t[a..b], &t[c..d]);
-    let encoded = any_encodes(t, params);
+    let name = &t[p.name.from..p.name.to];
+    let kind = &t[p.kind.from..p.kind.to];
+    let k = ruling_of(rows, name, kind);
+    let encoded = any_encodes(t, p.params);
     if !encoding_fits(k.code, k.taken, encoded) {
-        return Conversion::Refused(Refusal::BadEncoding);
+        return Err(Refusal::BadEncoding);
     }
     let start = Folder { at: to, column: 0 };
-    let h = write_head(out, start, &t[a..b], k.shown, &t[c..d], t, params);
-    let w = write_stood(out, h, t, &t[a..b], p.values, k, encoded, rule);
-    match w {
-        Valued::Invalid => Conversion::Refused(Refusal::BadValue),
-        Valued::Written(e, q) => {
-            let end = end_line(out, q);
-            Conversion::Passed(e, end)
-        }
-    }
+    let h = write_head(out, start, name, k.shown, kind, t, p.params);
+    let (e, q) = write_stood(out, h, t, name, p.values, k, encoded, rule).ok_or(Refusal::BadValue)?;
+    Ok((e, end_line(out, q)))
 }
 
 // The content lines of the properties of the array at `at`, up to the first in fault.
@@ -125,7 +111,7 @@ pub(crate) fn convert_properties(
     out: &mut [u8],
     to: usize,
     rule: &mut [u8],
-) -> Conversion
+) -> Result<(usize, usize), Refusal>
     requires { (is_list_of is_property (value_at t.now at) ≡ true) × (length t.now ≤ length rule.old) }
     ensures { Converts t.now at (checked_all (table_in rows.now) (map property_from (elements (value_at t.now at))))
         out.old to (map (property_line (table_in rows.now)) (map property_from (elements (value_at t.now at)))) out.new result }
@@ -134,18 +120,10 @@ pub(crate) fn convert_properties(
     let mut q = to;
     loop {
         if tag(t, i) == END {
-            let e = after(t, i);
-            return Conversion::Passed(e, q);
+            return Ok((after(t, i), q));
         }
-        let p = convert_property(t, i, rows, out, q, rule);
-        match p {
-            Conversion::Passed(e, n) => {
-                i = e;
-                q = n;
-            }
-            Conversion::Refused(w) => {
-                return Conversion::Refused(w);
-            }
-        }
+        let (e, n) = convert_property(t, i, rows, out, q, rule)?;
+        i = e;
+        q = n;
     }
 }

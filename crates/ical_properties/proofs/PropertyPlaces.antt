@@ -3,7 +3,9 @@ use Prim.Native.Nat.{ℕ}
 use mathlib.Core.Path.{◌≡◌, sym, ap, ◌∙◌}
 use mathlib.Core.List.{List}
 use native.Mathlib.Omega.{arith}
+use borrow.Author.Tests.{eq-eqb}
 use lib.ListN.{length, drop, get_or}
+use Rattle.octets.proofs.Cases.{same?, never}
 use Rattle.json_text.specs.Tree.{Json, null, octets_of, elements, element, members}
 use Rattle.json_text.specs.Tape.{tag_array, tag_object}
 use Rattle.tape.specs.Decode.{pop, view, tag_at, value_at, list_at}
@@ -13,26 +15,37 @@ use Rattle.tape.proofs.Tags.{on-tape, past-tag}
 use Rattle.tape.proofs.Values.{pop-skip, no-elements, no-members, list-end, members-end, list-head, list-tail, list-behind}
 use Rattle.tape.proofs.Walks.{elements-inside, members-inside}
 use Rattle.conversion_theory.specs.Skeleton.{params_from, property_from}
-use Rattle.ical_properties.specs.PartPlaces.{InGroup, IntoArray, IntoObject, OctetsAre, PartsAt}
+use Rattle.ical_properties.specs.PartPlaces.{InGroup, Into, IntoArray, IntoObject, OctetsAre, PartsAt}
 
 module _ (t : List ℕ) (i : ℕ) where
-  pub into-array : {a : ℕ} → After t i a → tag_at t i ≡ tag_array → IntoArray t i a
+  into-array : {a : ℕ} → After t i a → tag_at t i ≡ tag_array → IntoArray t i a
   into-array {a} x q = record {
     list = sym (elements-inside x q);
     within = record { is = λ _. ap pop x.is; low = λ _. omega (arith, x.more (on-tape t i (λ e. omega arith))); high = x.high };
   }
 
-  pub into-no-array : ((tag_at t i ≡ tag_array) → ⊥) → IntoArray t i (length t)
+  into-no-array : ((tag_at t i ≡ tag_array) → ⊥) → IntoArray t i (length t)
   into-no-array n = record {
     list = list-end t (length t) (past-tag t (length t) (omega arith)) ∙ sym (no-elements t i n);
     within = record { is = λ q. absurd (n q); low = λ q. absurd (n q); high = omega arith };
   }
 
-  pub into-object : {a : ℕ} → After t i a → tag_at t i ≡ tag_object → IntoObject t i a
+  into-object : {a : ℕ} → After t i a → tag_at t i ≡ tag_object → IntoObject t i a
   into-object x q = sym (members-inside x q)
 
-  pub into-no-object : ((tag_at t i ≡ tag_object) → ⊥) → IntoObject t i (length t)
+  into-no-object : ((tag_at t i ≡ tag_object) → ⊥) → IntoObject t i (length t)
   into-no-object n = members-end t (length t) (past-tag t (length t) (omega arith)) ∙ sym (no-members t i n)
+
+module _ {t : List ℕ} {i a : ℕ} where
+  pub array-in : Into tag_array t i a → IntoArray t i a
+  array-in x = same? (tag_at t i) tag_array
+      (λ q. into-array t i (x.there q) q)
+      (λ z. let n : (tag_at t i ≡ tag_array) → ⊥ = λ q. never (eq-eqb (tag_at t i) tag_array q) z in rw (x.elsewhere n) (into-no-array t i n))
+
+  pub object-in : Into tag_object t i a → IntoObject t i a
+  object-in x = same? (tag_at t i) tag_object
+      (λ q. into-object t i (x.there q) q)
+      (λ z. let n : (tag_at t i ≡ tag_object) → ⊥ = λ q. never (eq-eqb (tag_at t i) tag_object q) z in rw (x.elsewhere n) (into-no-object t i n))
 
 pub within-next : {t : List ℕ} {i a b : ℕ} → InGroup t i a → Next t a b → InGroup t i b
 within-next {t} {i} {a} w n = record { is = λ q. ap pop n.is ∙ pop-skip (view t a) ∙ w.is q; low = λ q. omega (arith, w.low q, n.low w.high); high = n.high }

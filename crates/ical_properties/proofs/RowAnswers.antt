@@ -4,16 +4,15 @@ use mathlib.Core.Path.{◌≡◌, refl, sym, ap, ◌∙◌}
 use mathlib.Core.Bool.{Bool, true, false, not}
 use mathlib.Core.List.{List}
 use mathlib.Core.Option.{Option, none, some}
-use borrow.Author.Tests.{ne_eqb}
 use lib.Dec.{eqb}
 use Rattle.octets.specs.Basics.{octets, pick, ◌and◌, ◌or◌, same}
 use Rattle.octets.specs.Optional.{is_some}
-use Rattle.octets.proofs.Cases.{and-true-right, or_true_right}
-use Rattle.types.specs.Codes.{binary, type_name, code_named}
+use Rattle.types.specs.Codes.{type_name, code_named}
 use Rattle.types.specs.Table.{Row}
 use Rattle.types.specs.Laid.{row_found}
-use Rattle.types.specs.declared.Lookup.{Lookup}
-use Rattle.types.specs.declared.Lookup.TheVariants.{Listed, Unlisted}
+use Rattle.std.specs.Prelude.{Some, None}
+use Rattle.std.specs.declared.option.Option as coded
+use Rattle.types.specs.declared.Listing.{Listing}
 use Rattle.values.specs.Base64.{binary_fits, is_decoded}
 use Rattle.values.specs.Sorts.{sort_of}
 use Rattle.values.specs.Coded.{sort_said}
@@ -29,11 +28,11 @@ abbrev row : ℕ → Bool → Row
 row c m = record { code = c; many = m }
 
 -- what was found
-pub listed : {f : Lookup} {c : ℕ} {m : Bool} {r : Option Row} → f ≡ Listed c m → row_found f ≡ r → some (row c m) ≡ r
+pub listed : {f : coded.Option Listing} {l : Listing} {r : Option Row} → f ≡ Some l → row_found f ≡ r → some (row l.code l.many) ≡ r
 unfolding row_found
 listed e q = rw e at q
 
-pub unlisted : {f : Lookup} {r : Option Row} → f ≡ Unlisted → row_found f ≡ r → none ≡ r
+pub unlisted : {f : coded.Option Listing} {r : Option Row} → f ≡ None → row_found f ≡ r → none ≡ r
 unfolding row_found
 unlisted e q = rw e at q
 
@@ -67,22 +66,7 @@ module _ (n t : List ℕ) {c : ℕ} {s : Sort} (u : is_unknown t ≡ false) (k :
 pub rules-same : {r : Option Row} {n t u : List ℕ} {g : Ruling} → t ≡ u → Rules r n u g → Rules r n t g
 rules-same e h = rw e h
 
--- number 8
-module _ (c : ℕ) (b : Bool) where
-  pub fits-binary : (t : Bool) → c ≡ binary → fits_by c t b ≡ b
-  unfolding fits_by binary_fits is_decoded
-  fits-binary t e = rw (e, or_true_right t, and-true-right b)
-
-  module _ (n : (c ≡ binary) → ⊥) where
-    pub fits-taken : {t : Bool} → t ≡ true → fits_by c t b ≡ true
-    unfolding fits_by binary_fits
-    fits-taken e = rw (ne_eqb c binary n, e)
-
-    pub fits-stated : {t : Bool} → t ≡ false → fits_by c t b ≡ not (is_decoded c b)
-    unfolding fits_by binary_fits
-    fits-stated e = rw (ne_eqb c binary n, e)
-
--- by a ruling it is as by row and type
+-- number 8: by a ruling it is as by row and type
 fits-typed : (r : Option Row) (t : List ℕ) (b : Bool) → fits_by (code_of r (some t)) false b ≡ encoding_fits r (some t) b
 unfolding fits_by encoding_fits states_plain code_of type_of
 fits-typed r t b = refl

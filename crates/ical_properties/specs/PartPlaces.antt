@@ -3,6 +3,7 @@ use Rattle.std.specs.Prelude.{ℕ, ◌+◌, ◌-◌, ◌≤◌, ◌≡◌, List,
 use Rattle.json_text.specs.Tree.{elements, members}
 use Rattle.json_text.specs.Tape.{tag_array}
 use Rattle.tape.specs.Decode.{pop, view, tag_at, value_at, list_at, members_at}
+use Rattle.tape.specs.Promise.{After}
 use Rattle.tape.specs.declared.Text.{Text}
 use Rattle.conversion_theory.specs.Skeleton.{params_from, property_from}
 use Rattle.ical_properties.specs.declared.PropertyParts.{PropertyParts}
@@ -12,6 +13,11 @@ pub record InGroup (t : List ℕ) (i a : ℕ) : Type 0 where
   pub is : tag_at t i ≡ tag_array → pop (view t a) ≡ pop (view t (i + 1))
   pub low : tag_at t i ≡ tag_array → i + 1 ≤ a
   pub high : a ≤ length t
+
+-- a is the place of the first value of the group with the tag b at i; or the tape's end, where another value stands there
+pub record Into (b : ℕ) (t : List ℕ) (i a : ℕ) : Type 0 where
+  pub there : tag_at t i ≡ b → After t i a
+  pub elsewhere : ((tag_at t i ≡ b) → ⊥) → a ≡ length t
 
 -- the elements of the array at i stand from a on
 pub record IntoArray (t : List ℕ) (i a : ℕ) : Type 0 where

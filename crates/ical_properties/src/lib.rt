@@ -24,6 +24,7 @@ pub struct PropertyParts {
 
 // What a property's row and type say: the code that number 8 goes by, one or many, the sort of the values,
 // whether VALUE is written, and whether an "unknown" value must be what its name takes.
+// The code is an octet, 0 for none, since it goes to `encoding_fits`, `is_decoded` and `sort_of`, which promise something of every octet.
 #[derive(Clone, Copy)]
 pub struct Ruling {
     pub code: u8,

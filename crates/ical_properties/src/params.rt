@@ -7,24 +7,22 @@ ghost use Rattle.json_text.specs.Tape.{tag_string};
 ghost use Rattle.tape.specs.Decode.{tag_at, value_at, members_at};
 ghost use Rattle.conversion_theory.specs.Skeleton.{values_from, params_from};
 
-use super::places::into_array;
+use super::places::into;
 use octets::{all_text, same, same_name};
-use tape::{END, STRING, behind, tag, text_at};
+use tape::{ARRAY, END, STRING, behind, tag, text_at};
 
 // No control character but tab and newline in the values of the parameter at `at`, which is no string.
 fn are_texts(t: &[u8], at: usize) -> bool
     requires { (tag_at t.now at ≡ tag_string) → ⊥ }
     ensures { result ≡ all (all text_octet) (values_from (value_at t.now at)) }
 {
-    let mut i = into_array(t, at);
+    let mut i = into(t, at, ARRAY);
     loop {
         if tag(t, i) == END {
             return true;
         }
         let x = text_at(t, i);
-        let from = x.from;
-        let to = x.to;
-        if !all_text(&t[from..to]) {
+        if !all_text(&t[x.from..x.to]) {
             return false;
         }
         i = x.next;
@@ -41,17 +39,13 @@ pub fn may_return(t: &[u8], at: usize) -> bool
             return true;
         }
         let k = text_at(t, i);
-        let from = k.from;
-        let to = k.to;
         let v = k.next;
-        if same(&t[from..to], b"value") {
+        if same(&t[k.from..k.to], b"value") {
             return false;
         }
         if tag(t, v) == STRING {
             let x = text_at(t, v);
-            let a = x.from;
-            let b = x.to;
-            if !all_text(&t[a..b]) {
+            if !all_text(&t[x.from..x.to]) {
                 return false;
             }
             i = x.next;
@@ -70,11 +64,9 @@ fn is_base64(t: &[u8], at: usize) -> bool
 {
     if tag(t, at) == STRING {
         let x = text_at(t, at);
-        let from = x.from;
-        let to = x.to;
-        return same_name(&t[from..to], b"BASE64");
+        return same_name(&t[x.from..x.to], b"BASE64");
     }
-    let a = into_array(t, at);
+    let a = into(t, at, ARRAY);
     if tag(t, a) == END {
         return false;
     }
@@ -82,19 +74,14 @@ fn is_base64(t: &[u8], at: usize) -> bool
     if tag(t, x.next) != END {
         return false;
     }
-    let from = x.from;
-    let to = x.to;
-    same_name(&t[from..to], b"BASE64")
+    same_name(&t[x.from..x.to], b"BASE64")
 }
 
 // The parameter of this name whose value stands at `at` is ENCODING=BASE64.
 fn encodes(t: &[u8], name: &[u8], at: usize) -> bool
     ensures { result ≡ (same name.now (octets "encoding") and is_base64 (values_from (value_at t.now at))) }
 {
-    if !same(name, b"encoding") {
-        return false;
-    }
-    is_base64(t, at)
+    same(name, b"encoding") && is_base64(t, at)
 }
 
 // ENCODING=BASE64 is among the parameters from `at` on.
@@ -107,10 +94,8 @@ pub fn any_encodes(t: &[u8], at: usize) -> bool
             return false;
         }
         let k = text_at(t, i);
-        let from = k.from;
-        let to = k.to;
         let v = k.next;
-        if encodes(t, &t[from..to], v) {
+        if encodes(t, &t[k.from..k.to], v) {
             return true;
         }
         i = behind(t, v);

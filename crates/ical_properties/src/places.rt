@@ -1,25 +1,14 @@
 // The parts of a property on the tape.
-ghost use Rattle.ical_properties.specs.PartPlaces.{IntoArray, IntoObject, PartsAt};
+ghost use Rattle.ical_properties.specs.PartPlaces.{Into, PartsAt};
 
 use super::PropertyParts;
 use tape::{ARRAY, OBJECT, after, behind, tag, text_at};
 
-// The place of the first element of the array at `at`; of nothing, where there is no array.
-pub fn into_array(t: &[u8], at: usize) -> usize
-    ensures { IntoArray t.now at result }
+// The place of the first value of the group with this tag at `at`; of nothing, where another value stands there.
+pub fn into(t: &[u8], at: usize, group: u8) -> usize
+    ensures { Into group t.now at result }
 {
-    if tag(t, at) == ARRAY {
-        after(t, at)
-    } else {
-        t.len()
-    }
-}
-
-// The place of the first key of the object at `at`; of nothing, where there is no object.
-fn into_object(t: &[u8], at: usize) -> usize
-    ensures { IntoObject t.now at result }
-{
-    if tag(t, at) == OBJECT {
+    if tag(t, at) == group {
         after(t, at)
     } else {
         t.len()
@@ -30,16 +19,16 @@ fn into_object(t: &[u8], at: usize) -> usize
 pub fn property_parts(t: &[u8], at: usize) -> PropertyParts
     ensures { PartsAt t.now at result }
 {
-    let a = into_array(t, at);
+    let a = into(t, at, ARRAY);
     let name = text_at(t, a);
     let b = name.next;
-    let params = into_object(t, b);
+    let params = into(t, b, OBJECT);
     let c = behind(t, b);
     let kind = text_at(t, c);
     PropertyParts {
-        name: name,
-        params: params,
-        kind: kind,
+        name,
+        params,
+        kind,
         values: kind.next,
     }
 }

@@ -8,21 +8,19 @@ ghost use Rattle.conversion_theory.specs.Return.{is_unknown};
 ghost use Rattle.ical_properties.specs.Ruled.{Rules, fits_by};
 
 use super::Ruling;
-use types::{Lookup, code_named, find, is_unknown, known_code};
+use types::{ValueType, code_named, find, is_unknown, known_code};
 use values::base64::is_decoded;
 use values::{Sort, sort_of};
 
 // Number 8: binary has ENCODING=BASE64; another of the fourteen types has it only where an "unknown" value must be what its name takes.
+#[tactic(auto, unfolding(crate::specs::Ruled::fits_by, values::specs::Base64::binary_fits, values::specs::Base64::is_decoded, types::specs::Coded::type_code))]
 pub fn encoding_fits(code: u8, taken: bool, encoded: bool) -> bool
     ensures { result ≡ fits_by code taken encoded }
 {
-    if code == 1 {
+    if code == ValueType::Binary.code() {
         return encoded;
     }
-    if taken {
-        return true;
-    }
-    !is_decoded(code, encoded)
+    taken || !is_decoded(code, encoded)
 }
 
 // The ruling of an "unknown" value.
@@ -31,14 +29,14 @@ fn unknown_ruling(rows: &[u8], name: &[u8]) -> Ruling
 {
     let f = find(rows, name);
     match f {
-        Lookup::Listed(c, m) => Ruling {
-            code: known_code(c),
-            many: m,
+        Some(row) => Ruling {
+            code: known_code(row.code),
+            many: row.many,
             sort: Sort::Plain,
             shown: false,
             taken: true,
         },
-        Lookup::Unlisted => Ruling {
+        None => Ruling {
             code: 0,
             many: true,
             sort: Sort::Plain,
@@ -57,14 +55,14 @@ fn stated_ruling(rows: &[u8], name: &[u8], kind: &[u8]) -> Ruling
     let c = code_named(kind);
     let s = sort_of(name, c);
     match f {
-        Lookup::Listed(d, m) => Ruling {
+        Some(row) => Ruling {
             code: c,
-            many: m,
+            many: row.many,
             sort: s,
-            shown: d != c,
+            shown: row.code != c,
             taken: false,
         },
-        Lookup::Unlisted => Ruling {
+        None => Ruling {
             code: c,
             many: true,
             sort: s,

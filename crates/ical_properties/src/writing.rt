@@ -8,9 +8,9 @@ ghost use Rattle.content.specs.Folding.{folding, Folded};
 ghost use Rattle.conversion_theory.specs.Skeleton.{values_from, params_from};
 ghost use Rattle.ical_properties.specs.ParamValues.{param_values_text};
 
-use super::places::into_array;
+use super::places::into;
 use content::{Folder, begin_param, next_param_value, write_param_value};
-use tape::{END, STRING, behind, tag, text_at};
+use tape::{ARRAY, END, STRING, behind, tag, text_at};
 
 // Writes the values from `at` to the end of the array, a comma before each.
 fn write_more(out: &mut [u8], p: Folder, t: &[u8], at: usize) -> Folder
@@ -23,9 +23,7 @@ fn write_more(out: &mut [u8], p: Folder, t: &[u8], at: usize) -> Folder
             return q;
         }
         let x = text_at(t, i);
-        let from = x.from;
-        let to = x.to;
-        q = next_param_value(out, q, &t[from..to]);
+        q = next_param_value(out, q, &t[x.from..x.to]);
         i = x.next;
     }
 }
@@ -35,14 +33,12 @@ fn write_param_values(out: &mut [u8], p: Folder, t: &[u8], at: usize) -> Folder
     requires { (tag_at t.now at ≡ tag_string) → ⊥ }
     ensures { Folded (folding out.old p) (param_values_text (values_from (value_at t.now at))) (folding out.new result) }
 {
-    let a = into_array(t, at);
+    let a = into(t, at, ARRAY);
     if tag(t, a) == END {
         return p;
     }
     let x = text_at(t, a);
-    let from = x.from;
-    let to = x.to;
-    let q = write_param_value(out, p, &t[from..to]);
+    let q = write_param_value(out, p, &t[x.from..x.to]);
     let b = x.next;
     write_more(out, q, t, b)
 }
@@ -58,15 +54,11 @@ pub fn write_params(out: &mut [u8], p: Folder, t: &[u8], at: usize) -> Folder
             return q;
         }
         let k = text_at(t, i);
-        let from = k.from;
-        let to = k.to;
         let v = k.next;
-        q = begin_param(out, q, &t[from..to]);
+        q = begin_param(out, q, &t[k.from..k.to]);
         if tag(t, v) == STRING {
             let x = text_at(t, v);
-            let a = x.from;
-            let b = x.to;
-            q = write_param_value(out, q, &t[a..b]);
+            q = write_param_value(out, q, &t[x.from..x.to]);
             i = x.next;
         } else {
             q = write_param_values(out, q, t, v);

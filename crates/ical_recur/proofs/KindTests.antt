@@ -2,12 +2,13 @@
 use Prim.Native.Nat.{ℕ, ◌+◌, ◌≤◌, ◌<◌}
 use mathlib.Core.Path.{◌≡◌, refl, sym, ap, ◌∙◌}
 use mathlib.Core.Bool.{Bool, true, false}
-use mathlib.Core.List.{List}
+use mathlib.Core.List.{List, [], ◌∷◌}
 use mathlib.Core.Option.{none}
-use Rattle.octets.specs.Basics.{◌and◌}
+use Rattle.std.specs.List.{list_all}
+use Rattle.octets.specs.Basics.{◌and◌, all}
 use Rattle.octets.specs.Optional.{holds, given}
 use Rattle.octets.specs.Classes.{is_lower_name, upper}
-use Rattle.octets.proofs.Cases.{and_assoc, never}
+use Rattle.octets.proofs.Cases.{cases, and_assoc, never}
 use Rattle.calendar.specs.Recurrence.{PartSort, frequency, moment, count, weekday, ordinal, numbers, several}
 use Rattle.calendar.specs.Walk.{key_place, key_at}
 use Rattle.calendar.proofs.RuleParts.{key-known, key-unknown}
@@ -21,6 +22,12 @@ use Rattle.tape.proofs.Walks.{array-inside}
 use Rattle.tape.proofs.Scans.{part, Keyed, members-on}
 use Rattle.values.specs.Recur.{is_word, is_integer, is_until, all_items, some_items, one_or_more, kind_is, kinds_are}
 use Rattle.ical_recur.specs.Kinds.{item_is, member_is}
+
+-- a test of each octet, as a chain of iterators makes it
+pub of_each : (p : ℕ → Bool) (s : List ℕ) → list_all p s ≡ all p s
+unfolding all
+of_each p [] = refl
+of_each p (x ∷ s) = cases (p x) (λ e. rw e (of_each p s)) (λ e. rw e)
 
 -- a string and a number, whose octets were found
 module _ {t : List ℕ} {i : ℕ} {r : Text} (x : TextAt t i r) where

@@ -1,4 +1,5 @@
 pub mod Room
+pub mod CodedSorts
 pub mod KindTests
 pub mod ObjectTexts
 pub mod Laying
@@ -6,3 +7,4 @@ pub mod ObjectLengths
 pub mod RuleTexts
 pub mod Integers
 pub mod Shown
+pub mod Splits

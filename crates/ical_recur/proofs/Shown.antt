@@ -9,8 +9,7 @@ use Rattle.octets.specs.Classes.{upper}
 use Rattle.octets.specs.Decimal.{minus, unsigned, trim, minus_if, integer_text}
 use Rattle.octets.proofs.Positions.{from, upto}
 use Rattle.calendar.specs.Recurrence.{PartSort, ordinal}
-use Rattle.calendar.specs.Walk.{key_at, item_shown, values_shown, part_shown}
-use Rattle.calendar.specs.declared.parts.PartAt.{PartAt}
+use Rattle.calendar.specs.Walk.{Places, key_at, item_shown, values_shown, part_shown}
 use Rattle.content.specs.Folding.{FoldPen, Folded}
 use Rattle.content.proofs.Folding.{then, as-folded}
 
@@ -28,7 +27,7 @@ pub ordinal-folded : {p q r : FoldPen} (s : List ℕ) (at : ℕ) → at ≡ leng
 unfolding item_shown
 ordinal-folded s at is v w = then (rw (upto s at, is) at v) (rw (from s at, is) at w)
 
-pub part-folded : {p q r t : FoldPen} (s : List ℕ) (x : PartAt) (sort : PartSort) → sort ≡ (key_at x.key).sort
+pub part-folded : {p q r t : FoldPen} (s : List ℕ) (x : Places) (sort : PartSort) → sort ≡ (key_at x.key).sort
     → Folded p (upper (take (x.name - 0) (drop 0 s))) q → Folded q (code "=" ∷ []) r → Folded r (values_shown sort (take (x.to - x.from) (drop x.from s))) t
     → Folded p (part_shown x s) t
 unfolding part_shown

@@ -1,5 +1,5 @@
 -- The text of a recurrence object, as the recurrence reader takes it.
-use Rattle.std.specs.Prelude.{ℕ, List}
+use Rattle.std.specs.Prelude.{ℕ, zero, suc, List, [], ◌∷◌}
 use Prim.Native.Char.{code}
 use Rattle.octets.specs.Pieces.{joined}
 use Rattle.calendar.specs.Recurrence.{PartSort}
@@ -15,3 +15,8 @@ part_values_text sort j = joined (code ",") (value_texts sort j)
 
 abbrev pub object_text : Members → List ℕ
 object_text ms = joined (code ";") (member_texts ms)
+
+-- what is written in front of the piece at a place: a separator, but for the first
+unfoldable pub mark_before : ℕ → ℕ → List ℕ
+mark_before sep zero = []
+mark_before sep (suc n) = sep ∷ []

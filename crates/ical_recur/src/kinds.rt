@@ -14,30 +14,14 @@ use values::simple::is_integer;
 fn is_word_octet(c: u8) -> bool
     ensures { result ≡ word_octet c }
 {
-    if is_upper(c) {
-        return true;
-    }
-    if is_lower(c) {
-        return true;
-    }
-    if is_digit(c) {
-        return true;
-    }
-    is_sign(c)
+    is_upper(c) || is_lower(c) || is_digit(c) || is_sign(c)
 }
 
 // Letters, digits and signs, which separate nothing.
 fn is_word(s: &[u8]) -> bool
     ensures { result ≡ all word_octet s.now }
 {
-    let mut i = 0;
-    while i < s.len() {
-        if !is_word_octet(s[i]) {
-            return false;
-        }
-        i += 1;
-    }
-    true
+    s.iter().all(|&c| is_word_octet(c))
 }
 
 // A string is a value of a part.
@@ -45,12 +29,9 @@ pub fn string_is(sort: PartSort, s: &[u8]) -> bool
     ensures { result ≡ item_is (part_sort_said sort) (str s.now) }
 {
     match sort {
-        PartSort::Frequency => is_word(s),
+        PartSort::Frequency | PartSort::Weekday | PartSort::Ordinal => is_word(s),
         PartSort::Moment => is_extended_moment(s),
-        PartSort::Count => false,
-        PartSort::Weekday => is_word(s),
-        PartSort::Ordinal => is_word(s),
-        PartSort::Numbers(_) => false,
+        PartSort::Count | PartSort::Numbers(_) => false,
     }
 }
 
@@ -59,11 +40,7 @@ pub fn number_is(sort: PartSort, s: &[u8]) -> bool
     ensures { result ≡ item_is (part_sort_said sort) (num s.now) }
 {
     match sort {
-        PartSort::Frequency => false,
-        PartSort::Moment => false,
-        PartSort::Count => is_integer(s),
-        PartSort::Weekday => false,
-        PartSort::Ordinal => false,
-        PartSort::Numbers(_) => is_integer(s),
+        PartSort::Count | PartSort::Numbers(_) => is_integer(s),
+        _ => false,
     }
 }

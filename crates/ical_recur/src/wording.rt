@@ -12,146 +12,115 @@ ghost use Rattle.ical_recur.specs.Wording.{items_text, part_values_text, object_
 
 use crate::kinds::{number_is, string_is};
 use calendar::items::has_several;
-use calendar::parts::{PartSort, key_place, sort_of};
+use calendar::parts::{PartSort, key_named, sort_of};
 use calendar::texts::{Form, basic, put_text};
 use octets::{is_lower_name, put, put_all, put_integer_text, put_upper};
 use tape::{ARRAY, END, NUMBER, STRING, after, tag, text_at};
-
-// Keys of parts; a name with this place or a later one is none.
-const KEYS: usize = 14;
-
-// Where the next octet goes, and the place on the tape that was reached; or it is none of a rule.
-#[derive(Clone, Copy)]
-pub enum RuleLaid {
-    To(usize, usize),
-    Invalid,
-}
 
 // Writes a string; UNTIL in the basic form.
 fn put_string(out: &mut [u8], at: usize, sort: PartSort, s: &[u8]) -> usize
     ensures { Wrote (pen out.old at) (string_text (part_sort_said sort) s.now) (pen out.new result) }
 {
     match sort {
-        PartSort::Frequency => put_all(out, at, s),
         PartSort::Moment => put_text(out, at, basic(Form::DateTime, s)),
-        PartSort::Count => put_all(out, at, s),
-        PartSort::Weekday => put_all(out, at, s),
-        PartSort::Ordinal => put_all(out, at, s),
-        PartSort::Numbers(_) => put_all(out, at, s),
+        _ => put_all(out, at, s),
     }
 }
 
-// Tests and writes the value at i.
-fn lay_item(out: &mut [u8], at: usize, t: &[u8], i: usize, sort: PartSort) -> RuleLaid
+// Tests and writes the value at i, and tells where the next octet goes, and the place on the tape that was reached; none, where it is none of a rule.
+fn lay_item(out: &mut [u8], at: usize, t: &[u8], i: usize, sort: PartSort) -> Option<(usize, usize)>
     ensures { LaidAs (item_is (part_sort_said sort) (value_at t.now i)) (item_text (part_sort_said sort) (value_at t.now i))
         (pen out.old at) out.new (Next t.now i) result }
 {
-    let b = tag(&*t, i);
-    let s = text_at(&*t, i);
-    let from = s.from;
-    let to = s.to;
-    let next = s.next;
-    match b {
-        STRING => {
-            if !string_is(sort, &t[from..to]) {
-                return RuleLaid::Invalid;
-            }
-            RuleLaid::To(put_string(out, at, sort, &t[from..to]), next)
-        }
-        NUMBER => {
-            if !number_is(sort, &t[from..to]) {
-                return RuleLaid::Invalid;
-            }
-            RuleLaid::To(put_integer_text(out, at, &t[from..to]), next)
-        }
-        _ => RuleLaid::Invalid,
+    let x = text_at(t, i);
+    let s = &t[x.from..x.to];
+    match tag(t, i) {
+        STRING if string_is(sort, s) => Some((put_string(out, at, sort, s), x.next)),
+        NUMBER if number_is(sort, s) => Some((put_integer_text(out, at, s), x.next)),
+        _ => None,
     }
 }
 
 // Tests and writes one or more values from i to the end of their array, with commas between them.
-fn lay_items(out: &mut [u8], at: usize, t: &[u8], i: usize, sort: PartSort) -> RuleLaid
+fn lay_items(
+    out: &mut [u8],
+    at: usize,
+    t: &[u8],
+    i: usize,
+    sort: PartSort,
+) -> Option<(usize, usize)>
     ensures { LaidAs (some_items (item_is (part_sort_said sort)) (items_at t.now i)) (items_text (part_sort_said sort) (items_at t.now i))
         (pen out.old at) out.new (Left t.now i) result }
 {
-    if tag(&*t, i) == END {
-        return RuleLaid::Invalid;
+    if tag(t, i) == END {
+        return None;
     }
     let mut to = at;
     let mut from = i;
     loop {
-        match lay_item(out, to, &*t, from, sort) {
-            RuleLaid::Invalid => {
-                return RuleLaid::Invalid;
-            }
-            RuleLaid::To(q, e) => {
-                if tag(&*t, e) == END {
-                    return RuleLaid::To(q, after(&*t, e));
-                }
-                to = put(out, q, b',');
-                from = e;
-            }
+        let (q, e) = lay_item(out, to, t, from, sort)?;
+        if tag(t, e) == END {
+            return Some((q, after(t, e)));
         }
+        to = put(out, q, b',');
+        from = e;
     }
 }
 
 // Tests and writes what a part has at i: a plain value, or an array of one or more where it may have several.
-fn lay_values(out: &mut [u8], at: usize, t: &[u8], i: usize, sort: PartSort) -> RuleLaid
+fn lay_values(
+    out: &mut [u8],
+    at: usize,
+    t: &[u8],
+    i: usize,
+    sort: PartSort,
+) -> Option<(usize, usize)>
     ensures { LaidAs (kind_is (part_sort_said sort) (value_at t.now i)) (part_values_text (part_sort_said sort) (value_at t.now i))
         (pen out.old at) out.new (Next t.now i) result }
 {
-    if tag(&*t, i) != ARRAY {
-        return lay_item(out, at, &*t, i, sort);
+    if tag(t, i) != ARRAY {
+        return lay_item(out, at, t, i, sort);
     }
     if !has_several(sort) {
-        return RuleLaid::Invalid;
+        return None;
     }
-    let from = after(&*t, i);
-    lay_items(out, at, &*t, from, sort)
+    let from = after(t, i);
+    lay_items(out, at, t, from, sort)
 }
 
 // Tests and writes a member: a lowercase name of a part, and what the part has at i.
-fn lay_member(out: &mut [u8], at: usize, name: &[u8], t: &[u8], i: usize) -> RuleLaid
+fn lay_member(out: &mut [u8], at: usize, name: &[u8], t: &[u8], i: usize) -> Option<(usize, usize)>
     ensures { LaidAs (member_is name.now (value_at t.now i)) (member_text name.now (value_at t.now i))
         (pen out.old at) out.new (Next t.now i) result }
 {
-    if !is_lower_name(&*name) {
-        return RuleLaid::Invalid;
+    if !is_lower_name(name) {
+        return None;
     }
-    let key = key_place(&*name);
-    if KEYS <= key {
-        return RuleLaid::Invalid;
-    }
-    let named = put_upper(out, at, &*name);
+    let Some(key) = key_named(name) else {
+        return None;
+    };
+    let named = put_upper(out, at, name);
     let from = put(out, named, b'=');
-    lay_values(out, from, &*t, i, sort_of(key))
+    lay_values(out, from, t, i, sort_of(Some(key)))
 }
 
 // Tests and writes the members from i to the end of the object, which is the place that is reached.
-pub fn lay_members(out: &mut [u8], at: usize, t: &[u8], i: usize) -> RuleLaid
+pub fn lay_members(out: &mut [u8], at: usize, t: &[u8], i: usize) -> Option<(usize, usize)>
     ensures { LaidAs (kinds_are (members_at t.now i)) (object_text (members_at t.now i))
         (pen out.old at) out.new (λ e. tag_at t.now e ≡ tag_end) result }
 {
-    if tag(&*t, i) == END {
-        return RuleLaid::To(at, i);
+    if tag(t, i) == END {
+        return Some((at, i));
     }
     let mut to = at;
     let mut from = i;
     loop {
-        let k = text_at(&*t, from);
-        let v = k.next;
-        let start = k.from;
-        let end = k.to;
-        match lay_member(out, to, &t[start..end], &*t, v) {
-            RuleLaid::Invalid => {
-                return RuleLaid::Invalid;
-            }
-            RuleLaid::To(q, e) => {
-                if tag(&*t, e) == END {
-                    return RuleLaid::To(q, e);
-                }
-                to = put(out, q, b';');
-                from = e;
-            }
+        let k = text_at(t, from);
+        let (q, e) = lay_member(out, to, &t[k.from..k.to], t, k.next)?;
+        if tag(t, e) == END {
+            return Some((q, e));
         }
+        to = put(out, q, b';');
+        from = e;
     }
 }

@@ -23,8 +23,7 @@ use Rattle.tape.proofs.Walks.{Along, along-next, along-end, after_on, array-some
 use Rattle.conversion_theory.specs.Tree.{levels, levels_in, forest_of}
 use Rattle.conversion_theory.specs.Skeleton.{is_list_of, is_component, is_calendar, component_from}
 use Rattle.ical_skeleton.specs.Checks.{Head, ComponentAt}
-use Rattle.ical_skeleton.specs.declared.Nested.{Nested}
-use Rattle.ical_skeleton.specs.declared.Nested.TheVariants.{Component, Nothing}
+use Rattle.std.specs.Prelude.{Some}
 use Rattle.ical_skeleton.proofs.Parts.{component-not, first-is}
 use Rattle.ical_skeleton.proofs.Lists.{Passing, passing-start, passing-next, passing-end, list-not}
 
@@ -76,7 +75,7 @@ pub nesting-start : (d : ℕ) {t : List ℕ} {p a : ℕ} → After t p a → Nes
 nesting-start d x = record { passing = passing-start (is_component d) x; deepest = omega arith; below = omega arith }
 
 module _ {d : ℕ} {t : List ℕ} {a i m : ℕ} (s : Nesting d t a i m) where
-  pub nesting-next : {e k : ℕ} → ((tag_at t i ≡ tag_end) → ⊥) → ComponentAt t i d (Component e k) → Nesting d t a e (max k m)
+  pub nesting-next : {e k : ℕ} → ((tag_at t i ≡ tag_end) → ⊥) → ComponentAt t i d (Some (e, k)) → Nesting d t a e (max k m)
   nesting-next {e} {k} n c =
       let v : deep d (list_at t i) ≡ max k (deep d (list_at t e)) = ap (deep d) (list-next c.3 n) ∙ deep_more d (value_at t i) (list_at t e) ∙ rw c.1 in
       record { passing = passing-next s.passing c.3 n c.0; deepest = omega (arith, s.deepest, v); below = omega (arith, s.below, c.2) }
@@ -101,7 +100,7 @@ module _ {d : ℕ} {t : List ℕ} {at p a i m : ℕ} (n : (d ≡ 0) → ⊥) (h 
         let o : deep (d - 1) (list_at t i) ≡ 0 = ap (deep (d - 1)) (list-end t i z) ∙ deep_none (d - 1) in
         omega (arith, component-levels d (value_at t at) n, v, o, s.deepest)
 
-    pub subs-whole : {f : ℕ} → tag_at t e ≡ tag_end → After t e f → ComponentAt t at d (Component f (m + 1))
+    pub subs-whole : {f : ℕ} → tag_at t e ≡ tag_end → After t e f → ComponentAt t at d (Some (f, m + 1))
     subs-whole {f} w u =
         let l : Along t (at + 1) p = record { is = h.inside; low = h.low; high = h.high } in
         let y : After t at (at + 1) = after_on t at (on-tape t at (λ k. omega (arith, h.array))) in
@@ -121,11 +120,3 @@ module _ (t : List ℕ) {a : ℕ} {r : Text} (x : After t 0 a) (k : TextAt t a r
 pub calendar-not : (t : List ℕ) (d : ℕ) → d ≡ most_open → is_component d (value_at t 0) ≡ false → is_calendar (value_at t 0) ≡ false
 unfolding is_calendar
 calendar-not t d e h = rw (← e, h)
-
--- what an answer tells
-module _ (t : List ℕ) (i d : ℕ) (r : Nested) (c : ComponentAt t i d r) where
-  pub nested : {e n : ℕ} → r ≡ Component e n → ComponentAt t i d (Component e n)
-  nested q = rw q at c
-
-  pub nowhere : r ≡ Nothing → is_component d (value_at t i) ≡ false
-  nowhere q = rw q at c

@@ -13,17 +13,6 @@ use Rattle.tape.specs.Promise.{After, Next}
 use Rattle.tape.proofs.Values.{no-array, list-end, list-next, list-first}
 use Rattle.tape.proofs.Walks.{Along, along-start, along-next, along-end, array-some, next-inside}
 use Rattle.conversion_theory.specs.Skeleton.{is_list_of}
-use Rattle.ical_skeleton.specs.Checks.{Checks}
-use Rattle.ical_skeleton.specs.declared.Checked.{Checked}
-use Rattle.ical_skeleton.specs.declared.Checked.TheVariants.{Passed, Failed}
-
--- what an answer tells
-module _ (t : List ℕ) (i : ℕ) (b : Bool) (r : Checked) (c : Checks t i b r) where
-  pub passed : {e : ℕ} → r ≡ Passed e → (b ≡ true) × Next t i e
-  passed q = rw q at c
-
-  pub failed : r ≡ Failed → b ≡ false
-  failed q = rw q at c
 
 -- one or more values, or none
 module _ (p : Json → Bool) (t : List ℕ) (i : ℕ) where

@@ -19,9 +19,8 @@ use Rattle.tape.proofs.Tags.{on-tape}
 use Rattle.tape.proofs.Values.{no-array, list-end, list-first, list-next, list-head, list-tail}
 use Rattle.tape.proofs.Walks.{Along, along-start, along-next, along-left, array-some, elements-inside, element-inside, next-inside}
 use Rattle.conversion_theory.specs.Skeleton.{are_parameters, is_property_name, is_list_of, is_property, is_component}
-use Rattle.ical_skeleton.specs.Checks.{Checks, Head, Heads}
-use Rattle.ical_skeleton.specs.declared.Checked.{Checked}
-use Rattle.ical_skeleton.specs.declared.Checked.TheVariants.{Passed, Failed}
+use Rattle.ical_skeleton.specs.Checks.{Checks, Heads}
+use Rattle.std.specs.Prelude.{Option, Some, None}
 use Rattle.ical_skeleton.proofs.Lists.{list-not}
 use Rattle.ical_skeleton.proofs.Names.{held_on, object-on}
 
@@ -100,9 +99,9 @@ module _ {t : List ℕ} {i a : ℕ} (x : After t i a) (q : tag_at t i ≡ tag_ar
       component-no-properties h (suc d) = rw (array-there, first-is, second_is, n, h)
 
       -- a head, by the test of its properties
-      pub heads : (r : Checked) → Checks t b (is_list_of is_property (value_at t b)) r → Heads t i r
-      heads Failed h = component-no-properties h
-      heads (Passed c) h = record {
+      pub heads : (r : Option ℕ) → Checks t b (is_list_of is_property (value_at t b)) r → Heads t i r
+      heads None h = component-no-properties h
+      heads (Some c) h = record {
         array = q;
         name = rw first-is n;
         properties = rw second_is h.0;
@@ -112,11 +111,3 @@ module _ {t : List ℕ} {i a : ℕ} (x : After t i a) (q : tag_at t i ≡ tag_ar
         low = rw (← inside) (along-second h.1).low;
         high = h.1.high;
       }
-
--- what an answer tells
-module _ (t : List ℕ) (i : ℕ) (r : Checked) (c : Heads t i r) where
-  pub head-told : {p : ℕ} → r ≡ Passed p → Head t i p
-  head-told q = rw q at c
-
-  pub no-head : r ≡ Failed → (d : ℕ) → is_component d (value_at t i) ≡ false
-  no-head q = rw q at c

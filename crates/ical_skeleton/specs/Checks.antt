@@ -1,5 +1,5 @@
 -- What the tests of the skeleton promise of their answers.
-use Rattle.std.specs.Prelude.{ℕ, suc, ◌+◌, ◌≤◌, ◌≡◌, Bool, true, false, List, length}
+use Rattle.std.specs.Prelude.{ℕ, suc, ◌+◌, ◌≤◌, ◌≡◌, Bool, true, false, List, length, Option, Some, None}
 use Rattle.octets.specs.Optional.{holds}
 use Rattle.octets.specs.Classes.{is_lower_name}
 use Rattle.octets.specs.Limits.{most_open}
@@ -9,17 +9,11 @@ use Rattle.tape.specs.Decode.{pop, view, tag_at, value_at, list_at}
 use Rattle.tape.specs.Promise.{Next}
 use Rattle.conversion_theory.specs.Tree.{levels}
 use Rattle.conversion_theory.specs.Skeleton.{is_list_of, is_property, is_component, is_calendar, component_from}
-use Rattle.ical_skeleton.specs.declared.Checked.{Checked}
-use Rattle.ical_skeleton.specs.declared.Checked.TheVariants.{Passed, Failed}
-use Rattle.ical_skeleton.specs.declared.Nested.{Nested}
-use Rattle.ical_skeleton.specs.declared.Nested.TheVariants.{Component, Nothing}
-use Rattle.ical_skeleton.specs.declared.Shape.{Shape}
-use Rattle.ical_skeleton.specs.declared.Shape.TheVariants.{Calendar, Other}
 
 -- the answer tells b, and where the value at i ends if b holds
-abbrev pub Checks : List ℕ → ℕ → Bool → Checked → Type 0
-Checks t i b (Passed e) = (b ≡ true) × Next t i e
-Checks t i b Failed = b ≡ false
+abbrev pub Checks : List ℕ → ℕ → Bool → Option ℕ → Type 0
+Checks t i b (Some e) = (b ≡ true) × Next t i e
+Checks t i b None = b ≡ false
 
 -- a name and properties stand in the array at i, and behind them from p on all that is left of it
 pub record Head (t : List ℕ) (i p : ℕ) : Type 0 where
@@ -32,16 +26,16 @@ pub record Head (t : List ℕ) (i p : ℕ) : Type 0 where
   pub low : i + 1 ≤ p
   pub high : p ≤ length t
 
-abbrev pub Heads : List ℕ → ℕ → Checked → Type 0
-Heads t i (Passed p) = Head t i p
-Heads t i Failed = (d : ℕ) → is_component d (value_at t i) ≡ false
+abbrev pub Heads : List ℕ → ℕ → Option ℕ → Type 0
+Heads t i (Some p) = Head t i p
+Heads t i None = (d : ℕ) → is_component d (value_at t i) ≡ false
 
 -- a component of n levels, d at most, which ends before e; or there is none
-abbrev pub ComponentAt : List ℕ → ℕ → ℕ → Nested → Type 0
-ComponentAt t i d (Component e n) = (is_component d (value_at t i) ≡ true) × (n ≡ levels (component_from d (value_at t i))) × (n ≤ d) × Next t i e
-ComponentAt t i d Nothing = is_component d (value_at t i) ≡ false
+abbrev pub ComponentAt : List ℕ → ℕ → ℕ → Option (ℕ × ℕ) → Type 0
+ComponentAt t i d (Some r) = (is_component d (value_at t i) ≡ true) × (r.1 ≡ levels (component_from d (value_at t i))) × (r.1 ≤ d) × Next t i r.0
+ComponentAt t i d None = is_component d (value_at t i) ≡ false
 
 -- a calendar of n levels, or there is none
-abbrev pub Shapes : List ℕ → Shape → Type 0
-Shapes t (Calendar n) = (is_calendar (value_at t 0) ≡ true) × (n ≡ levels (component_from most_open (value_at t 0)))
-Shapes t Other = is_calendar (value_at t 0) ≡ false
+abbrev pub Shapes : List ℕ → Option ℕ → Type 0
+Shapes t (Some n) = (is_calendar (value_at t 0) ≡ true) × (n ≡ levels (component_from most_open (value_at t 0)))
+Shapes t None = is_calendar (value_at t 0) ≡ false

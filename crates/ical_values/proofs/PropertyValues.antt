@@ -16,21 +16,21 @@ use Rattle.tape.specs.Decode.{tag_at, value_at, list_at}
 use Rattle.tape.specs.Promise.{After, Next, Left}
 use Rattle.values.specs.Sorts.{Sort, float, geo, recur, text, status, sort_splits}
 use Rattle.values.specs.Write.{value_is, value_text, values_are, values_text}
-use Rattle.ical_values.specs.declared.Valued.{Valued}
-use Rattle.ical_values.specs.declared.Valued.TheVariants.{Written, Invalid}
+use Rattle.std.specs.Prelude.{Option, Some, None}
+use Rattle.content.specs.declared.fold.Folder.{Folder}
 use Rattle.ical_values.specs.Parts.{parts_are, fields_text}
 use Rattle.ical_values.specs.Valued.{all_taken, ListedAs, ValuedAs}
 use Rattle.ical_values.proofs.ValueGroups.{alone-stop, alone-more, alone}
 use Rattle.ical_values.proofs.Arrays.{geo-is, geo-text, status-is, status-text}
 
 module _ (many : Bool) (s : Sort) (t : List ℕ) (i : ℕ) (f : FoldPen) (out : List ℕ) where
-  pub as-valued : (several : Bool) (r : Valued) → several ≡ (many and sort_splits s) → ListedAs (code ",") several (value_is s) (value_text s) t i f out r → ValuedAs true many s t i f out r
+  pub as-valued : (several : Bool) (r : Option (ℕ × Folder)) → several ≡ (many and sort_splits s) → ListedAs (code ",") several (value_is s) (value_text s) t i f out r → ValuedAs true many s t i f out r
   unfolding values_are values_text all_taken
-  as-valued several (Written k q) e v = rw (← e) v
-  as-valued several Invalid e v = rw (← e) v
+  as-valued several (Some r) e v = rw (← e) v
+  as-valued several None e v = rw (← e) v
 
 -- GEO and REQUEST-STATUS
-module _ (many : Bool) (t : List ℕ) (i : ℕ) (f : FoldPen) (out : List ℕ) (r : Valued) where
+module _ (many : Bool) (t : List ℕ) (i : ℕ) (f : FoldPen) (out : List ℕ) (r : Option (ℕ × Folder)) where
   pub geo-valued : ListedAs (code ",") false (parts_are 3 float) (fields_text float) t i f out r → ValuedAs true many geo t i f out r
   unfolding sort_splits
   geo-valued v = as-valued many geo t i f out false r (sym (and-false-right many)) (rw (fun_ext geo-is, fun_ext geo-text) at v)

@@ -6,7 +6,6 @@ ghost use Rattle.content.specs.Folding.{folding, Folded};
 ghost use Rattle.values.specs.Texts.{escaped_octet, text_is, text_text};
 ghost use Rattle.ical_values.specs.Valued.{FoldedIf};
 
-use crate::Folds;
 use content::{Folder, fold_all, fold_octet};
 use octets::{Class, is_plain_octet, long_run_end};
 
@@ -18,24 +17,24 @@ fn fold_pair(out: &mut [u8], p: Folder, c: u8) -> Folder
     fold_octet(out, q, c)
 }
 
-// Writes an octet of a text, escaped where it must be.
-fn fold_escaped(out: &mut [u8], p: Folder, c: u8) -> Folds
+// Writes an octet of a text, escaped where it must be, and tells where the pen stands; none, where the octet is none of a text.
+fn fold_escaped(out: &mut [u8], p: Folder, c: u8) -> Option<Folder>
     ensures { FoldedIf (text_octet c) (escaped_octet c) (folding out.old p) out.new result }
 {
     match c {
-        b'\\' | b';' | b',' => Folds::To(fold_pair(out, p, c)),
-        b'\n' => Folds::To(fold_pair(out, p, b'n')),
+        b'\\' | b';' | b',' => Some(fold_pair(out, p, c)),
+        b'\n' => Some(fold_pair(out, p, b'n')),
         _ => {
             if is_plain_octet(c) {
-                return Folds::To(fold_octet(out, p, c));
+                return Some(fold_octet(out, p, c));
             }
-            Folds::Refused
+            None
         }
     }
 }
 
 // Writes a text.
-pub(crate) fn write_text(out: &mut [u8], p: Folder, s: &[u8]) -> Folds
+pub(crate) fn write_text(out: &mut [u8], p: Folder, s: &[u8]) -> Option<Folder>
     ensures { FoldedIf (text_is s.now) (text_text s.now) (folding out.old p) out.new result }
 {
     let mut q = p;
@@ -44,17 +43,9 @@ pub(crate) fn write_text(out: &mut [u8], p: Folder, s: &[u8]) -> Folds
         let end = long_run_end(s, i, Class::TextBare);
         q = fold_all(out, q, &s[i..end]);
         if end == s.len() {
-            return Folds::To(q);
+            return Some(q);
         }
-        let f = fold_escaped(out, q, s[end]);
-        match f {
-            Folds::To(e) => {
-                q = e;
-                i = end + 1;
-            }
-            Folds::Refused => {
-                return Folds::Refused;
-            }
-        }
+        q = fold_escaped(out, q, s[end])?;
+        i = end + 1;
     }
 }

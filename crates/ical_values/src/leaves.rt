@@ -1,4 +1,4 @@
-// Strings and numbers, tested and written.
+// Strings and numbers, tested and written: where the pen stands then; or none, where the octets are not what they should be.
 ghost use Rattle.std.specs.Prelude.{◌∷◌};
 ghost use Rattle.octets.specs.Classes.{upper};
 ghost use Rattle.calendar.specs.Durations.{period_end_is, period_end_text};
@@ -9,7 +9,6 @@ ghost use Rattle.values.specs.Coded.{sort_said};
 ghost use Rattle.values.specs.Write.{value_is, value_text};
 ghost use Rattle.ical_values.specs.Valued.{FoldedIf};
 
-use crate::Folds;
 use crate::escaping::write_text;
 use crate::writing::fold_basic;
 use calendar::durations::{is_duration, is_forward};
@@ -21,41 +20,41 @@ use values::Sort;
 use values::simple::{is_binary, is_float, is_integer};
 
 // Writes octets as they stand, if they may stand.
-fn fold_if(out: &mut [u8], p: Folder, stands: bool, s: &[u8]) -> Folds
+fn fold_if(out: &mut [u8], p: Folder, stands: bool, s: &[u8]) -> Option<Folder>
     ensures { FoldedIf stands s.now (folding out.old p) out.new result }
 {
     if stands {
-        return Folds::To(fold_all(out, p, s));
+        return Some(fold_all(out, p, s));
     }
-    Folds::Refused
+    None
 }
 
 // Writes a text in the extended form in the basic form.
-fn write_form(out: &mut [u8], p: Folder, form: Form, s: &[u8]) -> Folds
+fn write_form(out: &mut [u8], p: Folder, form: Form, s: &[u8]) -> Option<Folder>
     ensures { FoldedIf (form_is form (upper s.now)) (form_text form (upper s.now)) (folding out.old p) out.new result }
 {
     if is_extended(form, s) {
-        return Folds::To(fold_basic(out, p, form, s));
+        return Some(fold_basic(out, p, form, s));
     }
-    Folds::Refused
+    None
 }
 
 // Writes a solidus and a period's end: a date-time in the basic form, a duration without minus in uppercase.
-pub(crate) fn write_end(out: &mut [u8], p: Folder, s: &[u8]) -> Folds
+pub(crate) fn write_end(out: &mut [u8], p: Folder, s: &[u8]) -> Option<Folder>
     ensures { FoldedIf (period_end_is (upper s.now)) (47 ∷ period_end_text (upper s.now)) (folding out.old p) out.new result }
 {
     let q = fold_octet(out, p, b'/');
     if is_extended(Form::DateTime, s) {
-        return Folds::To(fold_basic(out, q, Form::DateTime, s));
+        return Some(fold_basic(out, q, Form::DateTime, s));
     }
     if is_forward(s) {
-        return Folds::To(fold_upper(out, q, s));
+        return Some(fold_upper(out, q, s));
     }
-    Folds::Refused
+    None
 }
 
 // Writes a string, if the sort takes it: a duration in uppercase.
-pub(crate) fn write_string(out: &mut [u8], p: Folder, sort: Sort, s: &[u8]) -> Folds
+pub(crate) fn write_string(out: &mut [u8], p: Folder, sort: Sort, s: &[u8]) -> Option<Folder>
     ensures { FoldedIf (value_is (sort_said sort) (str s.now)) (value_text (sort_said sort) (str s.now)) (folding out.old p) out.new result }
 {
     match sort {
@@ -65,29 +64,29 @@ pub(crate) fn write_string(out: &mut [u8], p: Folder, sort: Sort, s: &[u8]) -> F
         Sort::DateTime => write_form(out, p, Form::DateTime, s),
         Sort::Duration => {
             if !is_duration(s) {
-                return Folds::Refused;
+                return None;
             }
-            Folds::To(fold_upper(out, p, s))
+            Some(fold_upper(out, p, s))
         }
         Sort::Text => write_text(out, p, s),
         Sort::Time => write_form(out, p, Form::Time, s),
         Sort::UtcOffset => write_form(out, p, Form::Offset, s),
-        _ => Folds::Refused,
+        _ => None,
     }
 }
 
 // Writes a number, if the sort takes it: a float as it stands, an integer's value.
-pub(crate) fn write_number(out: &mut [u8], p: Folder, sort: Sort, s: &[u8]) -> Folds
+pub(crate) fn write_number(out: &mut [u8], p: Folder, sort: Sort, s: &[u8]) -> Option<Folder>
     ensures { FoldedIf (value_is (sort_said sort) (num s.now)) (value_text (sort_said sort) (num s.now)) (folding out.old p) out.new result }
 {
     match sort {
         Sort::Float => fold_if(out, p, is_float(s), s),
         Sort::Integer => {
             if !is_integer(s) {
-                return Folds::Refused;
+                return None;
             }
-            Folds::To(fold_integer(out, p, s))
+            Some(fold_integer(out, p, s))
         }
-        _ => Folds::Refused,
+        _ => None,
     }
 }

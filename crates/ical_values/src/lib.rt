@@ -7,19 +7,4 @@ mod single;
 mod tested;
 mod writing;
 
-use content::Folder;
 pub use tested::write_tested;
-
-// Values written: the place behind the end of their group and where the pen stands; or they are not what the sort takes.
-#[derive(Clone, Copy)]
-pub enum Valued {
-    Written(usize, Folder),
-    Invalid,
-}
-
-// A text written, and where the pen stands; or the octets are not what they should be.
-#[derive(Clone, Copy)]
-pub enum Folds {
-    To(Folder),
-    Refused,
-}

@@ -11,10 +11,9 @@ ghost use Rattle.ical_recur.specs.Room.{has_room};
 ghost use Rattle.ical_values.specs.Parts.{simple, parts_are, fields_text};
 ghost use Rattle.ical_values.specs.Valued.{ListedAs, ValuedAs};
 
-use crate::Valued;
 use crate::single::write_one;
 use content::{Folder, fold_octet};
-use ical_recur::{Ruled, write_rule};
+use ical_recur::write_rule;
 use tape::{ARRAY, END, after, behind, count, tag};
 use values::Sort;
 
@@ -27,23 +26,19 @@ fn write_some(
     sort: Sort,
     sep: u8,
     several: bool,
-) -> Valued
+) -> Option<(usize, Folder)>
     requires { ((tag_at t.now at ≡ tag_end) → ⊥) × (simple (sort_said sort) ≡ true) }
     ensures { ListedAs sep several (value_is (sort_said sort)) (value_text (sort_said sort)) t.now at (folding out.old p) out.new result }
 {
     let mut q = p;
     let mut i = at;
     loop {
-        let v = write_one(out, q, t, i, sort);
-        let Valued::Written(e, f) = v else {
-            return Valued::Invalid;
-        };
+        let (e, f) = write_one(out, q, t, i, sort)?;
         if tag(t, e) == END {
-            let n = after(t, e);
-            return Valued::Written(n, f);
+            return Some((after(t, e), f));
         }
         if !several {
-            return Valued::Invalid;
+            return None;
         }
         q = fold_octet(out, f, sep);
         i = e;
@@ -51,40 +46,51 @@ fn write_some(
 }
 
 // Writes the array that stands alone in the group at `at`: two values of the sort or more, but fewer than `limit`, with semicolons between them.
-fn write_parts(out: &mut [u8], p: Folder, t: &[u8], at: usize, sort: Sort, limit: usize) -> Valued
+fn write_parts(
+    out: &mut [u8],
+    p: Folder,
+    t: &[u8],
+    at: usize,
+    sort: Sort,
+    limit: usize,
+) -> Option<(usize, Folder)>
     requires { simple (sort_said sort) ≡ true }
     ensures { ListedAs 44 false (parts_are limit (sort_said sort)) (fields_text (sort_said sort)) t.now at (folding out.old p) out.new result }
 {
     if tag(t, at) != ARRAY {
-        return Valued::Invalid;
+        return None;
     }
     let a = after(t, at);
     let n = count(t, a, limit);
     if n < 2 {
-        return Valued::Invalid;
+        return None;
     }
     if n == limit {
-        return Valued::Invalid;
+        return None;
     }
-    let v = write_some(out, p, t, a, sort, b';', true);
-    let Valued::Written(e, q) = v else {
-        return Valued::Invalid;
-    };
+    let (e, q) = write_some(out, p, t, a, sort, b';', true)?;
     if tag(t, e) != END {
-        return Valued::Invalid;
+        return None;
     }
-    Valued::Written(after(t, e), q)
+    Some((after(t, e), q))
 }
 
 // There may be several values, or none.
 fn may_be_several(many: bool, sort: Sort) -> bool
     ensures { result ≡ (many and sort_splits (sort_said sort)) }
 {
-    if many { sort.splits() } else { false }
+    many && sort.splits()
 }
 
 // Writes the values of any sort but recurrence rules.
-fn write_values(out: &mut [u8], p: Folder, t: &[u8], at: usize, sort: Sort, many: bool) -> Valued
+fn write_values(
+    out: &mut [u8],
+    p: Folder,
+    t: &[u8],
+    at: usize,
+    sort: Sort,
+    many: bool,
+) -> Option<(usize, Folder)>
     requires { (sort ≡ Sort.Recur) → ⊥ }
     ensures { ValuedAs true many (sort_said sort) t.now at (folding out.old p) out.new result }
 {
@@ -97,16 +103,17 @@ fn write_values(out: &mut [u8], p: Folder, t: &[u8], at: usize, sort: Sort, many
                 return write_some(out, p, t, at, sort, b',', several);
             }
             if several {
-                return Valued::Written(after(t, at), p);
+                return Some((after(t, at), p));
             }
-            Valued::Invalid
+            None
         }
     }
 }
 
-// Writes the values from `at` to the end of their group, if the sort takes them; several of them only where the name may have many and the sort
-// splits. Else `out` is as before in front of the pen, and the code's choice behind. The text of a recurrence object is laid into `rule`, which is as
-// long as the tape, or the values are invalid; it keeps its length, and what is left in it is the code's choice.
+// Writes the values from `at` to the end of their group, if the sort takes them, and tells the place behind that end and where the pen stands; several
+// of them only where the name may have many and the sort splits. Else `out` is as before in front of the pen, and the code's choice behind. The text of
+// a recurrence object is laid into `rule`, which is as long as the tape, or the values are invalid; it keeps its length, and what is left in it is the
+// code's choice.
 pub fn write_tested(
     out: &mut [u8],
     p: Folder,
@@ -115,23 +122,19 @@ pub fn write_tested(
     sort: Sort,
     many: bool,
     rule: &mut [u8],
-) -> Valued
+) -> Option<(usize, Folder)>
     ensures { ValuedAs (has_room t.now rule.old) many (sort_said sort) t.now at (folding out.old p) out.new result }
 {
     if rule.len() < t.len() {
-        return Valued::Invalid;
+        return None;
     }
     let Sort::Recur = sort else {
         return write_values(out, p, t, at, sort, many);
     };
     let e = behind(t, at);
     if tag(t, e) != END {
-        return Valued::Invalid;
+        return None;
     }
-    let n = after(t, e);
-    let w = write_rule(out, p, t, at, rule);
-    match w {
-        Ruled::Written(q) => Valued::Written(n, q),
-        Ruled::NoRule => Valued::Invalid,
-    }
+    let q = write_rule(out, p, t, at, rule)?;
+    Some((after(t, e), q))
 }

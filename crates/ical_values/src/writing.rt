@@ -10,8 +10,5 @@ use content::{Folder, fold_all};
 pub(crate) fn fold_basic(out: &mut [u8], p: Folder, form: Form, s: &[u8]) -> Folder
     ensures { Folded (folding out.old p) (form_text form (upper s.now)) (folding out.new result) }
 {
-    let b = basic(form, s);
-    let o = b.octets;
-    let n = b.len;
-    fold_all(out, p, &o[0..n])
+    fold_all(out, p, basic(form, s).as_slice())
 }

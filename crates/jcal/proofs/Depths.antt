@@ -16,16 +16,11 @@ use Rattle.content.specs.Line.{Line}
 use Rattle.conversion_theory.specs.Tree.{Property, levels, levels_in}
 use Rattle.conversion_theory.specs.Structure.{Event, begins, ends, carries, stray, Nest, fresh, closed, inside, fault, left, nest, nest_after}
 use Rattle.jcal.specs.Components.{behind_end, level_at, component_at}
-use Rattle.jcal.proofs.OpenComponents.{nest-closed, nest-fault}
+use Rattle.jcal.proofs.OpenComponents.{nest-closed, fault-stays}
 use Rattle.jcal.proofs.Levels.{level-ends, level-left, level_holds, level-passed, level-begins, level-entered}
 
 pub not-fresh {ℓ} : {P : Type ℓ} → ◌≡◌ {A = Nest} fresh closed → P
 not-fresh e = let z : ◌≡◌ {A = ℕ} 0 1 = cc in absurd (omega arith)
-
-fault-stays : (k : ℕ) (es : List (Event Line)) → nest_after (fault k) es ≡ fault k
-unfolding nest_after
-fault-stays k [] = refl
-fault-stays k (e ∷ es) = rw (nest-fault k e) (fault-stays k es)
 
 -- a fault on the way is none that closes
 faulty {ℓ} : {P : Type ℓ} (k : ℕ) (es : List (Event Line)) → nest_after (fault k) es ≡ closed → P

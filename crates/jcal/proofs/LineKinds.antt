@@ -13,7 +13,10 @@ use Rattle.octets.specs.Search.{until}
 use Rattle.content.specs.Lines.{is_lf}
 use Rattle.octets.proofs.Search.{scan-is}
 use Rattle.conversion_theory.specs.Structure.{bounds, event_of}
-use Rattle.jcal.specs.Events.{line_from, LineAt, name_from, line_told, Named, TellsLine}
+use Rattle.std.specs.Prelude.{Some, None}
+use Rattle.std.specs.declared.option.Option.{Option}
+use Rattle.jcal.specs.Events.{line_from, LineAt, name_from, line_told, Named, TellsLine, LinesOut, GivesLine}
+use Rattle.jcal.specs.declared.events.ToldLine.{ToldLine}
 use Rattle.jcal.specs.declared.events.LineKind.{LineKind}
 use Rattle.jcal.specs.declared.events.LineKind.TheVariants.{Opens, Closes, Plain, Broken}
 use Rattle.jcal.proofs.Heads.{alike-length, Bound, bound_at}
@@ -101,3 +104,8 @@ module _ (s : List ℕ) (i e : ℕ) (h : LineAt s i e) where
     pub tells-plain : named (octets "END") ≡ false → TellsLine s i e Plain
     unfolding line_told event_of
     tells-plain q = record { is = rw (named-is (octets "BEGIN") false n, named-is (octets "END") false q); names = tt }
+
+-- a line that is not given: none is left
+pub given_none : {s t : List ℕ} {i j : ℕ} (r : Option ToldLine) → GivesLine s i r t j → ((l : ToldLine) → r ≡ Some l → ⊥) → LinesOut s i t j
+given_none None g o = g
+given_none (Some l) g o = absurd (o l refl)

@@ -14,14 +14,15 @@ use Rattle.content.specs.Line.{Line, line_of}
 use Rattle.conversion_theory.specs.Tree.{Property}
 use Rattle.conversion_theory.specs.Structure.{Event, begins, ends, carries, stray}
 use Rattle.jcal_properties.specs.Placed.{Places as PlacesProperty}
-use Rattle.jcal_properties.specs.declared.Placed.{Placed}
-use Rattle.jcal_properties.specs.declared.Placed.TheVariants.{At, Failed}
+use Rattle.std.specs.declared.result.Result.{Result}
+use Rattle.std.specs.Prelude.{Ok, Err}
+use Rattle.octets.specs.declared.Refusal.{Refusal}
 use Rattle.jcal.specs.Events.{events_in, line_from, LineAt, name_from, line_told, TellsLine}
 use Rattle.jcal.specs.Order.{may_stand, ends_here, ordered_from}
 use Rattle.jcal.specs.Components.{property_or, is_accepted, reads, event_tested, each_tested, next_of, leading_comma, properties_text}
-use Rattle.jcal.specs.Placing.{ready, ItemStands, PlacesItem, Behind, EndNext, Finds, place_of, PartPlaced}
+use Rattle.jcal.specs.Placing.{ready, ItemStands, PlacesItem, Behind, EndNext, Finds, place_of, PartWritten}
 use Rattle.jcal.specs.declared.components.NextItem.{NextItem}
-use Rattle.jcal.specs.declared.components.NextItem.TheVariants.{Sub, Close, Refused}
+use Rattle.jcal.specs.declared.components.NextItem.TheVariants.{Sub, Close}
 use Rattle.jcal.specs.declared.events.LineKind.{LineKind}
 use Rattle.jcal.specs.declared.events.LineKind.TheVariants.{Opens, Closes, Plain, Broken}
 use Rattle.jcal.proofs.OpenComponents.{events-none, events-told}
@@ -31,23 +32,15 @@ use Rattle.jcal.proofs.PropertyTests.{turn-passed, turn-failed}
 use Rattle.jcal.proofs.NextLines.{accepts-tested, next-tested}
 
 -- a comma and a property are an item
-pub item-placed : (a : Answer Property) (first : Bool) (out : List ℕ) (r : Placed) {p m : Pen} → Wrote p (leading_comma first) m → PlacesProperty a m out r → PlacesItem a first p out r
+pub item-placed : (a : Answer Property) (first : Bool) (out : List ℕ) (r : Result ℕ Refusal) {p m : Pen} → Wrote p (leading_comma first) m → PlacesProperty a m out r → PlacesItem a first p out r
 unfolding is_accepted property_or
-item-placed a first out (At q) w z = record { accepts = rw z.read; wrote = rw z.read (behind-it w z.wrote) }
-item-placed a first out (Failed why) w z = z.0
+item-placed a first out (Ok q) w z = record { accepts = rw z.read; wrote = rw z.read (behind-it w z.wrote) }
+item-placed a first out (Err why) w z = z.0
 
 -- what stands next is found from an earlier line on
 pub finds-from : (s : List ℕ) (i j : ℕ) (es fs : List (Event Line)) (r : NextItem) → i ≤ j → es ≡ fs → Finds s j es r → Finds s i fs r
 finds-from s i j es fs (Sub n e at) l v z = record { is = rw v at z.is; named = z.named; further = omega (arith, z.further) }
 finds-from s i j es fs (Close k at) l v z = record { is = rw v at z.is; further = omega (arith, z.further) }
-finds-from s i j es fs (Refused why) l v z = z
-
--- a part of a component is written, and what stands next is found
-pub places-found : (f : Line → Answer Property) (s : List ℕ) (i : ℕ) (es fs : List (Event Line)) (p : Pen) (text out : List ℕ) (r : NextItem)
-    → Finds s i fs r → Wrote p text (pen out (place_of r)) → each_tested f es ≡ each_tested f (next_of fs) → PartPlaced f s i es fs p text out r
-places-found f s i es fs p text out (Sub n e at) z w t = record { finds = z; wrote = w; tested = t }
-places-found f s i es fs p text out (Close k at) z w t = record { finds = z; wrote = w; tested = t }
-places-found f s i es fs p text out (Refused why) z w t = absurd z
 
 and-more : {x y : List ℕ} → x ≡ y → x ++ octets ",[" ≡ y ++ octets ",["
 and-more e = rw e
@@ -122,7 +115,7 @@ module _ (f : Line → Answer Property) (s : List ℕ) (from : ℕ) (b : Bool) (
       unfolding line_told
       begins-here = here (Opens n) t
 
-      pub held-sub : b ≡ true → from ≤ i → (out : List ℕ) (at : ℕ) → Wrote q (octets "],[") (pen out at) → PartPlaced f s from es es p (properties_text f true es ++ octets ",[") out (Sub n e at)
+      pub held-sub : b ≡ true → from ≤ i → (out : List ℕ) (at : ℕ) → Wrote q (octets "],[") (pen out at) → PartWritten f s from es es p (properties_text f true es ++ octets ",[") out (Sub n e at)
       unfolding ready next_of ordered_from may_stand ends_here
       held-sub o l out at w =
           let x : Held f true es p (begins (name_from s n) ∷ next) first q = rw o at begins-here in
@@ -153,11 +146,13 @@ module _ (f : Line → Answer Property) (s : List ℕ) (from : ℕ) (b : Bool) (
       unfolding next_of
       ends_next o l = record { is = (ends-here.passed o).0; further = omega (arith, h.ends) }
 
-      pub held-ends : (out : List ℕ) (r : NextItem) → Finds s from es r → Wrote q (octets "],[") (pen out (place_of r)) → PartPlaced f s from es es p (properties_text f true es ++ octets ",[") out r
+      pub held-ends : (out : List ℕ) (r : NextItem) → Finds s from es r → Wrote q (octets "],[") (pen out (place_of r)) → PartWritten f s from es es p (properties_text f true es ++ octets ",[") out r
       unfolding ready ordered_from may_stand ends_here
-      held-ends out r z w =
-          places-found f s from es es p _ out r z (leads-last ends-here.leads w (and-more (properties-ends f first (name_from s n) next)))
-          (up_to b (ends (name_from s n) ∷ next) ends-here ends-here.fit)
+      held-ends out r z w = record {
+        finds = z;
+        wrote = leads-last ends-here.leads w (and-more (properties-ends f first (name_from s n) next));
+        tested = up_to b (ends (name_from s n) ∷ next) ends-here ends-here.fit;
+      }
 
     -- a BEGIN or END that is neither
     module _ (t : TellsLine s i e Broken) where
@@ -183,7 +178,9 @@ module _ (f : Line → Answer Property) (s : List ℕ) (from : ℕ) (b : Bool) (
     unfolding next_of
     none-next o k = record { is = rw (events-none s i l) (none_here.passed o).0; further = k }
 
-    pub held_none : (out : List ℕ) (r : NextItem) → Finds s from es r → Wrote q (octets "],[") (pen out (place_of r)) → PartPlaced f s from es es p (properties_text f true es ++ octets ",[") out r
-    held_none out r z w =
-        places-found f s from es es p _ out r z (leads-last none_here.leads w (and-more (properties-none f first)))
-        (up_to b [] none_here (ready-none f b))
+    pub held_none : (out : List ℕ) (r : NextItem) → Finds s from es r → Wrote q (octets "],[") (pen out (place_of r)) → PartWritten f s from es es p (properties_text f true es ++ octets ",[") out r
+    held_none out r z w = record {
+      finds = z;
+      wrote = leads-last none_here.leads w (and-more (properties-none f first));
+      tested = up_to b [] none_here (ready-none f b);
+    }

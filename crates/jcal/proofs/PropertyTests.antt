@@ -4,8 +4,7 @@ use mathlib.Core.Path.{◌≡◌, refl, sym, ap, ◌∙◌}
 use mathlib.Core.List.{List, ◌∷◌}
 use native.Mathlib.Omega.{arith}
 use lib.ListN.{length, take, drop}
-use Rattle.octets.specs.Answers.{Answer, refused, accepted, then, number}
-use Rattle.octets.specs.declared.Refusal.{Refusal}
+use Rattle.octets.specs.Answers.{Answer, refused, accepted, then}
 use Rattle.types.specs.Table.{Table}
 use Rattle.content.specs.Line.{Line, line_of}
 use Rattle.content.specs.Reading.{room_for_lines}
@@ -13,10 +12,7 @@ use Rattle.conversion_theory.specs.Tree.{Property}
 use Rattle.conversion_theory.specs.Structure.{Event, begins, ends, carries, stray}
 use Rattle.conversion_theory.specs.Growth.{behind_event, each_property}
 use Rattle.conversion_theory.specs.Property.{read_property}
-use Rattle.jcal_properties.specs.Passed.{test_said}
 use Rattle.jcal_properties.specs.Placed.{line_read}
-use Rattle.jcal_properties.specs.declared.Tested.{Tested}
-use Rattle.jcal_properties.specs.declared.Tested.TheVariants.{Passed, Failed}
 use Rattle.jcal_properties.proofs.PropertyParts.{line-fits}
 use Rattle.jcal.specs.Events.{event_at, events_in, line_from, LineAt, line_told, TellsLine}
 use Rattle.jcal.specs.Components.{event_tested, each_tested}
@@ -24,15 +20,6 @@ use Rattle.jcal.specs.declared.events.LineKind.{LineKind}
 use Rattle.jcal.specs.declared.events.LineKind.TheVariants.{Opens, Closes, Plain, Broken}
 use Rattle.jcal.proofs.LineKinds.{line-is}
 use Rattle.jcal.proofs.OpenComponents.{events-here, events-none}
-
--- what a returned `Tested` says, where it is known which
-pub passed-as : {r : Tested} {a : Answer (Unit {0})} → test_said r ≡ a → r ≡ Passed → accepted tt ≡ a
-unfolding test_said
-passed-as e q = rw q at e
-
-pub failed-as : {r : Tested} {w : Refusal} {a : Answer (Unit {0})} → test_said r ≡ a → r ≡ Failed w → refused (number w) ≡ a
-unfolding test_said
-failed-as e q = rw q at e
 
 behind-tested : (e : Event Property) (a : Answer (List (Event Property))) → then (behind_event e a) (λ _. accepted (tt {0})) ≡ then a (λ _. accepted tt)
 unfolding then behind_event

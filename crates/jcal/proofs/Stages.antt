@@ -6,13 +6,14 @@ use mathlib.Core.List.{List, [], ◌∷◌}
 use native.Mathlib.Omega.{arith}
 use borrow.Author.Tests.{le-leb, lt-leb}
 use lib.ListN.{length, take, drop}
+use Rattle.std.specs.declared.result.Result.{Result}
+use Rattle.std.specs.Prelude.{Ok, Err}
 use Rattle.octets.specs.Basics.{all}
 use Rattle.octets.specs.Limits.{most_text, most_levels}
 use Rattle.octets.specs.Pen.{pen}
-use Rattle.octets.specs.Answers.{Answer, refused, accepted, then, unless, number, answer, outcome, finished}
+use Rattle.octets.specs.Answers.{answered, Answer, refused, accepted, then, unless, number, answer, outcome, finished}
 use Rattle.octets.specs.declared.Refusal.{Refusal}
-use Rattle.octets.specs.declared.Converted.{Converted}
-use Rattle.octets.specs.declared.Converted.TheVariants.{Written, Refused}
+use Rattle.std.specs.Prelude.{Ok, Err}
 use Rattle.octets.proofs.Cases.{never}
 use Rattle.octets.proofs.Positions.{upto}
 use Rattle.octets.proofs.Answers.{not-accepted, accepted-same, finished-answer, refused-alike}
@@ -26,8 +27,8 @@ use Rattle.content.specs.Buffer.{laid_out}
 use Rattle.content.specs.Lines.{lines_of, cut_lines}
 use Rattle.content.specs.Form.{content_lines}
 use Rattle.content.specs.Reading.{lines_told, LaidWithin, ReadLines}
-use Rattle.content.specs.declared.reading.Lines.{Lines}
-use Rattle.content.specs.declared.reading.Lines.TheVariants.{Laid}
+use Rattle.std.specs.Prelude.{Ok}
+use Rattle.std.specs.declared.result.Result as ended
 use Rattle.content.proofs.LineRuns.{laid-short}
 use Rattle.conversion_theory.specs.Tree.{Property, levels}
 use Rattle.conversion_theory.specs.Structure.{Event, begins, Nest, fresh, closed, inside, fault, nest_after, verdict, structured}
@@ -41,9 +42,6 @@ use Rattle.jcal.specs.Placing.{ready, place_of, PartWritten}
 use Rattle.jcal.specs.declared.components.NextItem.{NextItem}
 use Rattle.jcal.specs.Order.{may_stand, ends_here, ordered_from, ordered}
 use Rattle.jcal.specs.Stages.{properties_jcal, events_jcal, lines_jcal}
-use Rattle.jcal.specs.Nesting.{pairing}
-use Rattle.jcal.specs.declared.nesting.Structure.{Structure}
-use Rattle.jcal.specs.declared.nesting.Structure.TheVariants.{Paired, Failed}
 use Rattle.jcal.specs.declared.events.LineKind.{LineKind}
 use Rattle.jcal.specs.declared.events.LineKind.TheVariants.{Opens, Closes, Plain, Broken}
 use Rattle.jcal.proofs.Levels.{grown, tree_is}
@@ -104,14 +102,13 @@ verdict-closed closed a b e = (refl, accepted-same e)
 verdict-closed (inside m ms) a b e = not-accepted (sym e)
 verdict-closed (fault k) a b e = not-accepted (sym e)
 
--- what a returned `Structure` says, where it is known which
-pub structure-passed : {r : Structure} {b : Bool} (es : List (Event Line)) → pairing r ≡ verdict (nest_after fresh es) (ordered es) → r ≡ Paired b → (nest_after fresh es ≡ closed) × (b ≡ ordered es)
-unfolding pairing
+-- what is answered, where it is known which
+pub structure-passed : {r : Result Bool Refusal} {b : Bool} (es : List (Event Line)) → answered r ≡ verdict (nest_after fresh es) (ordered es) → r ≡ Ok b → (nest_after fresh es ≡ closed) × (b ≡ ordered es)
 structure-passed {r} {b} es e q = verdict-closed (nest_after fresh es) (ordered es) b (rw q at e)
 
 module _ (f : Line → Answer Property) (es : List (Event Line)) where
-  pub structure-failed : {r : Structure} {w : Refusal} → pairing r ≡ verdict (nest_after fresh es) (ordered es) → r ≡ Failed w → refused (number w) ≡ events_jcal f es
-  unfolding events_jcal structured pairing
+  pub structure-failed : {r : Result Bool Refusal} {w : Refusal} → answered r ≡ verdict (nest_after fresh es) (ordered es) → r ≡ Err w → refused (number w) ≡ events_jcal f es
+  unfolding events_jcal structured
   structure-failed {r} {w} e q = verdict-refused (nest_after fresh es) (ordered es) es (properties_jcal f) (number w) (rw q at e)
 
   pub pairs : nest_after fresh es ≡ closed → properties_jcal f es ≡ events_jcal f es
@@ -131,7 +128,7 @@ module _ (f : Line → Answer Property) where
   events-tree (refused n) = refl
   events-tree (accepted es) = properties-tree (each_property f es)
 
-  module _ (text b after : List ℕ) (r : Lines) (l : length text < length b) (k : ReadLines text b after r) where
+  module _ (text b after : List ℕ) (r : ended.Result ℕ Refusal) (l : length text < length b) (k : ReadLines text b after r) where
     told-tested : lines_told after r ≡ content_lines (lines_of text)
     told-tested = rw (le-leb (length (laid_out (lines_of text))) (length b) (omega (arith, laid-short text))) at k.told
 
@@ -139,13 +136,13 @@ module _ (f : Line → Answer Property) where
     unfolding lines_jcal read_lines_by then
     lines-failed n e = rw (sym told-tested ∙ e)
 
-    pub lines-laid : (n : ℕ) → r ≡ Laid n → events_jcal f (events_in (take (n - 0) (drop 0 after))) ≡ lines_jcal f (lines_of text)
+    pub lines-laid : (n : ℕ) → r ≡ Ok n → events_jcal f (events_in (take (n - 0) (drop 0 after))) ≡ lines_jcal f (lines_of text)
     unfolding lines_jcal read_lines_by then events_jcal events_in
     lines-laid n q =
         let t : content_lines (lines_of text) ≡ accepted (cut_lines (take n after)) = sym told-tested ∙ (unfold lines_told in rw q) in
         rw (t, upto after n) (sym (events-tree (structured (events_in (take n after)))))
 
-pub laid-within : (m n : ℕ) (r : Lines) → LaidWithin m r → r ≡ Laid n → n ≤ m
+pub laid-within : (m n : ℕ) (r : ended.Result ℕ Refusal) → LaidWithin m r → r ≡ Ok n → n ≤ m
 laid-within m n r h q = rw q at h
 
 -- 1 and 2
@@ -164,15 +161,15 @@ module _ (hex text : List ℕ) where
     rows_right t e = rw (le-leb (length text) most_text h, e)
 
 -- the rows that are read
-module _ (hex o b : List ℕ) (r : Converted) (h : room_for_rows ≤ length o) (k : outcome r b ≡ answer (laid_of hex) o) where
-  pub rows-read : (n : ℕ) → r ≡ Written n → Read_table hex b n
+module _ (hex o b : List ℕ) (r : Result ℕ Refusal) (h : room_for_rows ≤ length o) (k : outcome r b ≡ answer (laid_of hex) o) where
+  pub rows-read : (n : ℕ) → r ≡ Ok n → Read_table hex b n
   rows-read n q = rows_written hex o b h n (rw q at k)
 
   module _ (text : List ℕ) (l : length text ≤ most_text) where
-    pub rows-laid : (n : ℕ) → r ≡ Written n → lines_jcal (read_property (table_in (take (n - 0) (drop 0 b)))) (lines_of text) ≡ to_jcal hex text
+    pub rows-laid : (n : ℕ) → r ≡ Ok n → lines_jcal (read_property (table_in (take (n - 0) (drop 0 b)))) (lines_of text) ≡ to_jcal hex text
     rows-laid n q = rows_right hex text l _ (rw (upto b n) (rows-read n q).table)
 
-    pub rows-malformed : (w : Refusal) → r ≡ Refused w → refused (number w) ≡ to_jcal hex text
+    pub rows-malformed : (w : Refusal) → r ≡ Err w → refused (number w) ≡ to_jcal hex text
     rows-malformed w q = let e = rows-refused hex o b h w (rw q at k) in rw e.1 (rows-wrong hex text l 2 e.0)
 
 -- the calendar

@@ -1,10 +1,12 @@
 -- The events of the lines in a buffer, and how the code tells one: a BEGIN or END line by the place of its component's name.
-use Rattle.std.specs.Prelude.{ℕ, ◌+◌, ◌≤◌, ◌<◌, ◌≡◌, List, map, length, drop}
+use Rattle.std.specs.Prelude.{ℕ, ◌+◌, ◌≤◌, ◌<◌, ◌≡◌, List, map, length, drop, Some, None}
+use Rattle.std.specs.declared.option.Option.{Option}
 use Rattle.octets.specs.Classes.{lower}
 use Rattle.content.specs.Line.{Line, line_of}
 use Rattle.octets.specs.Search.{until}
 use Rattle.content.specs.Lines.{is_lf, cut_lines}
 use Rattle.conversion_theory.specs.Structure.{Event, begins, ends, carries, stray, event_of}
+use Rattle.jcal.specs.declared.events.ToldLine.{ToldLine}
 use Rattle.jcal.specs.declared.events.LineKind.{LineKind}
 use Rattle.jcal.specs.declared.events.LineKind.TheVariants.{Opens, Closes, Plain, Broken}
 
@@ -55,3 +57,21 @@ pub record TellsLine (s : List ℕ) (i e : ℕ) (k : LineKind) : Type 0 where
 -- the first line begins a component, whose name stands from n to e
 abbrev pub Outermost : List ℕ → ℕ → ℕ → Type 0
 Outermost s e n = TellsLine s 0 e (Opens n)
+
+-- of a buffer s, and its lines from the one at i on: the first of them is this one; t is the buffer still, and the others begin at j
+pub record LineGiven (s : List ℕ) (i : ℕ) (l : ToldLine) (t : List ℕ) (j : ℕ) : Type 0 where
+  pub begins : l.at ≡ i
+  pub is : LineAt s i l.end
+  pub tells : TellsLine s i l.end l.kind
+  pub same : t ≡ s
+  pub on : j ≡ l.end + 1
+
+-- no line is left
+pub record LinesOut (s : List ℕ) (i : ℕ) (t : List ℕ) (j : ℕ) : Type 0 where
+  pub past : length s ≤ i
+  pub same : t ≡ s
+  pub on : j ≡ i
+
+abbrev pub GivesLine : List ℕ → ℕ → Option ToldLine → List ℕ → ℕ → Type 0
+GivesLine s i None t j = LinesOut s i t j
+GivesLine s i (Some l) t j = LineGiven s i l t j

@@ -1,5 +1,6 @@
 -- What functions of the code promise.
 pub mod Events
+pub mod NameProps
 pub mod Nesting
 pub mod Order
 pub mod Components

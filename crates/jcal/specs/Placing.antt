@@ -1,20 +1,20 @@
 -- What the functions promise that write a component.
-use Rattle.std.specs.Prelude.{ℕ, ◌+◌, ◌≤◌, ◌≡◌, Bool, true, List, [], ◌∷◌, ◌++◌, drop}
+use Rattle.std.specs.Prelude.{ℕ, ◌+◌, ◌≤◌, ◌≡◌, Bool, true, List, [], ◌∷◌, ◌++◌, drop, Ok, Err}
+use Rattle.std.specs.declared.result.Result.{Result}
 use Rattle.octets.specs.Basics.{octets, pick, all}
 use Rattle.octets.specs.Pen.{Pen, pen, Wrote}
 use Rattle.octets.specs.Answers.{Answer, refused, number}
+use Rattle.octets.specs.declared.Refusal.{Refusal}
 use Rattle.json_text.specs.Print.{print}
 use Rattle.content.specs.Line.{Line}
 use Rattle.conversion_theory.specs.Tree.{Property}
 use Rattle.conversion_theory.specs.Structure.{Event, begins, ends}
 use Rattle.conversion_theory.specs.Jcal.{property_json}
-use Rattle.jcal_properties.specs.declared.Placed.{Placed}
-use Rattle.jcal_properties.specs.declared.Placed.TheVariants.{At, Failed}
 use Rattle.jcal.specs.Events.{events_in, name_from, Named}
 use Rattle.jcal.specs.Order.{ordered_from}
 use Rattle.jcal.specs.Components.{property_or, is_accepted, reads, each_tested, behind_end, next_of, leading_comma}
 use Rattle.jcal.specs.declared.components.NextItem.{NextItem}
-use Rattle.jcal.specs.declared.components.NextItem.TheVariants.{Sub, Close, Refused}
+use Rattle.jcal.specs.declared.components.NextItem.TheVariants.{Sub, Close}
 
 -- lines that can be written: in order, directly behind an END line or not; or not in order, with no property in fault
 unfoldable pub ready : (Line → Answer Property) → Bool → Bool → List (Event Line) → Bool
@@ -25,9 +25,9 @@ pub record ItemStands (a : Answer Property) (first : Bool) (p q : Pen) : Type 0 
   pub accepts : is_accepted a ≡ true
   pub wrote : Wrote p (leading_comma first ++ print (property_json (property_or a))) q
 
-abbrev pub PlacesItem : Answer Property → Bool → Pen → List ℕ → Placed → Type 0
-PlacesItem a first p out (At q) = ItemStands a first p (pen out q)
-PlacesItem a first p out (Failed why) = a ≡ refused (number why)
+abbrev pub PlacesItem : Answer Property → Bool → Pen → List ℕ → Result ℕ Refusal → Type 0
+PlacesItem a first p out (Ok q) = ItemStands a first p (pen out q)
+PlacesItem a first p out (Err why) = a ≡ refused (number why)
 
 -- the line at r, not before i, begins the events behind the END of the component whose lines begin at i
 pub record Behind (s : List ℕ) (i r : ℕ) : Type 0 where
@@ -44,17 +44,15 @@ pub record EndNext (s : List ℕ) (i : ℕ) (es : List (Event Line)) (j : ℕ) :
   pub is : ends [] ∷ events_in (drop j s) ≡ next_of es
   pub further : i ≤ j
 
--- by what is answered of what stands next in es; it is no refusal
+-- by what is answered of what stands next in es
 abbrev pub Finds : List ℕ → ℕ → List (Event Line) → NextItem → Type 0
 Finds s i es (Sub n e at) = SubNext s i es n e
 Finds s i es (Close j at) = EndNext s i es j
-Finds s i es (Refused why) = ⊥
 
 -- the place of the next octet to write
 abbrev pub place_of : NextItem → ℕ
 place_of (Sub n e at) = at
 place_of (Close j at) = at
-place_of (Refused why) = 0
 
 -- what stands next from the line at i on, and the place handed on
 pub record NextFound (s : List ℕ) (i at : ℕ) (r : NextItem) : Type 0 where
@@ -73,7 +71,6 @@ pub record PartWritten (f : Line → Answer Property) (s : List ℕ) (i : ℕ) (
   pub tested : each_tested f es ≡ each_tested f (next_of fs)
 
 -- by what is answered of a part of a component: it is written, or the first property in fault
-abbrev pub PartPlaced : (Line → Answer Property) → List ℕ → ℕ → List (Event Line) → List (Event Line) → Pen → List ℕ → List ℕ → NextItem → Type 0
-PartPlaced f s i es fs p text out (Sub n e at) = PartWritten f s i es fs p text out (Sub n e at)
-PartPlaced f s i es fs p text out (Close j at) = PartWritten f s i es fs p text out (Close j at)
-PartPlaced f s i es fs p text out (Refused why) = each_tested f es ≡ refused (number why)
+abbrev pub PartPlaced : (Line → Answer Property) → List ℕ → ℕ → List (Event Line) → List (Event Line) → Pen → List ℕ → List ℕ → Result NextItem Refusal → Type 0
+PartPlaced f s i es fs p text out (Ok r) = PartWritten f s i es fs p text out r
+PartPlaced f s i es fs p text out (Err why) = each_tested f es ≡ refused (number why)

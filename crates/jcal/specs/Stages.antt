@@ -9,10 +9,6 @@ use Rattle.conversion_theory.specs.Growth.{each_property, tree_of}
 use Rattle.conversion_theory.specs.Jcal.{jcal_of}
 use Rattle.conversion_theory.specs.ToJcal.{read_lines_by}
 
--- the longest text for which a short buffer is lent
-abbrev pub short_text : ℕ
-short_text = 4096
-
 -- from 7, 8 and 9 on
 unfoldable pub properties_jcal : (Line → Answer Property) → List (Event Line) → Answer (List ℕ)
 properties_jcal f es = then (each_property f es) (λ ps. accepted (print (jcal_of (tree_of ps))))

@@ -4,7 +4,9 @@
 mod components;
 mod conversion;
 mod events;
+mod named;
 mod nesting;
+mod paired;
 mod testing;
 
 pub use conversion::to_jcal;

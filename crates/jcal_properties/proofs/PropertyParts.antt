@@ -27,10 +27,11 @@ use Rattle.types.specs.Table.{Row, Table, find}
 use Rattle.types.proofs.Types.{name-lower, nameless}
 use Rattle.content.specs.Line.{Param, Line, pieces, line_of}
 use Rattle.content.specs.Parts.{other_pieces, params_in, line_at, Cut}
-use Rattle.content.specs.Kinds.{value_type_said, Bounded}
+use Rattle.content.specs.Kinds.{value_type_said}
 use Rattle.content.specs.declared.parts.Parts.{Parts}
-use Rattle.content.specs.declared.params.ValueType.{ValueType}
-use Rattle.content.specs.declared.params.ValueType.TheVariants.{Absent, Stated, Faulty}
+use Rattle.std.specs.Prelude.{Some, None, Ok, Err, is_ok}
+use Rattle.std.specs.declared.option.Option as coded
+use Rattle.std.specs.declared.result.Result as ended
 use Rattle.content.specs.Parameters.{called, name_twice, value_type, without_value, encodes, is_encoded, staying, members_of}
 use Rattle.content.specs.Reading.{room_for_lines}
 use Rattle.values.specs.Base64.{binary_fits, is_decoded}
@@ -41,8 +42,9 @@ use Rattle.conversion_theory.specs.Property.{type_of, code_of, many_of, decodes_
 use Rattle.conversion_theory.specs.Jcal.{property_json}
 use Rattle.jcal_properties.specs.Passed.{params_tested}
 use Rattle.jcal_properties.specs.Placed.{line_with, PlacesValues, FrontStands, line_read, PropertyWritten, Places}
-use Rattle.jcal_properties.specs.declared.Placed.{Placed}
-use Rattle.jcal_properties.specs.declared.Placed.TheVariants.{At, Failed}
+use Rattle.octets.specs.declared.Refusal.{Refusal}
+use Rattle.std.specs.declared.result.Result.{Result}
+use Rattle.std.specs.declared.result.Result.TheVariants.{Ok, Err}
 use Rattle.jcal_properties.specs.Shown.{named_type, front_text}
 
 -- ENCODING is asked for with VALUE or without it
@@ -120,27 +122,31 @@ module _ (l : List ℕ) (p : Parts) (k : Cut l p) where
   pub parts-read : (t : Table) → length l ≤ room_for_lines → line_read t l ≡ read_property t parted
   parts-read t h = line-fits t l h ∙ ap (read_property t) (sym parts-line)
 
--- what is told of VALUE
-pub bounded-as : (n : ℕ) (k : ValueType) {m : ValueType} → Bounded n k → k ≡ m → Bounded n m
-bounded-as n k h q = rw q at h
-
 -- number 7
 pub params-twice : (t : Bool) (a : Answer (Option (List ℕ))) → t ≡ true → refused 7 ≡ params_tested t a
 unfolding params_tested unless
 params-twice t a h = rw h
 
-module _ (s : List ℕ) (t : Bool) (k : ValueType) (h : t ≡ false) where
-  pub params-absent : k ≡ Absent → accepted tt ≡ params_tested t (value_type_said s k)
-  unfolding params_tested unless then value_type_said
-  params-absent q = rw (h, q)
+pub params-once : {A E : Type 0} (f : A → List ℕ) (t : Bool) (k : ended.Result (coded.Option A) E) {fit : Bool} → t ≡ false → fit ≡ is_ok k
+    → pick fit (accepted tt) (refused 7) ≡ params_tested t (value_type_said f k)
+unfolding params_tested unless then value_type_said
+params-once f t (Ok None) h q = rw (h, q)
+params-once f t (Ok (Some a)) h q = rw (h, q)
+params-once f t (Err e) h q = rw (h, q)
 
-  pub params-named : (a e : ℕ) → k ≡ Stated a e → accepted tt ≡ params_tested t (value_type_said s k)
-  unfolding params_tested unless then value_type_said
-  params-named a e q = rw (h, q)
+-- the type that is told of VALUE
+module _ {A E : Type 0} (f : A → List ℕ) (k : ended.Result (coded.Option A) E) where
+  pub kind-none : {o : coded.Option A} → k ≡ Ok o → o ≡ None → none ≡ named_type (value_type_said f k)
+  unfolding value_type_said named_type
+  kind-none e q = rw (e, q)
 
-  pub params-faulty : k ≡ Faulty → refused 7 ≡ params_tested t (value_type_said s k)
-  unfolding params_tested unless then value_type_said
-  params-faulty q = rw (h, q)
+  pub kind-some : {o : coded.Option A} {a : A} → k ≡ Ok o → o ≡ Some a → some (lower (f a)) ≡ named_type (value_type_said f k)
+  unfolding value_type_said named_type
+  kind-some e q = rw (e, q)
+
+  pub kind-fault : {e : E} → k ≡ Err e → none ≡ named_type (value_type_said f k)
+  unfolding value_type_said named_type
+  kind-fault q = rw q
 
 -- what number 7 leaves of the reading
 module _ (f : Option (List ℕ) → Answer Property) where
@@ -199,14 +205,14 @@ module _ (name : List ℕ) (ps : List Param) (type : Option (List ℕ)) (r : (t 
 
 -- 9, behind a front that stands
 pub nine-placed : (t : Table) (name value : List ℕ) (ps : List Param) (row : Option Row) → row ≡ find t name → (code : ℕ) (decodes : Bool) {p b : Pen} → FrontStands row name ps code decodes p b
-    → (out : List ℕ) (z : Placed) → PlacesValues (values_sent decodes (lower name) code (many_of row) value) b out z → Places (read_property t (line_with name ps value)) p out z
+    → (out : List ℕ) (z : Result ℕ Refusal) → PlacesValues (values_sent decodes (lower name) code (many_of row) value) b out z → Places (read_property t (line_with name ps value)) p out z
 unfolding or_else map?
-nine-placed t name value ps row e code d f out (At q) v = record {
+nine-placed t name value ps row e code d f out (Ok q) v = record {
   property = property (lower name) (staying d (without_value ps)) (type_of row f.type) v.0;
   read = f.read t value e ∙ rw v.1;
   wrote = as-text (behind f.wrote v.2) (append_assoc (front_text name d ps) _ _ ∙ sym (property-text name d ps (type_of row f.type) v.0));
 }
-nine-placed t name value ps row e code d f out (Failed why) v = (f.read t value e ∙ rw (v.0, v.1), kept-behind f.wrote v.2)
+nine-placed t name value ps row e code d f out (Err why) v = (f.read t value e ∙ rw (v.0, v.1), kept-behind f.wrote v.2)
 
 -- a property without parameters up to its type
 pub plain-front : (n : List ℕ) → (octets "[" ++ print_string (lower n)) ++ octets ",{}," ≡ front_text n false []

@@ -1,13 +1,7 @@
 -- What tests answer: a refusal with its number, or nothing but that they pass.
 use Rattle.std.specs.Prelude.{ℕ, Bool, not, List}
 use Rattle.std.proofs.Math.Option.{Option}
-use Rattle.octets.specs.Answers.{Answer, refused, accepted, then, unless, number}
-use Rattle.jcal_properties.specs.declared.Tested.{Tested}
-use Rattle.jcal_properties.specs.declared.Tested.TheVariants.{Passed, Failed}
-
-unfoldable pub test_said : Tested → Answer (Unit {0})
-test_said Passed = accepted tt
-test_said (Failed r) = refused (number r)
+use Rattle.octets.specs.Answers.{Answer, accepted, then, unless}
 
 -- number 7: whether a parameter name stands twice, and the type that VALUE names
 unfoldable pub params_tested : Bool → Answer (Option (List ℕ)) → Answer (Unit {0})

@@ -11,10 +11,8 @@ fn put_lower_string(out: &mut [u8], at: usize, name: &[u8]) -> usize
     ensures { Wrote (pen out.old at) (print_string (lower name.now)) (pen out.new result) }
 {
     let mut to = put(out, at, b'"');
-    let mut i = 0;
-    while i < name.len() {
-        to = put_escaped(out, to, lower_octet(name[i]));
-        i += 1;
+    for &c in name {
+        to = put_escaped(out, to, lower_octet(c));
     }
     put(out, to, b'"')
 }
@@ -23,10 +21,10 @@ fn put_lower_string(out: &mut [u8], at: usize, name: &[u8]) -> usize
 pub fn put_name(out: &mut [u8], at: usize, name: &[u8]) -> usize
     ensures { Wrote (pen out.old at) (print_string (lower name.now)) (pen out.new result) }
 {
-    if is_name(&*name) {
+    if is_name(name) {
         let a = put(out, at, b'"');
-        let b = put_lower(out, a, &*name);
+        let b = put_lower(out, a, name);
         return put(out, b, b'"');
     }
-    put_lower_string(out, at, &*name)
+    put_lower_string(out, at, name)
 }

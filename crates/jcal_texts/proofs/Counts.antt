@@ -20,8 +20,7 @@ use Rattle.values.specs.Read.{two_or_three, read_status}
 use Rattle.values.proofs.Arrays.{items-json}
 use Rattle.values.proofs.TextWalk.{fields-walked}
 use Rattle.jcal_texts.specs.Trying.{Tried, WroteTexts}
-use Rattle.jcal_texts.specs.declared.Attempt.TheVariants.{Written, Invalid}
-use Rattle.jcal_texts.specs.declared.Texts.TheVariants.{Written as TextsWritten, Invalid as NoTexts}
+use Rattle.std.specs.Prelude.{Some, None}
 
 -- one, by the number
 one-text : (t : List ℕ) (ts : List (List ℕ)) → single (map str (t ∷ ts)) ≡ eqb (length ts + 1) 1
@@ -29,19 +28,19 @@ unfolding single filled
 one-text t [] = refl
 one-text t (u ∷ ts) = rw (ne_eqb (length (u ∷ ts) + 1) 1 (λ e. omega arith))
 
-module _ {p q : Pen} (many : Bool) (s out : List ℕ) (e n : ℕ) (w : WroteTexts (texts_from (code ",") (code ";") false s) q out (TextsWritten e n)) (u : Wrote p (octets ",\"") q) where
+module _ {p q : Pen} (many : Bool) (s out : List ℕ) (e n : ℕ) (w : WroteTexts (texts_from (code ",") (code ";") false s) q out (Some (e, n))) (u : Wrote p (octets ",\"") q) where
   fits : (many or single (map str (w.0 ∷ w.1))) ≡ (many or eqb n 1)
   fits = rw (one-text w.0 w.1, w.3)
 
-  pub texts-stand : (many or eqb n 1) ≡ true → Tried (guard (λ vs. many or single vs) (map? (map str) (texts s))) values_json p out (Written e)
+  pub texts-stand : (many or eqb n 1) ≡ true → Tried (guard (λ vs. many or single vs) (map? (map str) (texts s))) values_json p out (Some e)
   unfolding texts map? guard when values_json print print_string
   texts-stand h = (map str (w.0 ∷ w.1), rw (w.2, fits ∙ h), then u w.4)
 
-  pub texts-differ : (many or eqb n 1) ≡ false → Tried (guard (λ vs. many or single vs) (map? (map str) (texts s))) values_json p out Invalid
+  pub texts-differ : (many or eqb n 1) ≡ false → Tried (guard (λ vs. many or single vs) (map? (map str) (texts s))) values_json p out None
   unfolding texts map? guard when
   texts-differ h = (rw (w.2, fits ∙ h), front-wrote (then u w.4))
 
-pub no-texts : {p q : Pen} (many : Bool) (s out : List ℕ) → WroteTexts (texts_from (code ",") (code ";") false s) q out NoTexts → Wrote p (octets ",\"") q → Tried (guard (λ vs. many or single vs) (map? (map str) (texts s))) values_json p out Invalid
+pub no-texts : {p q : Pen} (many : Bool) (s out : List ℕ) → WroteTexts (texts_from (code ",") (code ";") false s) q out None → Wrote p (octets ",\"") q → Tried (guard (λ vs. many or single vs) (map? (map str) (texts s))) values_json p out None
 unfolding texts map? guard
 no-texts many s out w u = (rw w.0, front-behind u w.1)
 
@@ -69,21 +68,21 @@ array : (t : List ℕ) (ts : List (List ℕ)) → octets "[\"" ++ (quoted t ++ v
 unfolding print print_string first_item items_of
 array t ts = rw (items-json (map str ts)) (ap (λ (l : List ℕ). octets "[\"" ++ l) (append_assoc (quoted t) (values_json (map str ts)) (octets "]")))
 
-module _ {p q : Pen} (s out : List ℕ) (e n : ℕ) (w : WroteTexts (texts_from (code ";") (code ",") false s) q out (TextsWritten e n)) (u : Wrote p (octets "[\"") q) where
-  status-none : two_or_three (w.0 ∷ w.1) ≡ false → Tried (read_status s) print p out Invalid
+module _ {p q : Pen} (s out : List ℕ) (e n : ℕ) (w : WroteTexts (texts_from (code ";") (code ",") false s) q out (Some (e, n))) (u : Wrote p (octets "[\"") q) where
+  status-none : two_or_three (w.0 ∷ w.1) ≡ false → Tried (read_status s) print p out None
   unfolding read_status map? guard when
   status-none h = (rw (fields-walked s, w.2, h), front-wrote (then u w.4))
 
-  pub status-few : n < 2 → Tried (read_status s) print p out Invalid
+  pub status-few : n < 2 → Tried (read_status s) print p out None
   status-few h = status-none (few w.0 w.1 (rw w.3 h))
 
-  pub status-many : 3 < n → Tried (read_status s) print p out Invalid
+  pub status-many : 3 < n → Tried (read_status s) print p out None
   status-many h = status-none (many w.0 w.1 (rw w.3 h))
 
   pub status-stands : {r : Pen} → 2 ≤ n → n ≤ 3 → Wrote (pen out e) (octets "]") r → (j : Json) × (read_status s ≡ some j) × Wrote p (print j) r
   unfolding read_status map? guard when
   status-stands h l v = (arr (items_of (map str (w.0 ∷ w.1))), rw (fields-walked s, w.2, two-or-three w.0 w.1 (rw w.3 h) (rw w.3 l)), as-text (then (then u w.4) v) (array w.0 w.1))
 
-pub no_fields : {p q : Pen} (s out : List ℕ) → WroteTexts (texts_from (code ";") (code ",") false s) q out NoTexts → Wrote p (octets "[\"") q → Tried (read_status s) print p out Invalid
+pub no_fields : {p q : Pen} (s out : List ℕ) → WroteTexts (texts_from (code ";") (code ",") false s) q out None → Wrote p (octets "[\"") q → Tried (read_status s) print p out None
 unfolding read_status map? guard
 no_fields s out w u = (rw (fields-walked s, w.0), front-behind u w.1)

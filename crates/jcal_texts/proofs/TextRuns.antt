@@ -24,9 +24,9 @@ use Rattle.octets.proofs.Positions.{here, ended, part-rest, past_end}
 use Rattle.values.specs.TextWalk.{Act, add, next, escape, stop, act, escapes, done, texts_from}
 use Rattle.json_text.specs.Tree.{str}
 use Rattle.json_text.specs.Print.{escaped, quoted, print_string, print, values_json}
-use Rattle.jcal_texts.specs.Trying.{WroteTexts, StandsFor, StepsAt}
-use Rattle.jcal_texts.specs.declared.Texts.TheVariants.{Written, Invalid as NoTexts}
-use Rattle.jcal_texts.specs.declared.Step.TheVariants.{Octet, Separator, Invalid as Wrong}
+use Rattle.jcal_texts.specs.Trying.{WroteTexts, StepsAt}
+use Rattle.jcal_texts.specs.declared.Step.TheVariants.{Octet, Separator}
+use Rattle.std.specs.Prelude.{Some, None}
 use Rattle.jcal_texts.proofs.Reading.{Going, going_start, going_on}
 
 -- an octet of a run is none that is written otherwise
@@ -99,7 +99,7 @@ module _ {p q r : Pen} {n : ℕ} {us : List (List ℕ)} where
   next-written [] f w t = absurd (f refl)
   next-written (x ∷ ts) f w t = record { leads = leads-on t.leads w refl; count = omega arith }
 
-last_written : {p q : Pen} {out : List ℕ} {e n : ℕ} {o : Option (List (List ℕ))} (us : List (List ℕ)) → (us ≡ [] → ⊥) → o ≡ some us → Wrote q (code "\"" ∷ []) (pen out e) → Through p q n us ([] ∷ []) → WroteTexts o p out (Written e n)
+last_written : {p q : Pen} {out : List ℕ} {e n : ℕ} {o : Option (List (List ℕ))} (us : List (List ℕ)) → (us ≡ [] → ⊥) → o ≡ some us → Wrote q (code "\"" ∷ []) (pen out e) → Through p q n us ([] ∷ []) → WroteTexts o p out (Some (e, n))
 unfolding strings_behind quoted values_json
 last_written [] f a w t = absurd (f refl)
 last_written (u ∷ us) f a w t = (u, us, a, omega (arith, t.count), leads-last t.leads w refl)
@@ -150,35 +150,34 @@ module _ (sep other : ℕ) where
     unfolding act
     no_end {d} u v = let w : stop ≡ add d = rw u at v in let z : ◌≡◌ {A = ℕ} 0 1 = cc in omega arith
 
-    module _ (d : ℕ) (x : get_or s i 0 ≡ code "\\") (y : StandsFor (get_or s (i + 1) 0) d) where
-      pub step-escape : (d ≡ 0 → ⊥) → StepsAt sep other s i (Octet d (i + 2))
-      step-escape z =
-          let a : act sep other true (get_or s (i + 1) 0) ≡ add d = y sep other ∙ rw (ne_eqb d 0 z) in
+    module _ (x : get_or s i 0 ≡ code "\\") where
+      pub step-escape : (d : ℕ) → act sep other true (get_or s (i + 1) 0) ≡ add d → StepsAt sep other s i (Some (Octet d (i + 2)))
+      step-escape d a =
           let m : i + 1 + 1 ≡ i + 2 = omega arith in
           cases (ltb (i + 1) (length s))
           (λ t. let g = ltb-true (i + 1) (length s) t in
           (omega arith, omega arith, behind-backslash x ∙ rw (here s (i + 1) g, m) (octet-read true (get_or s (i + 1) 0) d (drop (i + 2) s) a)))
           (λ t. absurd (no_end (past_end s (i + 1) (ltb-false (i + 1) (length s) t)) a))
 
-      pub step-wrong : d ≡ 0 → StepsAt sep other s i Wrong
-      step-wrong z = behind-backslash x ∙ cases (ltb (i + 1) (length s))
-          (λ t. rw (here s (i + 1) (ltb-true (i + 1) (length s) t)) (none_read true (get_or s (i + 1) 0) (drop (i + 1 + 1) s) (y sep other ∙ rw z)))
+      pub step-wrong : act sep other true (get_or s (i + 1) 0) ≡ stop → StepsAt sep other s i None
+      step-wrong a = behind-backslash x ∙ cases (ltb (i + 1) (length s))
+          (λ t. rw (here s (i + 1) (ltb-true (i + 1) (length s) t)) (none_read true (get_or s (i + 1) 0) (drop (i + 1 + 1) s) a))
           (λ t. rw (ended s (i + 1) (ltb-false (i + 1) (length s) t)) (unfold texts_from in refl))
 
     module _ (b : get_or s i 0 ≡ code "\\" → ⊥) where
-      pub step-separator : get_or s i 0 ≡ sep → StepsAt sep other s i Separator
+      pub step-separator : get_or s i 0 ≡ sep → StepsAt sep other s i (Some Separator)
       unfolding texts_from act done escapes
       step-separator x = rw (here s i h, ne_eqb (get_or s i 0) (code "\\") b, eq-eqb (get_or s i 0) sep x)
 
       module _ (x : get_or s i 0 ≡ sep → ⊥) where
-        pub step_other : get_or s i 0 ≡ other → StepsAt sep other s i Wrong
+        pub step_other : get_or s i 0 ≡ other → StepsAt sep other s i None
         step_other y = rw (here s i h) (none_read false _ _ (unfold act in rw (ne_eqb (get_or s i 0) (code "\\") b, ne_eqb (get_or s i 0) sep x, eq-eqb (get_or s i 0) other y)))
 
         module _ (y : get_or s i 0 ≡ other → ⊥) where
-          pub step-control : plain_octet (get_or s i 0) ≡ false → StepsAt sep other s i Wrong
+          pub step-control : plain_octet (get_or s i 0) ≡ false → StepsAt sep other s i None
           step-control z = rw (here s i h) (none_read false _ _ (unfold act in rw (ne_eqb (get_or s i 0) (code "\\") b, ne_eqb (get_or s i 0) sep x, ne_eqb (get_or s i 0) other y, z)))
 
-          pub step-octet : plain_octet (get_or s i 0) ≡ true → StepsAt sep other s i (Octet (get_or s i 0) (i + 1))
+          pub step-octet : plain_octet (get_or s i 0) ≡ true → StepsAt sep other s i (Some (Octet (get_or s i 0) (i + 1)))
           step-octet z = (omega arith, omega arith, rw (here s i h) (octet-read false _ (get_or s i 0) _ (unfold act in rw (ne_eqb (get_or s i 0) (code "\\") b, ne_eqb (get_or s i 0) sep x, ne_eqb (get_or s i 0) other y, z))))
 
 module _ (sep other : ℕ) (s : List ℕ) where
@@ -204,17 +203,17 @@ module _ (sep other : ℕ) (s : List ℕ) where
           written = (_, then g.written.1 w);
         }
 
-    pub walked-octet : {r : Pen} (c j : ℕ) → StepsAt sep other s i (Octet c j) → Wrote q (escaped c) r → Walked p r n j
+    pub walked-octet : {r : Pen} (c j : ℕ) → StepsAt sep other s i (Some (Octet c j)) → Wrote q (escaped c) r → Walked p r n j
     walked-octet c j v w = record { going = going_on (onto c) _ g.going v.2 (λ ts us f t. octet-written c ts (left j ts f) w t); written = (_, then g.written.1 w) }
 
-    pub walked_next : {r : Pen} → StepsAt sep other s i Separator → Wrote q (octets "\",\"") r → Walked p r (n + 1) (i + 1)
+    pub walked_next : {r : Pen} → StepsAt sep other s i (Some Separator) → Wrote q (octets "\",\"") r → Walked p r (n + 1) (i + 1)
     walked_next v w = record { going = going_on (λ ts. [] ∷ ts) _ g.going v (λ ts us f t. next-written ts (left (i + 1) ts f) w t); written = (_, then g.written.1 w) }
 
-    pub walked_end : (out : List ℕ) (e : ℕ) → length s ≤ i → Wrote q (code "\"" ∷ []) (pen out e) → WroteTexts (texts_from sep other false s) p out (Written e n)
+    pub walked_end : (out : List ℕ) (e : ℕ) → length s ≤ i → Wrote q (code "\"" ∷ []) (pen out e) → WroteTexts (texts_from sep other false s) p out (Some (e, n))
     unfolding texts_from
     walked_end out e h w =
         let b = g.going.stands ([] ∷ []) (ap (texts_from sep other false) (ended s i h)) in
         last_written b.0 (left 0 b.0 b.1) b.1 w b.2
 
-    pub walked-wrong : StepsAt sep other s i Wrong → WroteTexts (texts_from sep other false s) p q.buf NoTexts
+    pub walked-wrong : StepsAt sep other s i None → WroteTexts (texts_from sep other false s) p q.buf None
     walked-wrong v = (g.going.fails v, front-wrote g.written.1)

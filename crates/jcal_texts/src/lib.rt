@@ -1,4 +1,5 @@
-// Text values: escapes, and the separators between texts. Octets that are written as they stand go run by run.
+// Text values: escapes, and the separators between texts. Octets that are written as they stand go run by run. A writer that tests answers where the
+// next octet goes, if the value stands.
 #![tactic(auto)]
 
 ghost use Rattle.std.specs.Prelude.{◌≡◌, false, map, ◌≤◌, ◌<◌, length};
@@ -17,26 +18,11 @@ ghost use Rattle.jcal_texts.specs.Trying.{Tried, WroteTexts, StandsFor, StepsAt}
 use json_text::put_escaped;
 use octets::{Class, is_plain_octet, long_run_end, peek, put, put_all, upper_octet};
 
-// What a writer that tests answers: where the next octet goes, or that the value does not stand.
-#[derive(Clone, Copy)]
-pub enum Attempt {
-    Written(usize),
-    Invalid,
-}
-
-// What the writer of texts answers: where the next octet goes and how many texts there are, or that one is no text.
-#[derive(Clone, Copy)]
-enum Texts {
-    Written(usize, usize),
-    Invalid,
-}
-
-// What stands in a text: an octet, with the place behind it; a bare separator; or what is not allowed.
+// What stands in a text: an octet, with the place behind it, or a bare separator.
 #[derive(Clone, Copy)]
 enum Step {
     Octet(u8, usize),
     Separator,
-    Invalid,
 }
 
 // The end of the run at `at`. It stands by itself so that the search is compiled for this class alone.
@@ -44,50 +30,43 @@ fn past_run(s: &[u8], at: usize) -> usize
     requires { at ≤ length s.now }
     ensures { ClassRun text_as_is s.now at result }
 {
-    long_run_end(&*s, at, Class::TextAsIs)
+    long_run_end(s, at, Class::TextAsIs)
 }
 
-// The octet that c stands for behind a backslash; 0 where it may not stand there.
-fn unescaped(c: u8) -> u8
+// The octet that c stands for behind a backslash, where it may stand there.
+#[tactic(auto, unfolding(values::specs::TextWalk::act))]
+fn unescaped(c: u8) -> Option<u8>
     ensures { StandsFor c result }
 {
     match c {
-        b'\\' => c,
-        b';' => c,
-        b',' => c,
-        b'n' => b'\n',
-        b'N' => b'\n',
-        _ => 0,
+        b'\\' | b';' | b',' => Some(c),
+        b'n' | b'N' => Some(b'\n'),
+        _ => None,
     }
 }
 
-// What stands at i.
-fn step_at(s: &[u8], i: usize, sep: u8, other: u8) -> Step
+// What stands at i, if it is allowed.
+fn step_at(s: &[u8], i: usize, sep: u8, other: u8) -> Option<Step>
     requires { i < length s.now }
     ensures { StepsAt sep other s.now i result }
 {
     let c = s[i];
     if c == b'\\' {
-        let d = unescaped(peek(s, i + 1));
-        if d == 0 {
-            return Step::Invalid;
-        }
-        return Step::Octet(d, i + 2);
+        let d = unescaped(peek(s, i + 1))?;
+        return Some(Step::Octet(d, i + 2));
     }
     if c == sep {
-        return Step::Separator;
+        return Some(Step::Separator);
     }
-    if c == other {
-        return Step::Invalid;
+    if c == other || !is_plain_octet(c) {
+        return None;
     }
-    if !is_plain_octet(c) {
-        return Step::Invalid;
-    }
-    Step::Octet(c, i + 1)
+    Some(Step::Octet(c, i + 1))
 }
 
-// Tests the texts between bare separators, writes them behind their first quote, as strings with a comma between them, and counts them.
-fn put_between(out: &mut [u8], at: usize, s: &[u8], sep: u8, other: u8) -> Texts
+// Tests the texts between bare separators and writes them behind their first quote, as strings with a comma between them: where the next octet goes, and how many
+// there are.
+fn put_between(out: &mut [u8], at: usize, s: &[u8], sep: u8, other: u8) -> Option<(usize, usize)>
     requires { (text_as_is sep ≡ false) × (text_as_is other ≡ false) }
     ensures { WroteTexts (texts_from sep other false s.now) (pen out.old at) out.new result }
 {
@@ -95,12 +74,12 @@ fn put_between(out: &mut [u8], at: usize, s: &[u8], sep: u8, other: u8) -> Texts
     let mut n = 1;
     let mut i = 0;
     loop {
-        let e = past_run(&*s, i);
+        let e = past_run(s, i);
         let q = put_all(out, p, &s[i..e]);
         if e == s.len() {
-            return Texts::Written(put(out, q, b'"'), n);
+            return Some((put(out, q, b'"'), n));
         }
-        match step_at(&*s, e, sep, other) {
+        match step_at(s, e, sep, other)? {
             Step::Octet(c, j) => {
                 p = put_escaped(out, q, c);
                 i = j;
@@ -110,66 +89,46 @@ fn put_between(out: &mut [u8], at: usize, s: &[u8], sep: u8, other: u8) -> Texts
                 n += 1;
                 i = e + 1;
             }
-            Step::Invalid => {
-                return Texts::Invalid;
-            }
         }
     }
 }
 
 // Tests the texts between bare commas, one only where there may not be many, and writes each with a comma before it.
-pub fn put_tested_texts(out: &mut [u8], at: usize, s: &[u8], many: bool) -> Attempt
+pub fn put_tested_texts(out: &mut [u8], at: usize, s: &[u8], many: bool) -> Option<usize>
     ensures { Tried (guard (λ vs. many or single vs) (map? (map str) (texts s.now))) values_json (pen out.old at) out.new result }
 {
     let first = put_all(out, at, b",\"");
-    match put_between(out, first, &*s, b',', b';') {
-        Texts::Written(q, n) => {
-            if many {
-                return Attempt::Written(q);
-            }
-            if n == 1 {
-                return Attempt::Written(q);
-            }
-            Attempt::Invalid
-        }
-        Texts::Invalid => Attempt::Invalid,
-    }
+    let (q, n) = put_between(out, first, s, b',', b';')?;
+    if many || n == 1 { Some(q) } else { None }
 }
 
 // Tests the two or three texts of REQUEST-STATUS, between bare semicolons, and writes an array of them.
-pub fn put_tested_status(out: &mut [u8], at: usize, s: &[u8]) -> Attempt
+pub fn put_tested_status(out: &mut [u8], at: usize, s: &[u8]) -> Option<usize>
     ensures { Tried (read_status s.now) print (pen out.old at) out.new result }
 {
     let first = put_all(out, at, b"[\"");
-    match put_between(out, first, &*s, b';', b',') {
-        Texts::Written(q, n) => {
-            if n < 2 {
-                return Attempt::Invalid;
-            }
-            if n > 3 {
-                return Attempt::Invalid;
-            }
-            Attempt::Written(put(out, q, b']'))
-        }
-        Texts::Invalid => Attempt::Invalid,
+    let (q, n) = put_between(out, first, s, b';', b',')?;
+    if n < 2 || n > 3 {
+        return None;
     }
+    Some(put(out, q, b']'))
 }
 
 // Tests that no control character but tab stands there, and writes a string.
-pub fn put_tested_plain(out: &mut [u8], at: usize, s: &[u8]) -> Attempt
+pub fn put_tested_plain(out: &mut [u8], at: usize, s: &[u8]) -> Option<usize>
     ensures { Tried (read_plain s.now) print (pen out.old at) out.new result }
 {
     let mut p = put(out, at, b'"');
     let mut i = 0;
     loop {
-        let e = past_run(&*s, i);
+        let e = past_run(s, i);
         let q = put_all(out, p, &s[i..e]);
         if e == s.len() {
-            return Attempt::Written(put(out, q, b'"'));
+            return Some(put(out, q, b'"'));
         }
         let c = s[e];
         if !is_plain_octet(c) {
-            return Attempt::Invalid;
+            return None;
         }
         p = put_escaped(out, q, c);
         i = e + 1;
@@ -181,10 +140,8 @@ pub fn put_upper_string(out: &mut [u8], at: usize, s: &[u8]) -> usize
     ensures { Wrote (pen out.old at) (print_string (upper s.now)) (pen out.new result) }
 {
     let mut p = put(out, at, b'"');
-    let mut i = 0;
-    while i < s.len() {
-        p = put_escaped(out, p, upper_octet(s[i]));
-        i += 1;
+    for &c in s {
+        p = put_escaped(out, p, upper_octet(c));
     }
     put(out, p, b'"')
 }

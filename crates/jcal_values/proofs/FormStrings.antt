@@ -4,7 +4,7 @@ use Prim.Native.Nat.{ℕ}
 use mathlib.Core.Bool.{Bool, true, false, false≢true}
 use mathlib.Core.List.{List, [], ◌∷◌, ◌++◌}
 use mathlib.Core.Option.{none, some}
-use mathlib.Core.Path.{◌≡◌, refl, sym, ap, ◌∙◌}
+use mathlib.Core.Path.{◌≡◌, refl, sym, ap}
 use borrow.Author.Tests.{eqb-true}
 use Rattle.octets.specs.Basics.{all}
 use Rattle.octets.specs.Groups.{as_is_octet}
@@ -15,11 +15,10 @@ use Rattle.octets.specs.Pen.{Pen, Wrote}
 use Rattle.octets.proofs.Cases.{both, and-true}
 use Rattle.octets.proofs.Pen.{as-text}
 use Rattle.calendar.specs.Forms.{Slot, digit, sign, letter, added, takes, fits, date_form, clock_form, utc, time_form, date_time_form, offset_form}
-use Rattle.calendar.specs.Texts.{form_of, octets_in, Says}
+use Rattle.calendar.specs.Texts.{form_of}
 use Rattle.calendar.specs.declared.texts.Form.TheVariants.{Date, Time, DateTime, Offset}
 use Rattle.calendar.specs.declared.texts.Form.{Form}
-use Rattle.calendar.specs.declared.texts.ShortText.{ShortText}
-use Rattle.calendar.proofs.Fixed.{says_none, says_some, form_for}
+use Rattle.calendar.proofs.Fixed.{form_for}
 use Rattle.calendar.proofs.Readback.{form-fitted}
 use Rattle.json_text.specs.Tree.{Json, str}
 use Rattle.json_text.specs.Print.{print_string, print}
@@ -60,14 +59,13 @@ form-bare Offset true = refl
 form-bare Offset false = refl
 
 -- what a text of a form says is written, or it says nothing
-module _ (f : Form) (s : List ℕ) (t : ShortText) (w : Says t (form_of f s)) where
-  pub form-none : t.len ≡ 0 → map? str (form_of f s) ≡ none
+module _ (f : Form) (s : List ℕ) where
+  pub form-none : none ≡ form_of f s → map? str (form_of f s) ≡ none
   unfolding map?
-  form-none e = ap (map? str) (sym w.text ∙ says_none t e)
+  form-none e = ap (map? str) (sym e)
 
-  pub form-written : {p q : Pen} → (t.len ≡ 0 → ⊥) → Wrote p (code "\"" ∷ (octets_in t ++ code "\"" ∷ [])) q → (j : Json) × (map? str (form_of f s) ≡ some j) × Wrote p (print j) q
+  pub form-written : {p q : Pen} → (t : List ℕ) → some t ≡ form_of f s → Wrote p (code "\"" ∷ (t ++ code "\"" ∷ [])) q → (j : Json) × (map? str (form_of f s) ≡ some j) × Wrote p (print j) q
   unfolding map? print print_string
-  form-written n u =
-      let e : form_of f s ≡ some (octets_in t) = sym w.text ∙ says_some t n in
-      let b = quoted-bare (octets_in t) (fits-bare _ (octets_in t) (form-bare f _) (form-fitted f s (octets_in t) e).has) in
-      (str (octets_in t), ap (map? str) e, as-text u (ap (λ (l : List ℕ). code "\"" ∷ l) (sym b)))
+  form-written t e u =
+      let b = quoted-bare t (fits-bare _ t (form-bare f _) (form-fitted f s t (sym e)).has) in
+      (str t, ap (map? str) (sym e), as-text u (ap (λ (l : List ℕ). code "\"" ∷ l) (sym b)))

@@ -1,17 +1,13 @@
--- Octets that a JSON string holds as they are; and short texts.
+-- Octets that a JSON string holds as they are; and the ends of periods.
 use Prim.Native.Nat.{ℕ}
 use Prim.Native.Char.{code}
-use mathlib.Core.Path.{◌≡◌, refl, sym, ◌∙◌}
+use mathlib.Core.Path.{◌≡◌, refl}
 use mathlib.Core.Bool.{Bool, true, false}
 use mathlib.Core.List.{List, [], ◌∷◌, ◌++◌}
 use mathlib.Core.Option.{Option, none, some}
-use borrow.Author.Tests.{eqb-true}
-use lib.Dec.{eqb}
 use Rattle.octets.specs.Basics.{all}
 use Rattle.octets.specs.Optional.{is_some, given}
-use Rattle.octets.proofs.Cases.{cases, never, both, apart}
-use Rattle.calendar.specs.Texts.{octets_in, text_said, Says}
-use Rattle.calendar.specs.declared.texts.ShortText.{ShortText}
+use Rattle.octets.proofs.Cases.{never, both, apart}
 use Rattle.json_text.specs.Print.{quoted, print_string}
 use Rattle.json_text.proofs.Quotes.{escaped-bare}
 use Rattle.octets.specs.Groups.{as_is_octet}
@@ -28,16 +24,6 @@ quoted-bare (x ∷ xs) h =
 pub bare-class : (p : ℕ → Bool) → p 34 ≡ false → p 92 ≡ false → p 10 ≡ false → p 9 ≡ false → (c : ℕ) → p c ≡ true → as_is_octet c ≡ true
 unfolding as_is_octet
 bare-class p a b d e c h = rw (apart p c 34 h a, apart p c 92 h b, apart p c 10 h d, apart p c 9 h e)
-
--- a short text that says what was read
-pub short-shown : (t : ShortText) (o : Option (List ℕ)) → Says t o → print_string (octets_in t) ≡ string_shown o
-unfolding string_shown
-short-shown t o w = cases (eqb t.len 0)
-    (λ e. let n = eqb-true t.len 0 e in
-    let q : o ≡ none = sym w.text ∙ unfold text_said in rw e in
-    rw (n, q) (unfold given in refl))
-    (λ e. let q : o ≡ some (octets_in t) = sym w.text ∙ unfold text_said in rw e in
-    rw q (unfold given in refl))
 
 -- the end of a period: a moment, or what stands there in uppercase
 module _ (s : List ℕ) where

@@ -10,8 +10,7 @@ use Rattle.octets.specs.Pen.{Pen, Wrote}
 use Rattle.octets.proofs.Pen.{then}
 use Rattle.octets.proofs.Positions.{upto}
 use Rattle.calendar.specs.Recurrence.{PartSort}
-use Rattle.calendar.specs.Walk.{before_first, key_at, first_part}
-use Rattle.calendar.specs.declared.parts.PartAt.{PartAt}
+use Rattle.calendar.specs.Walk.{Places, before_first, key_at, first_part}
 use Rattle.values.specs.Shown.{item_json_shown, list_shown, items_shown, key_shown, part_json_shown}
 
 -- the values of a part: e is where the first ends
@@ -24,7 +23,7 @@ module _ (k : PartSort) (v : List ℕ) (e : ℕ) (is : e ≡ length (before_firs
   unfolding items_shown
   items-array h = rw (lt-ltb (length (before_first (code ",") v)) (length v) (rw (← is) h))
 
-pub part-wrote : {p q r : Pen} (s : List ℕ) (x : PartAt) (kind : PartSort) → x ≡ first_part s → kind ≡ (key_at x.key).sort
+pub part-wrote : {p q r : Pen} (s : List ℕ) (x : Places) (kind : PartSort) → x ≡ first_part s → kind ≡ (key_at x.key).sort
     → Wrote p (key_shown (take (x.name - 0) (drop 0 s))) q → Wrote q (items_shown kind (take (x.to - x.from) (drop x.from s))) r → Wrote p (part_json_shown s) r
 unfolding part_json_shown
 part-wrote s x kind is e u w = rw (← is) (then (rw (upto s x.name) at u) (rw e at w))

@@ -8,9 +8,8 @@ ghost use Rattle.jcal_values.specs.Attempts.{AttemptedIn, text_decoded};
 
 use crate::raw::put_tested;
 use content::ROOM_FOR_LINES;
-use jcal_texts::Attempt;
 use values::Sort;
-use values::base64::{Decoding, decode};
+use values::base64::decode;
 
 // The longest value for which a short array is lent, the quicker to zero. It is less than a page, which the stack of a caller has at hand.
 const SHORT_VALUE: usize = 2048;
@@ -24,27 +23,25 @@ fn put_decoded_in(
     many: bool,
     raw: &[u8],
     work: &mut [u8],
-) -> Attempt
+) -> Option<usize>
     requires { length raw.now ≤ room_for_lines }
     ensures { AttemptedIn many (sort_said sort) (text_sent true raw.now) (pen out.old at) out.new result }
 {
     if work.len() < raw.len() {
         let mut more = [0u8; ROOM_FOR_LINES];
-        return put_decoded_in(out, at, sort, many, &*raw, &mut more);
+        return put_decoded_in(out, at, sort, many, raw, &mut more);
     }
-    match decode(&*raw, work) {
-        Decoding::Octets(n) => put_tested(out, at, sort, many, &work[0..n]),
-        Decoding::Invalid => Attempt::Invalid,
-    }
+    let n = decode(raw, work)?;
+    put_tested(out, at, sort, many, &work[..n])
 }
 
 // Tests the values of a value that is sent as base64, and writes each with a comma before it. One that a buffer of lines has no room for does not stand.
-pub fn put_decoded(out: &mut [u8], at: usize, sort: Sort, many: bool, raw: &[u8]) -> Attempt
+pub fn put_decoded(out: &mut [u8], at: usize, sort: Sort, many: bool, raw: &[u8]) -> Option<usize>
     ensures { AttemptedIn many (sort_said sort) (text_decoded raw.now) (pen out.old at) out.new result }
 {
     if ROOM_FOR_LINES < raw.len() {
-        return Attempt::Invalid;
+        return None;
     }
     let mut work = [0u8; SHORT_VALUE];
-    put_decoded_in(out, at, sort, many, &*raw, &mut work)
+    put_decoded_in(out, at, sort, many, raw, &mut work)
 }

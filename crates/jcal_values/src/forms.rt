@@ -1,29 +1,28 @@
 // Dates, times, offsets and periods, written for jCal.
-ghost use Rattle.std.specs.Prelude.{◌≤◌, length};
 ghost use Rattle.octets.specs.Classes.{upper};
-ghost use Rattle.octets.specs.Optional.{map?};
+ghost use Rattle.octets.specs.Optional.{map?, said};
 ghost use Rattle.octets.specs.Pen.{pen, Wrote};
-ghost use Rattle.calendar.specs.Texts.{form_of, octets_in};
+ghost use Rattle.calendar.specs.Texts.{form_of};
 ghost use Rattle.json_text.specs.Tree.{str};
-ghost use Rattle.json_text.specs.Print.{print_string, print};
+ghost use Rattle.json_text.specs.Print.{print};
 ghost use Rattle.values.specs.Shown.{string_shown, end_shown, period_shown};
 ghost use Rattle.jcal_texts.specs.Trying.{Tried};
 
 use calendar::parts::find;
 use calendar::texts::{Form, ShortText, extended, is_basic};
-use jcal_texts::{Attempt, put_upper_string};
+use jcal_texts::put_upper_string;
 use json_text::put_string;
 use octets::{put, put_all};
 use values::simple::past;
 
-// Writes a short text as a string.
-pub(crate) fn put_short(out: &mut [u8], at: usize, t: ShortText) -> usize
-    requires { t.len ≤ length t.octets }
-    ensures { Wrote (pen out.old at) (print_string (octets_in t)) (pen out.new result) }
+// Writes a short text as a string; where there is none, an empty one.
+pub(crate) fn put_short(out: &mut [u8], at: usize, t: Option<ShortText>) -> usize
+    ensures { Wrote (pen out.old at) (string_shown (said t)) (pen out.new result) }
 {
-    let o = t.octets;
-    let n = t.len;
-    put_string(out, at, &o[0..n])
+    match t {
+        Some(text) => put_string(out, at, text.as_slice()),
+        None => put_string(out, at, b""),
+    }
 }
 
 // Writes a text of a fixed form in the extended form.
@@ -34,18 +33,15 @@ pub(crate) fn put_form(out: &mut [u8], at: usize, form: Form, s: &[u8]) -> usize
 }
 
 // Tests a text of a fixed form, and writes it in the extended form, which has no octet to escape.
-pub(crate) fn put_tested_form(out: &mut [u8], at: usize, form: Form, s: &[u8]) -> Attempt
+pub(crate) fn put_tested_form(out: &mut [u8], at: usize, form: Form, s: &[u8]) -> Option<usize>
     ensures { Tried (map? str (form_of form (upper s.now))) print (pen out.old at) out.new result }
 {
-    let t = extended(form, s);
-    let o = t.octets;
-    let n = t.len;
-    if n == 0 {
-        return Attempt::Invalid;
-    }
+    let Some(t) = extended(form, s) else {
+        return None;
+    };
     let first = put(out, at, b'"');
-    let close = put_all(out, first, &o[0..n]);
-    Attempt::Written(put(out, close, b'"'))
+    let close = put_all(out, first, t.as_slice());
+    Some(put(out, close, b'"'))
 }
 
 // Writes the end of a period.

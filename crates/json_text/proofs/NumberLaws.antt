@@ -1,22 +1,24 @@
 -- Numbers read at a place of the text, part by part.
-use Prim.Native.Nat.{ℕ, ◌+◌, ◌≤◌, ◌<◌}
+use Prim.Native.Nat.{ℕ, ◌+◌, ◌<◌}
 use mathlib.Core.Path.{◌≡◌, refl, sym, ap, ◌∙◌}
 use mathlib.Core.Bool.{true, false}
 use mathlib.Core.List.{List}
-use native.Mathlib.Nat.{le_trans}
 use native.Mathlib.Omega.{arith}
-use lib.Dec.{ltb}
+use lib.Dec.{eqb, ltb}
 use lib.ListN.{length, drop, get_or}
-use borrow.Author.Tests.{ne_eqb, ltb-true, ltb-false}
+use lib.Seq.{drop-drop}
+use borrow.Author.Tests.{ne_eqb, eqb-true, eqb-false, ltb-true, ltb-false}
 use Rattle.octets.specs.Basics.{pick}
 use Rattle.octets.specs.Classes.{is_digit, between}
 use Rattle.octets.proofs.Cases.{cases}
-use Rattle.octets.proofs.Positions.{here, ended}
+use Rattle.octets.proofs.Positions.{here, ended, first_of}
 use Rattle.json_text.specs.Reads.{Out, ok, bad}
 use Rattle.json_text.specs.Numbers.{NumberPlace, start, minus, zero, int, point, frac, e, sign, exp, beyond, is_exponent, is_plus_minus, behind_int, first_digit, advance, is_beyond, number_ends, scan}
 use Rattle.octets.specs.Search.{ClassRun}
-use Rattle.json_text.specs.Promise.{FoundAt, found, missing}
-use Rattle.json_text.specs.declared.PlaceFound.{PlaceFound}
+use Rattle.json_text.specs.Promise.{Digits, some-digits, no-digits, Behind, behind, nothing}
+use Rattle.std.specs.Prelude.{Some, None}
+use Rattle.std.specs.Borrow.{Bor}
+use Rattle.std.specs.declared.option.Option as code
 use Rattle.octets.proofs.Runs.{run-passes, run-next, run-first, run-rest, inside, inside_is}
 
 module _ (text : List ℕ) (i : ℕ) (q : NumberPlace) where
@@ -78,6 +80,10 @@ scan-tail text i q a m = cases (is_exponent (get_or text i 0))
 pub exponent-is : (text : List ℕ) (i n : ℕ) → get_or text i 0 ≡ n → is_exponent n ≡ true → tail text i ≡ scan e (drop (i + 1) text)
 exponent-is text i n h x = rw (h, x)
 
+pub exponent-some : (text : List ℕ) (i : ℕ) → (((get_or text i 0 ≡ 101) → ⊥) → get_or text i 0 ≡ 69) → tail text i ≡ scan e (drop (i + 1) text)
+unfolding is_exponent
+exponent-some text i h = cases (eqb (get_or text i 0) 101) (λ y. exponent-is text i 101 (eqb-true _ 101 y) refl) (λ n. exponent-is text i 69 (h (eqb-false _ 101 n)) refl)
+
 pub exponent-none : (text : List ℕ) (i : ℕ) → ((get_or text i 0 ≡ 101) → ⊥) → ((get_or text i 0 ≡ 69) → ⊥) → tail text i ≡ ok tt (drop i text)
 unfolding is_exponent
 exponent-none text i h k = rw (ne_eqb _ 101 h, ne_eqb _ 69 k)
@@ -119,6 +125,9 @@ module _ (text : List ℕ) (at : ℕ) where
   unfolding advance is_plus_minus is_beyond number_ends
   power-minus h = scan-on text at e sign (inside_is text at 45 h (omega arith)) (rw h) refl
 
+  pub power-sign : (((get_or text at 0 ≡ 43) → ⊥) → get_or text at 0 ≡ 45) → scan e (drop at text) ≡ scan sign (drop (at + 1) text)
+  power-sign h = cases (eqb (get_or text at 0) 43) (λ y. power-plus (eqb-true _ 43 y)) (λ n. power-minus (h (eqb-false _ 43 n)))
+
   pub power-bare : ((get_or text at 0 ≡ 43) → ⊥) → ((get_or text at 0 ≡ 45) → ⊥) → scan e (drop at text) ≡ scan sign (drop at text)
   unfolding advance is_plus_minus is_beyond number_ends
   power-bare h k = scan-alike text at e sign (rw (ne_eqb _ 43 h, ne_eqb _ 45 k)) refl
@@ -143,7 +152,45 @@ module _ (text : List ℕ) (at : ℕ) where
   unfolding advance first_digit is_beyond number_ends
   number-bare h = scan-alike text at start minus (rw (ne_eqb _ 45 h)) refl
 
--- the same place by another reading
-pub found-by : {text : List ℕ} {low low' : ℕ} {o o' : Out (Unit {0})} {r : PlaceFound} → o' ≡ o → low' ≤ low → FoundAt text low o r → FoundAt text low' o' r
-found-by q h (found w l b) = found (q ∙ w) (le_trans h l) b
-found-by q h (missing w) = missing (q ∙ w)
+-- the same answer, to another name of the reading
+pub behind-by : {o o' : Out (Unit {0})} {r : code.Option (Bor (List ℕ))} → o' ≡ o → Behind o r → Behind o' r
+behind-by q (behind w) = behind (q ∙ w)
+behind-by q (nothing w) = nothing (q ∙ w)
+
+-- behind digits
+pub no-digit : {text : List ℕ} {r : code.Option (Bor (List ℕ))} → Digits text r → r ≡ None → ClassRun is_digit text 0 0
+no-digit {text} x q = go (rw q at x)
+  where
+    go : Digits text None → ClassRun is_digit text 0 0
+    go (no-digits w) = w
+
+tail-behind : (text : List ℕ) (n : ℕ) (r : List ℕ) → r ≡ drop n text → tail text n ≡ tail r 0
+tail-behind text n r q = rw (q, first_of, drop-drop)
+
+pub sign-behind : {text : List ℕ} {r : code.Option (Bor (List ℕ))} → Digits text r → Behind (scan sign text) r
+sign-behind {text} (some-digits w h q) = behind (last_some text w (λ z. omega arith) ∙ ap (ok tt) (sym q))
+sign-behind {text} (no-digits w) = nothing (last_none text w refl)
+
+pub fraction-behind : {text : List ℕ} {d : code.Option (Bor (List ℕ))} {r : Bor (List ℕ)} {v : code.Option (Bor (List ℕ))} → Digits text d → d ≡ Some r → Behind (tail r.now 0) v → Behind (scan point text) v
+fraction-behind {text} {d} {r} {v} x q y = go (rw q at x)
+  where
+    go : Digits text (Some r) → Behind (scan point text) v
+    go (some-digits {n = n} w h k) = behind-by (fraction-some text w (λ z. omega arith) ∙ tail-behind text n r.now k) y
+
+pub unsigned-behind : {text : List ℕ} {d : code.Option (Bor (List ℕ))} {r : Bor (List ℕ)} {v : code.Option (Bor (List ℕ))} → ((get_or text 0 0 ≡ 48) → ⊥) → Digits text d → d ≡ Some r → Behind (scan zero r.now) v → Behind (scan minus text) v
+unsigned-behind {text} {d} {r} {v} m x q y = go (rw q at x)
+  where
+    go : Digits text (Some r) → Behind (scan minus text) v
+    go (some-digits w h k) = behind-by (unsigned-some text w m (λ z. omega arith) ∙ ap (scan zero) (sym k)) y
+
+pub was-behind : {o : Out (Unit {0})} {d : code.Option (Bor (List ℕ))} {r : Bor (List ℕ)} → Behind o d → d ≡ Some r → o ≡ ok tt r.now
+was-behind {o} {d} {r} x q = go (rw q at x)
+  where
+    go : Behind o (Some r) → o ≡ ok tt r.now
+    go (behind w) = w
+
+pub was-nothing : {o : Out (Unit {0})} {d : code.Option (Bor (List ℕ))} → Behind o d → d ≡ None → o ≡ bad
+was-nothing {o} x q = go (rw q at x)
+  where
+    go : Behind o None → o ≡ bad
+    go (nothing w) = w

@@ -1,6 +1,6 @@
 -- Laws of readings put together: what they give has what their parts give.
 use Prim.Native.Nat.{ℕ}
-use mathlib.Core.Path.{◌≡◌, refl}
+use mathlib.Core.Path.{◌≡◌, refl, ap, ◌∙◌}
 use mathlib.Core.Bool.{Bool, true, false}
 use mathlib.Core.List.{List}
 use Rattle.octets.specs.Basics.{pick}
@@ -29,6 +29,10 @@ gives-weaker P Q bad h f = tt
 
 pub given : {A : Type 0} (P : A → List ℕ → Type 0) {o : Out A} {a : A} {s : List ℕ} → o ≡ ok a s → Gives P o → P a s
 given P e h = rw e at h
+
+-- what is left, by another name
+pub left-by : {A : Type 0} {o : Out A} {a : A} {s t : List ℕ} → o ≡ ok a s → s ≡ t → o ≡ ok a t
+left-by {a = a} e q = e ∙ ap (ok a) q
 
 -- either way of a choice
 pub by : {A : Type 0} (R : A → Type 0) (b : Bool) {x y : A} → (b ≡ true → R x) → (b ≡ false → R y) → R (pick b x y)

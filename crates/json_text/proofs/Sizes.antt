@@ -43,7 +43,7 @@ scan-less q (b ∷ s) = by (Gives (λ _ t. length t ≤ length (b ∷ s))) (is_b
     (λ _. gives-weaker _ _ (scan (advance q b) s) (scan-less (advance q b) s) (λ _ t h. omega arith))
 
 -- a number takes an octet at least
-start-less : (s : List ℕ) → Gives (λ _ t. length t < length s) (scan start s)
+pub start-less : (s : List ℕ) → Gives (λ _ t. length t < length s) (scan start s)
 unfolding scan number_ends
 start-less [] = tt
 start-less (b ∷ s) = by (Gives (λ _ t. length t < length (b ∷ s))) (is_beyond (advance start b)) (λ _. tt) (λ _. gives-weaker _ _ (scan (advance start b) s) (scan-less (advance start b) s) (λ _ t h. omega arith))
@@ -77,6 +77,9 @@ key-sized (b ∷ s) = by (Gives (Keyed (b ∷ s))) (eqb b 34) (λ _. gives_then 
     behind : (k t : List ℕ) → length k + length t < length s → Gives (Keyed (b ∷ s)) (colon k t)
     behind k [] h = unfold colon in tt
     behind k (c ∷ t) h = unfold colon in by (Gives (Keyed (b ∷ s))) (eqb c 58) (λ _. omega (arith, skip-less t)) (λ _. tt)
+
+pub key-less : (s : List ℕ) {k t : List ℕ} → member_key s ≡ ok k t → length t < length s
+key-less s e = let w = given (Keyed s) e (key-sized s) in omega (arith, w)
 
 -- a reader of elements
 abbrev pub Reads : {A : Type 0} → (A → List ℕ) → (List ℕ → Out A) → Type 0

@@ -1,11 +1,11 @@
--- Strings read at a place of the text: hexadecimal digits, surrogates, escapes, runs.
+-- Strings: hexadecimal digits, surrogates, escapes, runs.
 use Prim.Native.Nat.{ℕ, zero, suc, ◌+◌, ◌-◌, ◌*◌, ◌/◌, ◌%◌, ◌≤◌, ◌<◌}
 use mathlib.Core.Path.{◌≡◌, refl, sym, ap, ◌∙◌}
 use mathlib.Core.Bool.{true, false, not}
 use mathlib.Core.List.{List, [], ◌∷◌, ◌++◌}
 use native.Mathlib.Omega.{arith}
 use lib.Dec.{eqb, leb, ltb}
-use lib.ListN.{length, take, drop, get_or, length-drop}
+use lib.ListN.{length, take, drop, get_or, length-drop, take-append-drop}
 use lib.Seq.{drop-drop}
 use borrow.Author.Tests.{ne_eqb, eq-eqb, ltb-true, ltb-false, lt-ltb, le-ltb, leb-true, leb-false, eqb-false, not-true}
 use Rattle.octets.specs.Basics.{pick, ◌and◌, all}
@@ -14,13 +14,13 @@ use Rattle.octets.specs.Classes.{between, is_digit, hex_digit}
 use Rattle.octets.specs.Pen.{Pen, Wrote}
 use Rattle.octets.proofs.Cases.{cases, both, and-true-right, pick_same}
 use Rattle.octets.proofs.Classes.{between-true}
-use Rattle.octets.proofs.Positions.{here, ended, past_end, part-rest}
+use Rattle.octets.proofs.Positions.{here, ended, past_end}
 use Rattle.json_text.specs.Reads.{Out, ok, deep, bad, fmap, and_then}
 use Rattle.json_text.specs.Strings.{escape_of, hex1, hex4, utf8_of, low_of, low_surrogate, partner, unit, unicode, escape, piece, string_pieces, string}
 use Rattle.octets.specs.Search.{ClassRun}
-use Rattle.json_text.specs.Promise.{hex_code}
+use Rattle.std.specs.Prelude.{Some, None}
+use Rattle.json_text.specs.Promise.{unless_zero, hex_code}
 use Rattle.json_text.proofs.Outs.{Gives, gives-weaker, by, then-alike, map-map, map_same}
-use Rattle.octets.proofs.Runs.{inside, inside_is}
 
 -- four hexadecimal digits, or none
 pub data Digit (s : List ℕ) : Out ℕ → Type 0 where
@@ -50,45 +50,65 @@ hex4-view s = after-digit (Hex s) _ (digit-view s) hex-not (λ a ha la.
     rw e (hex-is {n = a * 4096 + b * 256 + c * 16 + d} (omega arith) (omega (arith, length-drop 1 (drop 1 (drop 1 s)), length-drop 1 (drop 1 s), length-drop 1 s)))))))
 
 -- what the code of four digits tells
-pub code-none : {s : List ℕ} {o : Out ℕ} (u : ℕ) → Hex s o → u ≡ hex_code o → u ≡ 65536 → o ≡ bad
+pub code-none : {s : List ℕ} {o : Out ℕ} → Hex s o → hex_code o ≡ None → o ≡ bad
 unfolding hex_code
-code-none u (hex-is h l) e n = absurd (omega arith)
-code-none u hex-not e n = refl
+code-none (hex-is h l) e = cc
+code-none hex-not e = refl
 
 pub record Coded (s : List ℕ) (o : Out ℕ) (u : ℕ) : Type 0 where
   pub is : o ≡ ok u (drop 4 s)
   pub small : u < 65536
   pub long : 4 ≤ length s
 
-pub coded : {s : List ℕ} {o : Out ℕ} (u : ℕ) → Hex s o → u ≡ hex_code o → ((u ≡ 65536) → ⊥) → Coded s o u
+pub coded : {s : List ℕ} {o : Out ℕ} {u : ℕ} → Hex s o → hex_code o ≡ Some u → Coded s o u
 unfolding hex_code
-coded u (hex-is {n} h l) e x = record { is = rw e; small = omega arith; long = l }
-coded u hex-not e x = absurd (x e)
+coded {u = u} (hex-is {n} h l) e = let q : n ≡ u = cc in record { is = rw q; small = omega arith; long = l }
+coded hex-not e = let z : ⊥ = cc in absurd z
+
+-- a number that is 0, and one that is not
+pub was-zero : (n : ℕ) → unless_zero n ≡ None → n ≡ 0
+unfolding unless_zero
+was-zero zero e = refl
+was-zero (suc n) e = cc
+
+pub was-some : (n : ℕ) {l : ℕ} → unless_zero n ≡ Some l → (l ≡ n) × ((l ≡ 0) → ⊥)
+unfolding unless_zero
+was-some zero e = let z : ⊥ = cc in absurd z
+was-some (suc n) {l} e = let q : l ≡ suc n = cc in (q, λ z. omega arith)
+
+pub none-is : (n : ℕ) → n ≡ 0 → None ≡ unless_zero n
+unfolding unless_zero
+none-is n z = rw z
+
+pub some-is : (n : ℕ) → ((n ≡ 0) → ⊥) → Some n ≡ unless_zero n
+unfolding unless_zero
+some-is zero h = absurd (h refl)
+some-is (suc n) h = refl
 
 -- the code, digit by digit, at a place
 abbrev D : List ℕ → ℕ → ℕ
 D text i = hex_digit (get_or text i 0)
 
-pub small : (d : ℕ) → d ≤ 15 → ltb d 16 ≡ true
-small d h = lt-ltb d 16 (omega arith)
-
 digit-zero : hex_digit 0 ≡ 16
 unfolding hex_digit is_digit between
 digit-zero = refl
 
-code_step : (text : List ℕ) (i j : ℕ) (k : ℕ → List ℕ → Out ℕ) → i + 1 ≡ j → hex_code (and_then (hex1 (drop i text)) k) ≡ pick (ltb (D text i) 16) (hex_code (k (D text i) (drop j text))) 65536
+code_step : (text : List ℕ) (i j : ℕ) (k : ℕ → List ℕ → Out ℕ) → i + 1 ≡ j → hex_code (and_then (hex1 (drop i text)) k) ≡ pick (ltb (D text i) 16) (hex_code (k (D text i) (drop j text))) None
 unfolding hex1 hex_code
 code_step text i j k e = cases (ltb i (length text))
-    (λ h. rw (here text i (ltb-true i (length text) h), e) (by (λ o. hex_code (and_then o k) ≡ pick (ltb (D text i) 16) (hex_code (k (D text i) (drop j text))) 65536) (ltb (D text i) 16) (λ x. rw x) (λ x. rw x)))
+    (λ h. rw (here text i (ltb-true i (length text) h), e) (by (λ o. hex_code (and_then o k) ≡ pick (ltb (D text i) 16) (hex_code (k (D text i) (drop j text))) None) (ltb (D text i) 16) (λ x. rw x) (λ x. rw x)))
     (λ h. rw (ended text i (ltb-false i (length text) h), past_end text i (ltb-false i (length text) h), digit-zero))
 
-pub hex4-at : (text : List ℕ) (i : ℕ) → hex_code (hex4 (drop i text)) ≡ pick (ltb (D text i) 16) (pick (ltb (D text (i + 1)) 16) (pick (ltb (D text (i + 2)) 16) (pick (ltb (D text (i + 3)) 16) (D text i * 4096 + D text (i + 1) * 256 + D text (i + 2) * 16 + D text (i + 3)) 65536) 65536) 65536) 65536
+pub hex4-at : (text : List ℕ) (i : ℕ) → hex_code (hex4 (drop i text)) ≡ pick (ltb (D text i) 16) (pick (ltb (D text (i + 1)) 16) (pick (ltb (D text (i + 2)) 16) (pick (ltb (D text (i + 3)) 16) (Some (D text i * 4096 + D text (i + 1) * 256 + D text (i + 2) * 16 + D text (i + 3))) None) None) None) None
 unfolding hex4 hex_code
 hex4-at text i =
     code_step text i (i + 1) _ refl
-    ∙ ap (λ n. pick (ltb (D text i) 16) n 65536) (code_step text (i + 1) (i + 2) _ (omega arith)
-    ∙ ap (λ n. pick (ltb (D text (i + 1)) 16) n 65536) (code_step text (i + 2) (i + 3) _ (omega arith)
-    ∙ ap (λ n. pick (ltb (D text (i + 2)) 16) n 65536) (code_step text (i + 3) (i + 4) _ (omega arith))))
+    ∙ ap (λ n. pick (ltb (D text i) 16) n None) (code_step text (i + 1) (i + 2) _ (omega arith)
+    ∙ ap (λ n. pick (ltb (D text (i + 1)) 16) n None) (code_step text (i + 2) (i + 3) _ (omega arith)
+    ∙ ap (λ n. pick (ltb (D text (i + 2)) 16) n None) (code_step text (i + 3) (i + 4) _ (omega arith))))
+
+pub hex4-short : (text : List ℕ) → length text < 4 → hex_code (hex4 text) ≡ None
+hex4-short text h = hex4-at text 0 ∙ rw (past_end text 3 (omega arith), digit-zero, pick_same, pick_same, pick_same)
 
 -- the low surrogate at a place
 pub low-at : (text : List ℕ) (i : ℕ) → low_surrogate (drop i text) ≡ pick (eqb (get_or text i 0) 92) (pick (eqb (get_or text (i + 1) 0) 117) (low_of (hex4 (drop (i + 2) text))) 0) 0
@@ -99,11 +119,33 @@ low-at text i = cases (ltb i (length text))
     (λ k. rw (here text i (ltb-true i (length text) h), ended text (i + 1) (ltb-false (i + 1) (length text) k), past_end text (i + 1) (ltb-false (i + 1) (length text) k), pick_same)))
     (λ h. rw (ended text i (ltb-false i (length text) h), past_end text i (ltb-false i (length text) h)))
 
-pub low-of : (o : Out ℕ) → low_of o ≡ pick (between 56320 57343 (hex_code o)) (hex_code o) 0
-unfolding low_of hex_code between
-low-of (ok l s) = refl
-low-of deep = refl
-low-of bad = refl
+pub low-short : (text : List ℕ) → length text < 2 → low_surrogate text ≡ 0
+unfolding low_surrogate
+low-short [] h = refl
+low-short (b ∷ []) h = refl
+low-short (b ∷ c ∷ s) h = absurd (omega arith)
+
+module _ (text : List ℕ) where
+  pub low-first : ((get_or text 0 0 ≡ 92) → ⊥) → low_surrogate text ≡ 0
+  low-first h = low-at text 0 ∙ rw (ne_eqb _ 92 h)
+
+  pub low-second : ((get_or text 1 0 ≡ 117) → ⊥) → low_surrogate text ≡ 0
+  low-second h = low-at text 0 ∙ rw (ne_eqb (get_or text 1 0) 117 h, pick_same)
+
+  pub low-both : get_or text 0 0 ≡ 92 → get_or text 1 0 ≡ 117 → low_surrogate text ≡ low_of (hex4 (drop 2 text))
+  low-both h k = low-at text 0 ∙ rw (h, k)
+
+pub low-some : (o : Out ℕ) {l : ℕ} → hex_code o ≡ Some l → low_of o ≡ pick (between 56320 57343 l) l 0
+unfolding low_of hex_code
+low-some (ok m s) {l} e = let q : m ≡ l = cc in rw q
+low-some deep e = cc
+low-some bad e = cc
+
+pub low-none : (o : Out ℕ) → hex_code o ≡ None → low_of o ≡ 0
+unfolding low_of hex_code
+low-none (ok m s) e = cc
+low-none deep e = refl
+low-none bad e = refl
 
 -- what a low surrogate that was found tells
 pub record Pairs (u l : ℕ) (s : List ℕ) : Type 0 where
@@ -173,7 +215,7 @@ small-unicode s = go (unicode-view s)
     go (two-units {n} h k l) = (omega (arith, utf8-two n h), omega (arith, utf8-two n h, length-drop 10 s))
     go no-unit = tt
 
-small-escape : (s : List ℕ) → Gives (Small s) (escape s)
+pub small-escape : (s : List ℕ) → Gives (Small s) (escape s)
 unfolding escape
 small-escape [] = tt
 small-escape (b ∷ s) = by (Gives (Small (b ∷ s))) (eqb b 117)
@@ -209,7 +251,7 @@ pub string-nil : string [] ≡ bad
 unfolding string string_pieces
 string-nil = refl
 
--- by the octet at a place
+-- by the first octet
 plain-is : (b : ℕ) → json_unescaped b ≡ true → (ltb b 32 ≡ false) × (eqb b 34 ≡ false) × (eqb b 92 ≡ false)
 unfolding json_unescaped
 plain-is b e =
@@ -232,22 +274,22 @@ string-plains (x ∷ xs) ys h =
     let b = both (json_unescaped x) (all json_unescaped xs) h in
     string-plain x (xs ++ ys) b.0 ∙ ap (fmap (λ zs. x ∷ zs)) (string-plains xs ys b.1) ∙ map-map (λ zs. x ∷ zs) (λ zs. xs ++ zs) (string ys)
 
-module _ (text : List ℕ) where
-  pub string-run : {at r : ℕ} → ClassRun json_unescaped text at r → string (drop at text) ≡ fmap (λ zs. take (r - at) (drop at text) ++ zs) (string (drop r text))
-  string-run {at} {r} w = ap string (part-rest text at r w.above) ∙ string-plains (take (r - at) (drop at text)) (drop r text) w.inside
+pub string-run : (s : List ℕ) {n : ℕ} → ClassRun json_unescaped s 0 n → string s ≡ fmap (λ zs. take n s ++ zs) (string (drop n s))
+string-run s {n} w =
+    let e : n - 0 ≡ n = omega arith in
+    ap string (sym (take-append-drop n s)) ∙ string-plains (take n s) (drop n s) (rw e at w.inside)
 
-  pub string-quote : (i : ℕ) → get_or text i 0 ≡ 34 → string (drop i text) ≡ ok [] (drop (i + 1) text)
-  string-quote i h = ap string (here text i (inside_is text i 34 h (omega arith))) ∙ string-cons (get_or text i 0) (drop (i + 1) text) ∙ rw h
+pub string-quote : (s : List ℕ) → string (34 ∷ s) ≡ ok [] s
+string-quote s = string-cons 34 s
 
-  pub string-escape : (i : ℕ) → get_or text i 0 ≡ 92 → string (drop i text) ≡ onto (escape (drop (i + 1) text))
-  unfolding piece
-  string-escape i h = ap string (here text i (inside_is text i 92 h (omega arith))) ∙ string-cons (get_or text i 0) (drop (i + 1) text) ∙ rw h
+pub string-escape : (s : List ℕ) → string (92 ∷ s) ≡ onto (escape s)
+unfolding piece
+string-escape s = string-cons 92 s
 
-  pub string-none : (i : ℕ) → json_unescaped (get_or text i 0) ≡ false → ((get_or text i 0 ≡ 34) → ⊥) → ((get_or text i 0 ≡ 92) → ⊥) → string (drop i text) ≡ bad
-  unfolding piece
-  string-none i p q b = cases (ltb i (length text))
-      (λ h. ap string (here text i (ltb-true i (length text) h)) ∙ string-cons (get_or text i 0) (drop (i + 1) text) ∙ rw (ne_eqb _ 34 q, ne_eqb _ 92 b, plain-not (get_or text i 0) p (ne_eqb _ 34 q) (ne_eqb _ 92 b)))
-      (λ h. ap string (ended text i (ltb-false i (length text) h)) ∙ string-nil)
+pub string-none : (s : List ℕ) → json_unescaped (get_or s 0 0) ≡ false → ((get_or s 0 0 ≡ 34) → ⊥) → ((get_or s 0 0 ≡ 92) → ⊥) → string s ≡ bad
+unfolding piece
+string-none [] p q b = string-nil
+string-none (c ∷ s) p q b = string-cons c s ∙ rw (ne_eqb c 34 q, ne_eqb c 92 b, plain-not c p (ne_eqb c 34 q) (ne_eqb c 92 b))
 
 -- a character written
 module _ (n : ℕ) {p q : Pen} where
@@ -267,60 +309,53 @@ module _ (n : ℕ) {p q : Pen} where
   unfolding utf8_of
   char-4 h w = rw (le-ltb n 128 (omega arith), le-ltb n 2048 (omega arith), le-ltb n 65536 h) w
 
--- what follows `\u`, at a place: u is what `hex4` answered, l what `partner` did
-pub unicode-none : (s : List ℕ) (u : ℕ) → u ≡ hex_code (hex4 s) → u ≡ 65536 → unicode s ≡ bad
+-- what follows `\u`: u is what `hex4` answered, l what `partner` did
+pub unicode-none : (s : List ℕ) → hex_code (hex4 s) ≡ None → unicode s ≡ bad
 unfolding unicode
-unicode-none s u e h = rw (code-none u (hex4-view s) e h)
+unicode-none s e = rw (code-none (hex4-view s) e)
 
-module _ (text : List ℕ) (i u : ℕ) (is : u ≡ hex_code (hex4 (drop i text))) (some : (u ≡ 65536) → ⊥) where
-  unit-coded : Coded (drop i text) (hex4 (drop i text)) u
-  unit-coded = coded u (hex4-view (drop i text)) is some
+module _ (s : List ℕ) (u : ℕ) (is : hex_code (hex4 s) ≡ Some u) where
+  unit-coded : Coded s (hex4 s) u
+  unit-coded = coded (hex4-view s) is
 
   pub unit-small : u < 65536
   unit-small = unit-coded.small
 
-  pub unit-inside : i + 4 ≤ length text
-  unit-inside = omega (arith, unit-coded.long, length-drop i text)
+  pub unit-inside : 4 ≤ length s
+  unit-inside = unit-coded.long
 
-  module _ (l : ℕ) (next : l ≡ partner u (drop (i + 4) text)) where
-    unit-read : unicode (drop i text) ≡ unit u (drop (i + 4) text) l
+  module _ (l : ℕ) (next : l ≡ partner u (drop 4 s)) where
+    unit-read : unicode s ≡ unit u (drop 4 s) l
     unfolding unicode
-    unit-read = rw (unit-coded.is, drop-drop, next)
+    unit-read = rw (unit-coded.is, next)
 
-    pub one-read : l ≡ 0 → unicode (drop i text) ≡ ok (utf8_of u) (drop (i + 4) text)
+    pub one-read : l ≡ 0 → unicode s ≡ ok (utf8_of u) (drop 4 s)
     unfolding unit
     one-read z = unit-read ∙ rw (eq-eqb l 0 z)
 
     module _ (two : (l ≡ 0) → ⊥) where
-      pub units-paired : Pairs u l (drop (i + 4) text)
-      units-paired = rw next (paired u (drop (i + 4) text) (λ z. two (next ∙ z)))
+      pub units-paired : Pairs u l (drop 4 s)
+      units-paired = rw next (paired u (drop 4 s) (λ z. two (next ∙ z)))
 
-      pub units-inside : i + 10 ≤ length text
-      units-inside = omega (arith, units-paired.long, length-drop (i + 4) text)
-
-      pub two-read : unicode (drop i text) ≡ ok (utf8_of (65536 + (u - 55296) * 1024 + (l - 56320))) (drop (i + 10) text)
+      pub two-read : unicode s ≡ ok (utf8_of (65536 + (u - 55296) * 1024 + (l - 56320))) (drop 6 (drop 4 s))
       unfolding unit
-      two-read =
-          let e : i + 4 + 6 ≡ i + 10 = omega arith in
-          unit-read ∙ rw (ne_eqb l 0 two, drop-drop, e)
+      two-read = unit-read ∙ rw (ne_eqb l 0 two)
 
--- what follows a backslash, at a place
-module _ (text : List ℕ) (i : ℕ) where
-  pub escape_unicode : get_or text i 0 ≡ 117 → escape (drop i text) ≡ unicode (drop (i + 1) text)
+-- what follows a backslash, by its first octet
+pub escape-short : (s : List ℕ) → length s < 1 → escape s ≡ bad
+unfolding escape
+escape-short [] h = refl
+escape-short (b ∷ s) h = absurd (omega (arith, h))
+
+pub escape_unicode : (s : List ℕ) → escape (117 ∷ s) ≡ unicode s
+unfolding escape
+escape_unicode s = refl
+
+module _ (b : ℕ) (s : List ℕ) (n : (b ≡ 117) → ⊥) where
+  pub escape-none : escape_of b ≡ 0 → escape (b ∷ s) ≡ bad
   unfolding escape
-  escape_unicode h = rw (here text i (inside_is text i 117 h (omega arith)), h)
+  escape-none z = rw (ne_eqb b 117 n, eq-eqb (escape_of b) 0 z)
 
-  module _ (x : ℕ) (n : (get_or text i 0 ≡ 117) → ⊥) (e : x ≡ escape_of (get_or text i 0)) where
-    pub escape-none : x ≡ 0 → escape (drop i text) ≡ bad
-    unfolding escape
-    escape-none z = cases (ltb i (length text))
-        (λ h. rw (here text i (ltb-true i (length text) h), ne_eqb _ 117 n, ← e, eq-eqb x 0 z))
-        (λ h. rw (ended text i (ltb-false i (length text) h)))
-
-    pub escape-inside : ((x ≡ 0) → ⊥) → i < length text
-    unfolding escape_of
-    escape-inside z = inside text i (λ b. not (eqb (escape_of b) 0)) refl (rw (← e, ne_eqb x 0 z))
-
-    pub escape-one : ((x ≡ 0) → ⊥) → escape (drop i text) ≡ ok (x ∷ []) (drop (i + 1) text)
-    unfolding escape
-    escape-one z = rw (here text i (escape-inside z), ne_eqb _ 117 n, ← e, ne_eqb x 0 z)
+  pub escape-one : {x : ℕ} → x ≡ escape_of b → ((x ≡ 0) → ⊥) → escape (b ∷ s) ≡ ok (x ∷ []) s
+  unfolding escape
+  escape-one q z = rw (q, ne_eqb b 117 n, ne_eqb (escape_of b) 0 (λ w. z (q ∙ w)))

@@ -1,32 +1,51 @@
 -- What the crate's own readers promise each other; `parse` promises what Parse says.
-use Rattle.std.specs.Prelude.{ℕ, ◌≤◌, ◌≡◌, List, [], ◌∷◌, eqb, length, drop}
-use Prim.Native.Char.{code}
-use Rattle.octets.specs.Basics.{pick}
+use Rattle.std.specs.Prelude.{ℕ, zero, suc, ◌<◌, ◌≡◌, List, [], ◌∷◌, drop, Some, None, Result, Ok, Err}
+use Rattle.std.specs.Borrow.{Bor}
+use Prim.Native.Char.{code as octet}
+use Rattle.octets.specs.Classes.{is_digit}
+use Rattle.octets.specs.Search.{ClassRun}
 use Rattle.octets.specs.Pen.{Pen, pen, Wrote}
 use Rattle.json_text.specs.Reads.{Out, ok, deep, bad}
 use Rattle.json_text.specs.Print.{escaped}
-use Rattle.json_text.specs.declared.JsonRead.{JsonRead}
-use Rattle.json_text.specs.declared.JsonRead.TheVariants.{Read, TooDeep, NotJson}
-use Rattle.json_text.specs.declared.PlaceFound.{PlaceFound}
-use Rattle.json_text.specs.declared.PlaceFound.TheVariants.{At, Nothing}
+use Rattle.json_text.specs.declared.JsonError.{JsonError}
+use Rattle.json_text.specs.declared.JsonError.TheVariants.{TooDeep, NotJson}
+use Rattle.std.specs.declared.option.Option as code
 
--- the place of the answer, `low` at least, is where the reading o ends
-pub data FoundAt (text : List ℕ) (low : ℕ) (o : Out (Unit {0})) : PlaceFound → Type 0 where
-  found : {e : ℕ} → o ≡ ok tt (drop e text) → low ≤ e → e ≤ length text → FoundAt text low o (At e)
-  missing : o ≡ bad → FoundAt text low o Nothing
+-- one digit or more stand before the answer
+pub data Digits (text : List ℕ) : code.Option (Bor (List ℕ)) → Type 0 where
+  some-digits : {n : ℕ} {r : Bor (List ℕ)} → ClassRun is_digit text 0 n → 0 < n → r.now ≡ drop n text → Digits text (Some r)
+  no-digits : ClassRun is_digit text 0 0 → Digits text None
+
+-- the answer is where the reading o ends
+pub data Behind (o : Out (Unit {0})) : code.Option (Bor (List ℕ)) → Type 0 where
+  behind : {r : Bor (List ℕ)} → o ≡ ok tt r.now → Behind o (Some r)
+  nothing : o ≡ bad → Behind o None
 
 -- the answer is the reading o: what it read has the tape f, which was written with the pen p; t is the buffer then
-pub data Agrees {A : Type 0} (f : A → List ℕ) (text : List ℕ) (low : ℕ) (p : Pen) (t : List ℕ) (o : Out A) : JsonRead → Type 0 where
-  read : {e to : ℕ} (a : A) → o ≡ ok a (drop e text) → low ≤ e → e ≤ length text → Wrote p (f a) (pen t to) → Agrees f text low p t o (Read e to)
-  too-deep : o ≡ deep → Agrees f text low p t o TooDeep
-  not-json : o ≡ bad → Agrees f text low p t o NotJson
+pub data Agrees {A : Type 0} (f : A → List ℕ) (p : Pen) (t : List ℕ) (o : Out A) : Result (Bor (List ℕ) × ℕ) JsonError → Type 0 where
+  read : {r : Bor (List ℕ)} {to : ℕ} (a : A) → o ≡ ok a r.now → Wrote p (f a) (pen t to) → Agrees f p t o (Ok (r, to))
+  too-deep : o ≡ deep → Agrees f p t o (Err TooDeep)
+  not-json : o ≡ bad → Agrees f p t o (Err NotJson)
 
--- the number that four hexadecimal digits gave; where there are none, one more than they can say
-unfoldable pub hex_code : Out ℕ → ℕ
-hex_code (ok n s) = n
-hex_code deep = 65536
-hex_code bad = 65536
+-- a number, where it is not 0
+unfoldable pub unless_zero : ℕ → code.Option ℕ
+unless_zero zero = None
+unless_zero (suc n) = Some (suc n)
 
--- a string has r behind a backslash for c; 0, where c stands as it is
-abbrev pub WrittenAs : ℕ → ℕ → Type 0
-WrittenAs c r = escaped c ≡ pick (eqb r 0) (c ∷ []) (code "\\" ∷ r ∷ [])
+-- the number that four hexadecimal digits gave
+unfoldable pub hex_code : Out ℕ → code.Option ℕ
+hex_code (ok n s) = Some n
+hex_code deep = None
+hex_code bad = None
+
+-- a string has r behind a backslash for c; none, where c stands as it is
+abbrev pub WrittenAs : ℕ → code.Option ℕ → Type 0
+WrittenAs c None = escaped c ≡ c ∷ []
+WrittenAs c (Some r) = escaped c ≡ octet "\\" ∷ r ∷ []
+
+-- a text that begins with what opens an array, an object
+abbrev pub on_bracket : List ℕ → List ℕ
+on_bracket s = octet "[" ∷ s
+
+abbrev pub on_brace : List ℕ → List ℕ
+on_brace s = octet "{" ∷ s

@@ -10,31 +10,18 @@ mod values;
 pub use quoting::{put_escaped, put_string};
 pub use values::parse;
 
-// What `parse` answers: the length of the tape, or why there is none.
+// Why a text has no tape.
 #[derive(Clone, Copy)]
-pub enum Parsed {
-    Tape(usize),
+pub enum JsonError {
     TooDeep,
     NotJson,
     NoRoom,
 }
 
-// What a reader answers: it read up to a place of the text and wrote up to a place of the tape; or why it did not.
-#[derive(Clone, Copy)]
-pub(crate) enum JsonRead {
-    Read(usize, usize),
-    TooDeep,
-    NotJson,
-}
+// What a reader answers: the text behind what it read, and the place up to which it wrote the tape; or why it did not.
+pub(crate) type JsonRead<'a> = Result<(&'a [u8], usize), JsonError>;
 
-// A place that was looked for.
-#[derive(Clone, Copy)]
-pub(crate) enum PlaceFound {
-    At(usize),
-    Nothing,
-}
-
-// The tags of the tape.
+// The tags of the tape: numbers, since they are the octets that stand on it.
 const NULL: u8 = 0;
 
 const FALSE: u8 = 1;

@@ -1,82 +1,52 @@
 // JSON strings (RFC 8259 7), decoded onto the tape.
-ghost use Rattle.std.specs.Prelude.{◌≡◌, List, ℕ, ◌+◌, ◌≤◌, ◌<◌, length, drop, get_or};
-ghost use Rattle.octets.specs.Groups.{json_unescaped};
-ghost use Rattle.octets.specs.Classes.{hex_digit};
+ghost use Rattle.std.specs.Prelude.{◌≡◌, List, ℕ, ◌<◌};
 ghost use Rattle.octets.specs.Pen.{pen, Wrote};
 ghost use Rattle.json_text.specs.Strings.{escape_of, hex4 as hex4_of, utf8_of, low_surrogate, partner as partner_of, unicode as unicode_of, escape as escape_text, string as string_of};
 ghost use Rattle.json_text.specs.Tape.{ser_string};
-ghost use Rattle.octets.specs.Search.{ClassRun};
-ghost use Rattle.json_text.specs.Promise.{Agrees, hex_code};
+ghost use Rattle.json_text.specs.Promise.{Agrees, unless_zero, hex_code};
 
-use crate::{END, JsonRead, STRING};
-use octets::Class;
+use crate::{END, JsonError, JsonRead, STRING};
+use octets::{Class, hex_digit};
 
-// More than four hexadecimal digits can say.
-const NONE: usize = 65536;
-
-fn digit(text: &[u8], at: usize) -> usize
-    ensures { result ≡ hex_digit (get_or text.now at 0) }
+// The number of four hexadecimal digits.
+fn hex4(text: &[u8]) -> Option<usize>
+    ensures { result ≡ hex_code (hex4_of text.now) }
 {
-    octets::hex_digit(octets::peek(text, at)) as usize
+    let [k, l, m, n, ..] = text else {
+        return None;
+    };
+    let a = hex_digit(*k)? as usize;
+    let b = hex_digit(*l)? as usize;
+    let c = hex_digit(*m)? as usize;
+    let d = hex_digit(*n)? as usize;
+    Some(a * 4096 + b * 256 + c * 16 + d)
 }
 
-// The number of four hexadecimal digits, or NONE.
-fn hex4(text: &[u8], at: usize) -> usize
-    requires { at ≤ length text.now }
-    ensures { result ≡ hex_code (hex4_of (drop at text.now)) }
+// The low surrogate that stands next as an escape.
+fn low(text: &[u8]) -> Option<usize>
+    ensures { result ≡ unless_zero (low_surrogate text.now) }
 {
-    let a = digit(&*text, at);
-    if 15 < a {
-        return NONE;
+    let [b'\\', b'u', rest @ ..] = text else {
+        return None;
+    };
+    let l = hex4(rest)?;
+    if 0xDC00 <= l && l <= 0xDFFF {
+        return Some(l);
     }
-    let b = digit(&*text, at + 1);
-    if 15 < b {
-        return NONE;
-    }
-    let c = digit(&*text, at + 2);
-    if 15 < c {
-        return NONE;
-    }
-    let d = digit(&*text, at + 3);
-    if 15 < d {
-        return NONE;
-    }
-    a * 4096 + b * 256 + c * 16 + d
+    None
 }
 
-// The low surrogate that stands next as an escape, or 0.
-fn low(text: &[u8], at: usize) -> usize
-    requires { at ≤ length text.now }
-    ensures { result ≡ low_surrogate (drop at text.now) }
-{
-    if octets::peek(text, at) != b'\\' {
-        return 0;
-    }
-    if octets::peek(text, at + 1) != b'u' {
-        return 0;
-    }
-    let l = hex4(text, at + 2);
-    if l < 0xDC00 {
-        return 0;
-    }
-    if 0xDFFF < l {
-        return 0;
-    }
-    l
-}
-
-// The low surrogate behind the unit u, if u is a high one, or 0.
-fn partner(text: &[u8], at: usize, u: usize) -> usize
-    requires { at ≤ length text.now }
-    ensures { result ≡ partner_of u (drop at text.now) }
+// The low surrogate behind the unit u, if u is a high one.
+fn partner(text: &[u8], u: usize) -> Option<usize>
+    ensures { result ≡ unless_zero (partner_of u text.now) }
 {
     if u < 0xD800 {
-        return 0;
+        return None;
     }
     if 0xDBFF < u {
-        return 0;
+        return None;
     }
-    low(text, at)
+    low(text)
 }
 
 // Writes a character in UTF-8.
@@ -114,87 +84,71 @@ fn put_char(out: &mut [u8], at: usize, n: usize) -> usize
 }
 
 // Reads what follows `\u`.
-fn unicode(text: &[u8], at: usize, tape: &mut [u8], to: usize) -> JsonRead
-    requires { at ≤ length text.now }
-    ensures { Agrees (λ (xs : List ℕ). xs) text.now at (pen tape.old to) tape.new (unicode_of (drop at text.now)) result }
+fn unicode<'a>(text: &'a [u8], tape: &mut [u8], to: usize) -> JsonRead<'a>
+    ensures { Agrees (λ (xs : List ℕ). xs) (pen tape.old to) tape.new (unicode_of text.now) result }
 {
-    let u = hex4(text, at);
-    if u == NONE {
-        return JsonRead::NotJson;
+    let Some(u) = hex4(text) else {
+        return Err(JsonError::NotJson);
+    };
+    let rest = &text[4..];
+    match partner(rest, u) {
+        None => Ok((rest, put_char(tape, to, u))),
+        Some(l) => Ok((
+            &rest[6..],
+            put_char(tape, to, 65536 + (u - 0xD800) * 1024 + (l - 0xDC00)),
+        )),
     }
-    let l = partner(text, at + 4, u);
-    if l == 0 {
-        return JsonRead::Read(at + 4, put_char(tape, to, u));
-    }
-    JsonRead::Read(
-        at + 10,
-        put_char(tape, to, 65536 + (u - 0xD800) * 1024 + (l - 0xDC00)),
-    )
 }
 
-// The octet that a backslash and b stand for, or 0.
-fn escape_of(b: u8) -> u8
-    ensures { result ≡ escape_of b }
+// The octet that a backslash and b stand for.
+fn escape_of(b: u8) -> Option<u8>
+    ensures { result ≡ unless_zero (escape_of b) }
 {
     match b {
-        b'"' => b'"',
-        b'\\' => b'\\',
-        b'/' => b'/',
-        b'b' => 8,
-        b'f' => 12,
-        b'n' => b'\n',
-        b'r' => b'\r',
-        b't' => b'\t',
-        _ => 0,
+        b'"' | b'\\' | b'/' => Some(b),
+        b'b' => Some(8),
+        b'f' => Some(12),
+        b'n' => Some(b'\n'),
+        b'r' => Some(b'\r'),
+        b't' => Some(b'\t'),
+        _ => None,
     }
 }
 
 // Reads what follows a backslash.
-fn escape(text: &[u8], at: usize, tape: &mut [u8], to: usize) -> JsonRead
-    requires { at ≤ length text.now }
-    ensures { Agrees (λ (xs : List ℕ). xs) text.now at (pen tape.old to) tape.new (escape_text (drop at text.now)) result }
+fn escape<'a>(text: &'a [u8], tape: &mut [u8], to: usize) -> JsonRead<'a>
+    ensures { Agrees (λ (xs : List ℕ). xs) (pen tape.old to) tape.new (escape_text text.now) result }
 {
-    let b = octets::peek(text, at);
-    if b == b'u' {
-        return unicode(text, at + 1, tape, to);
+    let [b, rest @ ..] = text else {
+        return Err(JsonError::NotJson);
+    };
+    if *b == b'u' {
+        return unicode(rest, tape, to);
     }
-    let x = escape_of(b);
-    if x == 0 {
-        return JsonRead::NotJson;
-    }
-    JsonRead::Read(at + 1, octets::put(tape, to, x))
-}
-
-// The place behind the octets at `at` that stand for themselves.
-fn past_unescaped(text: &[u8], at: usize) -> usize
-    requires { at ≤ length text.now }
-    ensures { ClassRun json_unescaped text.now at result }
-{
-    octets::long_run_end(text, at, Class::Unescaped)
+    let Some(x) = escape_of(*b) else {
+        return Err(JsonError::NotJson);
+    };
+    Ok((rest, octets::put(tape, to, x)))
 }
 
 // Reads what follows an opening quote; octets that stand for themselves are copied run by run.
-pub(crate) fn string(text: &[u8], at: usize, tape: &mut [u8], to: usize) -> JsonRead
-    requires { at ≤ length text.now }
-    ensures { Agrees ser_string text.now at (pen tape.old to) tape.new (string_of (drop at text.now)) result }
+pub(crate) fn string<'a>(text: &'a [u8], tape: &mut [u8], to: usize) -> JsonRead<'a>
+    ensures { Agrees ser_string (pen tape.old to) tape.new (string_of text.now) result }
 {
     let mut p = octets::put(tape, to, STRING);
-    let mut i = at;
+    let mut left = text;
     loop {
-        let e = past_unescaped(&*text, i);
-        let q = octets::put_all(tape, p, &text[i..e]);
-        let b = octets::peek(&*text, e);
-        if b == b'"' {
-            return JsonRead::Read(e + 1, octets::put(tape, q, END));
+        let n = octets::long_run_end(left, 0, Class::Unescaped);
+        let (run, ended) = left.split_at(n);
+        let q = octets::put_all(tape, p, run);
+        match ended {
+            [b'"', rest @ ..] => return Ok((rest, octets::put(tape, q, END))),
+            [b'\\', rest @ ..] => {
+                let (behind, m) = escape(rest, tape, q)?;
+                left = behind;
+                p = m;
+            }
+            _ => return Err(JsonError::NotJson),
         }
-        if b != b'\\' {
-            return JsonRead::NotJson;
-        }
-        let v = escape(&*text, e + 1, tape, q);
-        let JsonRead::Read(n, m) = v else {
-            return v;
-        };
-        i = n;
-        p = m;
     }
 }

@@ -1,55 +1,43 @@
 // Texts of content lines and single lines: a case has what is given, and what it must give. Octets may be written \n, \r, \t, \\ or \xHH.
-ghost use Rattle.std.specs.Prelude.{◌≤◌, length};
-
 use crate::parts::{before, behind, stands};
-use content::{Lines, ValueType};
-use octets::{hex_digit, peek, put, put_all, same};
+use content::NoType;
+use octets::{Refusal, hex_digit, peek, put, put_all, same};
 
 // Octets of a case.
 const MOST: usize = 4096;
 
 // The octet of two hexadecimal digits.
 fn hex(a: u8, b: u8) -> u8 {
-    let high = hex_digit(a);
-    let low = hex_digit(b);
-    if high < 16 {
-        if low < 16 {
-            return high * 16 + low;
-        }
+    match (hex_digit(a), hex_digit(b)) {
+        (Some(high), Some(low)) => high * 16 + low,
+        _ => 0,
     }
-    0
 }
 
 // The octet that is written as a backslash and `kind`.
-fn escape(s: &[u8], i: usize, kind: u8) -> u8
-    requires { i ≤ length s.now }
-{
+fn escape(kind: u8) -> u8 {
     match kind {
         b'n' => b'\n',
         b'r' => b'\r',
         b't' => b'\t',
-        b'x' => hex(peek(s, i + 2), peek(s, i + 3)),
         _ => kind,
     }
 }
 
-// What is written in a part of a case.
+// What is written in a part of a case. A part that ends in an escape is read as if octets 0 stood behind it.
 fn unescape(s: &[u8], out: &mut [u8]) -> usize {
     let mut to = 0;
-    let mut i = 0;
-    while i < s.len() {
-        if s[i] == b'\\' {
-            let kind = peek(s, i + 1);
-            to = put(out, to, escape(s, i, kind));
-            if kind == b'x' {
-                i += 4;
-            } else {
-                i += 2;
-            }
-        } else {
-            to = put(out, to, s[i]);
-            i += 1;
-        }
+    let mut left = s;
+    while let [c, rest @ ..] = left {
+        let (octet, behind) = match left {
+            [b'\\', b'x', high, low, behind @ ..] => (hex(*high, *low), behind),
+            [b'\\', b'x', tail @ ..] => (hex(peek(tail, 0), peek(tail, 1)), &tail[tail.len()..]),
+            [b'\\', kind, behind @ ..] => (escape(*kind), behind),
+            [b'\\'] => (0, rest),
+            _ => (*c, rest),
+        };
+        to = put(out, to, octet);
+        left = behind;
     }
     to
 }
@@ -58,20 +46,11 @@ fn unescape(s: &[u8], out: &mut [u8]) -> usize {
 fn text_gives(text: &[u8], want: &[u8]) -> bool {
     let mut lines = [0u8; MOST];
     match content::read_lines(text, &mut lines) {
-        Lines::Laid(n) => stands(&lines, 0, n, want),
-        Lines::NotClean => same(want, b"refused 3"),
-        Lines::NotFormed => same(want, b"refused 4"),
-        Lines::NoRoom => false,
+        Ok(n) => stands(&lines, 0, n, want),
+        Err(Refusal::NotClean) => same(want, b"refused 3"),
+        Err(Refusal::NotContentLine) => same(want, b"refused 4"),
+        Err(_) => false,
     }
-}
-
-fn put_named(out: &mut [u8], at: usize, s: &[u8], from: usize, end: usize) -> usize {
-    if from <= end {
-        if end <= s.len() {
-            return octets::put_lower(out, at, &s[from..end]);
-        }
-    }
-    at
 }
 
 // The type that VALUE names, or `-`; `7` where the parameters are at fault.
@@ -80,9 +59,9 @@ fn put_type(out: &mut [u8], at: usize, params: &[u8]) -> usize {
         return put(out, at, b'7');
     }
     match content::value_type(params) {
-        ValueType::Absent => put(out, at, b'-'),
-        ValueType::Stated(from, end) => put_named(out, at, params, from, end),
-        ValueType::Faulty => put(out, at, b'7'),
+        Ok(None) => put(out, at, b'-'),
+        Ok(Some(name)) => octets::put_lower(out, at, name),
+        Err(NoType) => put(out, at, b'7'),
     }
 }
 
@@ -129,10 +108,5 @@ pub(crate) fn holds(texts: bool, case: &[u8]) -> bool {
     let mut want = [0u8; MOST];
     let n = unescape(before(case, b'\t'), &mut given);
     let m = unescape(behind(case, b'\t'), &mut want);
-    if n <= MOST {
-        if m <= MOST {
-            return gives(texts, &given[0..n], &want[0..m]);
-        }
-    }
-    false
+    n <= MOST && m <= MOST && gives(texts, &given[0..n], &want[0..m])
 }

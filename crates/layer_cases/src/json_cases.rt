@@ -2,7 +2,7 @@
 // y_ is JSON, n_ is none, i_ is decided by 01; q_ is written as a JSON string and read back.
 use crate::parts::behind;
 use console::rest_is;
-use json_text::Parsed;
+use json_text::JsonError;
 use std::io;
 use std::rt::Files;
 
@@ -16,11 +16,9 @@ const BLANK: u8 = 170;
 fn checksum(s: &[u8]) -> u32 {
     let mut a: u32 = 1;
     let mut b: u32 = 0;
-    let mut i = 0;
-    while i < s.len() {
-        a = (a + s[i] as u32) % 65521;
+    for &c in s {
+        a = (a + c as u32) % 65521;
         b = (b + a) % 65521;
-        i += 1;
     }
     b * 65536 + a
 }
@@ -28,10 +26,8 @@ fn checksum(s: &[u8]) -> u32 {
 // A tape that is an octet too short is answered as such, and zeroed.
 fn short_is_told(text: &[u8], tape: &mut [u8]) -> bool {
     match json_text::parse(text, tape) {
-        Parsed::NoRoom => rest_is(tape, 0, 0),
-        Parsed::Tape(_) => false,
-        Parsed::TooDeep => false,
-        Parsed::NotJson => false,
+        Err(JsonError::NoRoom) => rest_is(tape, 0, 0),
+        _ => false,
     }
 }
 
@@ -61,10 +57,10 @@ fn refused(rt: &impl Print, tape: &[u8], why: &[u8]) -> io::Result<bool> {
 fn is_read(rt: &impl Print, text: &[u8]) -> io::Result<bool> {
     let mut tape = [BLANK; MOST_TAPE];
     match json_text::parse(text, &mut tape) {
-        Parsed::Tape(n) => accepted(rt, text, &mut tape, n),
-        Parsed::TooDeep => refused(rt, &tape, b" too deep"),
-        Parsed::NotJson => refused(rt, &tape, b" not JSON"),
-        Parsed::NoRoom => Ok(false),
+        Ok(n) => accepted(rt, text, &mut tape, n),
+        Err(JsonError::TooDeep) => refused(rt, &tape, b" too deep"),
+        Err(JsonError::NotJson) => refused(rt, &tape, b" not JSON"),
+        Err(JsonError::NoRoom) => Ok(false),
     }
 }
 

@@ -46,6 +46,7 @@ fn run(rt: &(impl Files + Print), layer: Layer, case: &[u8]) -> io::Result<()> {
 fn run_all(rt: &(impl Files + Print), layer: Layer, text: &[u8]) -> io::Result<u64> {
     let mut n: u64 = 0;
     let mut at = 0;
+    // A `for` over `split_inclusive` does not prove here: the module that the check makes for its iterator is refused.
     while at < text.len() {
         let case = before(&text[at..], b'\n');
         run(rt, layer, case)?;

@@ -26,10 +26,5 @@ pub(crate) fn behind(s: &[u8], sep: u8) -> &[u8] {
 
 // Whether that stands from one place to another.
 pub(crate) fn stands(s: &[u8], from: usize, to: usize, want: &[u8]) -> bool {
-    if from <= to {
-        if to <= s.len() {
-            return same(&s[from..to], want);
-        }
-    }
-    false
+    from <= to && to <= s.len() && same(&s[from..to], want)
 }

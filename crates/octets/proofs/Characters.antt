@@ -1,15 +1,17 @@
 -- Reading one character of several octets, and a text by its characters.
-use Prim.Native.Nat.{ℕ, ◌+◌, ◌≤◌, ◌<◌}
+use Prim.Native.Nat.{ℕ, zero, suc, ◌+◌, ◌-◌, ◌≤◌, ◌<◌}
 use mathlib.Core.Path.{◌≡◌, refl, sym, ap, ◌∙◌}
 use mathlib.Core.Bool.{true, false}
 use mathlib.Core.List.{List}
 use native.Mathlib.Omega.{arith}
-use borrow.Author.Tests.{le-leb, lt-leb, lt-ltb, ltb-true, ltb-false, ne_eqb}
+use borrow.Author.Tests.{le-leb, lt-leb, ltb-true, ltb-false, ne_eqb}
 use lib.Dec.{ltb}
 use lib.ListN.{length, get_or, drop}
+use Rattle.std.specs.Prelude.{Some, None}
+use Rattle.std.specs.declared.option.Option as code
 use Rattle.octets.specs.Classes.{between}
 use Rattle.octets.specs.Utf8.{Due, start, one, two, three, after_e0, after_ed, after_f0, after_f4, broken, lead, due, due_after, is_start, utf8}
-use Rattle.octets.specs.Characters.{Awaits, Ends}
+use Rattle.octets.specs.Characters.{Awaits, Ends, still}
 use Rattle.octets.proofs.Cases.{cases}
 use Rattle.octets.proofs.Positions.{here, ended, past_end}
 use Rattle.octets.proofs.Classes.{between-true}
@@ -29,38 +31,24 @@ module _ (d : Due) (s : List ℕ) (i : ℕ) where
   broken-here : i < length s → due d (get_or s i 0) ≡ broken → is_start (due_after d (drop i s)) ≡ false
   broken-here h e = rw (here s i h, due-cons, e, broken-stays (drop (i + 1) s)) (unfold is_start in refl)
 
-  none : is_start (due_after d (drop i s)) ≡ false → Ends d s i 0
-  none e = record { within = omega arith; onward = λ h. absurd (omega arith); told = e }
-
-  pub ends-broken : i < length s → due d (get_or s i 0) ≡ broken → Ends d s i 0
-  ends-broken h e = none (broken-here h e)
+  pub ends-broken : i < length s → due d (get_or s i 0) ≡ broken → Ends d s i None
+  ends-broken h e = broken-here h e
 
   -- the octet at i is one of its octets
   module _ (next : Due) (h : 127 < get_or s i 0) (e : due d (get_or s i 0) ≡ next) where
-    told-on : is_start (due_after d (drop i s)) ≡ is_start (due_after next (drop (i + 1) s))
+    pub told-on : is_start (due_after d (drop i s)) ≡ is_start (due_after next (drop (i + 1) s))
     told-on = rw (here s i (seen s i (omega arith)), due-cons, e)
 
-    pub ends_on : (r : ℕ) → Ends next s (i + 1) r → Ends d s i r
-    ends_on r t = record {
-      within = t.within;
-      onward = λ k. omega (arith, t.onward k);
-      told = told-on ∙ t.told;
-    }
-
-    pub ends_last : next ≡ start → Ends d s i (i + 1)
-    unfolding utf8
-    ends_last f = record {
-      within = omega (arith, seen s i (omega arith));
-      onward = λ k. omega arith;
-      told = told-on ∙ rw (f, lt-ltb 0 (i + 1) (omega arith));
-    }
+    pub ends_on : (r : code.Option ℕ) → Ends next s (i + 1) r → Ends d s i r
+    ends_on None t = told-on ∙ t
+    ends_on (Some r) t = record { within = t.within; onward = omega (arith, t.onward); told = told-on ∙ t.told }
 
 -- an octet from lo to hi is due
 module _ (d : Due) (lo hi : ℕ) (next : Due) (a : Awaits d lo hi next) (s : List ℕ) (i : ℕ) where
-  pub awaited-not : between lo hi (get_or s i 0) ≡ false → Ends d s i 0
+  pub awaited-not : between lo hi (get_or s i 0) ≡ false → Ends d s i None
   awaited-not e = cases (ltb i (length s))
       (λ h. ends-broken d s i (ltb-true i (length s) h) (rw (a.step (get_or s i 0), e)))
-      (λ h. none d s i (broken-end d s i a.waits (ltb-false i (length s) h)))
+      (λ h. broken-end d s i a.waits (ltb-false i (length s) h))
 
   module _ (e : between lo hi (get_or s i 0) ≡ true) where
     high-enough : 127 < get_or s i 0
@@ -69,11 +57,8 @@ module _ (d : Due) (lo hi : ℕ) (next : Due) (a : Awaits d lo hi next) (s : Lis
     comes : due d (get_or s i 0) ≡ next
     comes = rw (a.step (get_or s i 0), e)
 
-    pub awaited : (r : ℕ) → Ends next s (i + 1) r → Ends d s i r
-    awaited r t = ends_on d s i next high-enough comes r t
-
-    pub awaited-last : next ≡ start → Ends d s i (i + 1)
-    awaited-last f = ends_last d s i next high-enough comes f
+    pub awaited : is_start (due_after d (drop i s)) ≡ is_start (due_after next (drop (i + 1) s))
+    awaited = told-on d s i next high-enough comes
 
 pub one-awaits : Awaits one 128 191 start
 unfolding due is_start
@@ -86,6 +71,38 @@ two-awaits = record { step = λ c. refl; waits = refl; high = omega arith }
 pub three-awaits : Awaits three 128 191 two
 unfolding due is_start
 three-awaits = record { step = λ c. refl; waits = refl; high = omega arith }
+
+-- the octets that are still due follow one by one
+pub still-awaits : (n : ℕ) → 0 < n → n ≤ 2 → Awaits (still n) 128 191 (still (n - 1))
+still-awaits zero h k = absurd (omega arith)
+still-awaits (suc zero) h k = one-awaits
+still-awaits (suc (suc zero)) h k = two-awaits
+still-awaits (suc (suc (suc n))) h k = absurd (omega arith)
+
+-- an octet in a range is there
+pub inside-range : (lo hi : ℕ) (s : List ℕ) (i : ℕ) → 0 < lo → between lo hi (get_or s i 0) ≡ true → i < length s
+inside-range lo hi s i h e = seen s i (omega (arith, (between-true lo hi (get_or s i 0) e).0))
+
+-- of the character of which d is due at i, n octets more are due at j
+abbrev pub Onward : Due → List ℕ → ℕ → ℕ → ℕ → Type 0
+Onward d s i n j = is_start (due_after d (drop i s)) ≡ is_start (due_after (still n) (drop j s))
+
+pub onward-first : (d : Due) (s : List ℕ) (i n lo hi : ℕ) → Awaits d lo hi (still n) → between lo hi (get_or s i 0) ≡ true → (m j : ℕ) → m ≡ n → j ≡ i + 1 → Onward d s i m j
+onward-first d s i n lo hi a e m j f g = rw (f, g) (awaited d lo hi (still n) a s i e)
+
+module _ (d : Due) (s : List ℕ) (i n j : ℕ) (o : Onward d s i n j) where
+  module _ (some : 0 < n) (few : n ≤ 2) where
+    pub onward-more : (m k : ℕ) → n ≡ m + 1 → k ≡ j + 1 → between 128 191 (get_or s j 0) ≡ true → Onward d s i m k
+    onward-more m k f g e =
+        let p : n - 1 ≡ m = omega arith in
+        o ∙ rw (g, ← p) (awaited (still n) 128 191 (still (n - 1)) (still-awaits n some few) s j e)
+
+    pub onward-not : between 128 191 (get_or s j 0) ≡ false → Ends d s i None
+    onward-not e = o ∙ awaited-not (still n) 128 191 (still (n - 1)) (still-awaits n some few) s j e
+
+  pub onward-end : (r : ℕ) → n ≡ 0 → j ≡ r → i < r → r ≤ length s → Ends d s i (Some r)
+  unfolding utf8
+  onward-end r z e h k = record { within = k; onward = h; told = o ∙ rw (z, e) }
 
 pub E0-awaits : Awaits after_e0 160 191 one
 unfolding due is_start
@@ -135,20 +152,20 @@ lead_is k d e c f = rw f e
 -- a character in front of the rest
 module _ (s : List ℕ) (i : ℕ) where
   module _ (c : ℕ) (e : c ≡ get_or s i 0) (h : 127 < get_or s i 0) where
-    pub begins : (d : Due) (r : ℕ) → lead c ≡ d → Ends d s (i + 1) r → Ends start s i r
+    pub begins : (d : Due) (r : code.Option ℕ) → lead c ≡ d → Ends d s (i + 1) r → Ends start s i r
     begins d r f t = ends_on start s i d h (unfold due in (ap lead (sym e) ∙ f)) r t
 
-    pub begins-not : lead c ≡ broken → Ends start s i 0
+    pub begins-not : lead c ≡ broken → Ends start s i None
     begins-not f = ends-broken start s i (seen s i (omega arith)) (unfold due in (ap lead (sym e) ∙ f))
 
   -- what is known of the text from i on
-  pub utf8-on : (r : ℕ) → Ends start s i r → 0 < r → utf8 (drop i s) ≡ utf8 (drop r s)
+  pub utf8-on : (r : ℕ) → Ends start s i (Some r) → utf8 (drop i s) ≡ utf8 (drop r s)
   unfolding utf8
-  utf8-on r t h = t.told ∙ rw (lt-ltb 0 r h)
+  utf8-on r t = t.told
 
-  pub utf8-stop : Ends start s i 0 → utf8 (drop i s) ≡ false
+  pub utf8-stop : Ends start s i None → utf8 (drop i s) ≡ false
   unfolding utf8
-  utf8-stop t = t.told
+  utf8-stop t = t
 
   pub utf8-next : i < length s → get_or s i 0 ≤ 127 → utf8 (drop i s) ≡ utf8 (drop (i + 1) s)
   utf8-next h k = rw (here s i h) (utf8-ascii (get_or s i 0) (drop (i + 1) s) (unfold ascii in le-leb (get_or s i 0) 127 k))

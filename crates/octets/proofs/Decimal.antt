@@ -96,10 +96,10 @@ unfolding value_from
 value-end s i h a m k = rw (ended s i h) (omega arith)
 
 -- the sign in front
-pub unsigned-none : (s : List ℕ) → length s ≡ 0 → unsigned s ≡ s
-unfolding unsigned
-unsigned-none [] e = refl
-unsigned-none (c ∷ s) e = absurd (omega arith)
+pub sign_there : (s : List ℕ) → is_sign (get_or s 0 0) ≡ true → 1 ≤ length s
+unfolding is_sign
+sign_there [] e = never e refl
+sign_there (c ∷ s) e = omega arith
 
 pub unsigned-sign : (s : List ℕ) → is_sign (get_or s 0 0) ≡ true → unsigned s ≡ drop 1 s
 unfolding unsigned

@@ -29,6 +29,10 @@ unfolding when
 when-is true a c e = (refl, some_same e)
 when-is false a c e = missing e
 
+pub when-none : {A : Type 0} (b : Bool) (a : A) → when b a ≡ none → b ≡ false
+unfolding is_some
+when-none b a e = sym (some-when b a) ∙ ap is_some e
+
 pub when_true : {A : Type 0} (b : Bool) (a : A) → b ≡ true → when b a ≡ some a
 unfolding when
 when_true b a e = rw e

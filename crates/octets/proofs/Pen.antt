@@ -6,9 +6,11 @@ use native.Mathlib.Numerals.{add-one}
 use native.Mathlib.Nat.{add-zero, zero-add}
 use native.Mathlib.Omega.{arith}
 use borrow.Author.Tests.{lt-ltb, le-ltb, ltb-true, ltb-false}
+use borrow.Rule.Slice.PartMut.{put_mid}
 use lib.Dec.{ltb}
 use lib.ListN.{length, set, take, drop, length-set}
 use lib.Seq.{sets, sets-eq, take-append_seam, take_all, take-take, take-set-le}
+use Rattle.std.proofs.lemmas.Slice.{put_mid-paste}
 use Rattle.octets.specs.Pen.{Pen, pen, wrote_one, wrote, Wrote, FrontKept}
 use Rattle.octets.proofs.Cases.{cases}
 
@@ -109,6 +111,10 @@ fits o (x ∷ xs) at h =
 
 pub fitting : (o xs : List ℕ) (at : ℕ) → at + length xs ≤ length o → Wrote (pen o at) xs (pen (take at o ++ xs ++ drop (at + length xs) o) (at + length xs))
 fitting o xs at h = record { is = rw (← (sets-eq xs o at h)) (sym (fits o xs at h)) }
+
+-- what was copied over a part of the buffer is written
+pub placed : {o xs ys : List ℕ} {at k n : ℕ} → at + n ≤ length o → ys ≡ xs → n ≡ length xs → n ≡ k → Wrote (pen o at) xs (pen (put_mid at k o ys) (at + n))
+placed {o} {xs} {ys} {at} {k} {n} h e l q = rw (put_mid-paste at k o ys xs n e q l, take_all n xs (omega arith), l) (fitting o xs at (omega arith))
 
 -- where there is no room, the next place is one past the end
 pub full : (o xs : List ℕ) (at : ℕ) → at ≤ length o + 1 → length o < at + length xs → (wrote (pen o at) xs).at ≡ length o + 1

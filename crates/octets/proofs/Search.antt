@@ -1,15 +1,18 @@
 -- The search for the first octet of a kind, by places: a loop at one, where it ends, and what it passed.
 use Prim.Native.Nat.{ℕ, zero, suc, ◌+◌, ◌-◌, ◌≤◌, ◌<◌}
 use mathlib.Core.Path.{◌≡◌, refl, sym, ap, ◌∙◌}
-use mathlib.Core.Bool.{Bool, true, false, false≢true, not}
+use mathlib.Core.Bool.{Bool, true, false, false≢true, not, not-not}
 use mathlib.Core.List.{List, [], ◌∷◌, ◌++◌}
+use mathlib.Core.Logic.{◌⊎◌, inl, inr}
 use native.Mathlib.Omega.{arith}
+use lib.Dec.{eqb}
 use lib.ListN.{length, get_or, take, drop, length-drop}
 use lib.Seq.{take_all, drop-drop, get_or-drop}
+use Rattle.std.proofs.lemmas.List.{drop-take}
 use Rattle.octets.specs.Basics.{pick, all, All}
-use Rattle.octets.proofs.Cases.{both, all_weaker}
+use Rattle.octets.proofs.Cases.{cases, both, all_weaker}
 use Rattle.octets.proofs.Positions.{here, ended}
-use Rattle.octets.specs.Search.{until, Sought}
+use Rattle.octets.specs.Search.{until}
 
 -- a choice between nothing and an octet with more
 pub le-by : (b : Bool) (c : ℕ) (l s : List ℕ) → length l ≤ length s → length (pick b [] (c ∷ l)) ≤ suc (length s)
@@ -73,13 +76,6 @@ module _ (stop : ℕ → Bool) where
 
   -- a loop at i
   module _ (s : List ℕ) (i : ℕ) where
-    pub until-past : (e : ℕ) → i ≤ e → e ≤ length s → all (λ c. not (stop c)) (take (e - i) (drop i s)) ≡ true
-        → e + length (until stop (drop e s)) ≡ i + length (until stop (drop i s))
-    until-past e l m h =
-        let q : i + (e - i) ≡ e = omega arith in
-        let k : drop (e - i) (drop i s) ≡ drop e s = drop-drop (e - i) i s ∙ ap (λ (n : ℕ). drop n s) q in
-        omega (arith, past (e - i) (drop i s) (omega (arith, length-drop i s)) h, ap (λ (r : List ℕ). length (until stop r)) k)
-
     pub until_none : length s ≤ i → length (until stop (drop i s)) ≡ 0
     unfolding until
     until_none h = rw (ended s i h)
@@ -91,28 +87,6 @@ module _ (stop : ℕ → Bool) where
     pub until-on : i < length s → stop (get_or s i 0) ≡ false → length (until stop (drop i s)) ≡ suc (length (until stop (drop (i + 1) s)))
     unfolding until
     until-on h e = rw (here s i h, e)
-
-  -- the first octet, the second, or neither
-  module _ {s : List ℕ} {i : ℕ} (h : i + 2 ≤ length s) where
-    pub first-of-two : stop (get_or s i 0) ≡ true → Sought stop s i 2 i
-    first-of-two e = record { low = omega arith; high = omega arith; is = refl; ends = λ _. until-here s i (omega arith) e }
-
-    module _ (e : stop (get_or s i 0) ≡ false) where
-      pub second-of-two : stop (get_or s (i + 1) 0) ≡ true → Sought stop s i 2 (i + 1)
-      second-of-two f = record { low = omega arith; high = omega arith; is = omega (arith, until-on s i (omega arith) e); ends = λ _. until-here s (i + 1) (omega arith) f }
-
-      pub none_of_two : stop (get_or s (i + 1) 0) ≡ false → Sought stop s i 2 (i + 2)
-      none_of_two f =
-          let q : i + 1 + 1 ≡ i + 2 = omega arith in
-          record { low = omega arith; high = omega arith; is = omega (arith, until-on s i (omega arith) e, rw q at (until-on s (i + 1) (omega arith) f)); ends = λ l. absurd (omega arith) }
-
-  -- among n octets, and m more
-  module _ {s : List ℕ} {i n k : ℕ} (f : Sought stop s i n k) where
-    pub sought-there : {m : ℕ} → n ≤ m → k < i + n → Sought stop s i m k
-    sought-there h l = record { low = f.low; high = omega arith; is = f.is; ends = λ _. f.ends l }
-
-    pub sought-on : {m r : ℕ} → i + n ≤ k → Sought stop s (i + n) m r → Sought stop s i (n + m) r
-    sought-on l g = let q : k ≡ i + n = omega (arith, f.high) in record { low = omega (arith, g.low); high = omega (arith, g.high); is = g.is ∙ rw q at f.is; ends = λ h. g.ends (omega arith) }
 
   -- the scan from i ends at e
   module _ (s : List ℕ) (i e : ℕ) (q : e ≡ i + length (until stop (drop i s))) where
@@ -147,7 +121,46 @@ module _ (stop : ℕ → Bool) where
     pub scan-whole : length s ≤ e → until stop (drop i s) ≡ drop i s
     scan-whole h = until-whole (drop i s) (rw (length-drop i s) (omega arith))
 
--- octets of a class are passed together
-pub run_past : (p : ℕ → Bool) (s : List ℕ) (i e : ℕ) → i ≤ e → e ≤ length s → all p (take (e - i) (drop i s)) ≡ true
-    → e + length (until (λ c. not (p c)) (drop e s)) ≡ i + length (until (λ c. not (p c)) (drop i s))
-run_past p s i e l m h = until-past (λ c. not (p c)) s i e l m (all_weaker p (λ c. not (not (p c))) (λ x k. rw k) (take (e - i) (drop i s)) h)
+-- octets that pass a test are passed together, where the search stops at one that fails it
+pub block-on : (p stop : ℕ → Bool) → ((c : ℕ) → stop c ≡ not (p c)) → (k : ℕ) (s : List ℕ) → k ≤ length s → all p (take k s) ≡ true → length (until stop s) ≡ k + length (until stop (drop k s))
+block-on p stop e k s h a = past stop k s h (all_weaker p (λ c. not (stop c)) (λ x t. rw (e x, t)) (take k s) a)
+
+-- behind the end there is nothing to pass
+pub beyond : (stop : ℕ → Bool) (s : List ℕ) (at : ℕ) → (length s < at) ⊎ (length s < length s) → at ≡ at + length (until stop (drop at s))
+beyond stop s at (inl h) = omega (arith, until_none stop s at (omega arith))
+beyond stop s at (inr h) = absurd (omega arith)
+
+-- the search for b passes the octets that are not b
+pub until-other : (b : ℕ) (s : List ℕ) → until (λ c. not (not (eqb c b))) s ≡ until (λ c. eqb c b) s
+unfolding until
+until-other b [] = refl
+until-other b (c ∷ s) = rw (not-not (eqb c b), until-other b s)
+
+pub passed_by : (b : ℕ) (s : List ℕ) → length (until (λ c. not (not (eqb c b))) s) ≡ length (until (λ c. eqb c b) s)
+passed_by b s = ap length (until-other b s)
+
+-- the search among the first k octets finds one, or goes on behind them
+module _ (stop : ℕ → Bool) where
+  near : (k : ℕ) (s : List ℕ) → length (until stop (take k s)) < k → length (until stop s) ≡ length (until stop (take k s))
+  unfolding until
+  near zero s h = absurd (omega arith)
+  near (suc k) [] h = refl
+  near (suc k) (c ∷ s) h = cases (stop c) (λ e. rw e) (λ e. rw e (ap suc (near k s (omega (arith, rw e at h)))))
+
+  far : (k : ℕ) (s : List ℕ) → k ≤ length (until stop (take k s)) → length (until stop s) ≡ k + length (until stop (drop k s))
+  unfolding until
+  far zero s h = omega arith
+  far (suc k) [] h = absurd (omega arith)
+  far (suc k) (c ∷ s) h = cases (stop c) (λ e. absurd (omega (arith, rw e at h))) (λ e. rw e (omega (arith, far k s (omega (arith, rw e at h)))))
+
+module _ (b : ℕ) (s : List ℕ) (at k : ℕ) {e : ℕ} (q : e ≡ at + length (until (λ c. not (not (eqb c b))) (drop at (take (at + k) s)))) where
+  cut : e ≡ at + length (until (λ c. eqb c b) (take k (drop at s)))
+  cut = q ∙ rw (until-other b (drop at (take (at + k) s)), drop-take at k s)
+
+  pub near-place : e < at + k → e ≡ at + length (until (λ c. eqb c b) (drop at s))
+  near-place h = omega (arith, cut, near (λ c. eqb c b) k (drop at s) (omega (arith, cut)))
+
+  pub far-place : at + k ≤ e → at + k + length (until (λ c. eqb c b) (drop (at + k) s)) ≡ at + length (until (λ c. eqb c b) (drop at s))
+  far-place h =
+      let d = ap (λ (r : List ℕ). length (until (λ c. eqb c b) r)) (drop-drop k at s) in
+      omega (arith, d, far (λ c. eqb c b) k (drop at s) (omega (arith, cut)))

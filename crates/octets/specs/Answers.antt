@@ -4,8 +4,8 @@ use Rattle.std.proofs.Math.Option.{Option, none, some}
 use Rattle.octets.specs.Basics.{pick}
 use Rattle.octets.specs.declared.Refusal.{Refusal}
 use Rattle.octets.specs.declared.Refusal.TheVariants.{TextTooLong, RowsMalformed, NotClean, NotContentLine, NotPaired, TooDeep, BadParameter, BadEncoding, BadValue, NoRoom, NotJson, NotJcal, BadStart, BadRule, NotServed}
-use Rattle.octets.specs.declared.Converted.{Converted}
-use Rattle.octets.specs.declared.Converted.TheVariants.{Written, Refused}
+use Rattle.std.specs.declared.result.Result.{Result}
+use Rattle.std.specs.Prelude.{Ok, Err}
 
 -- 01's number of each refusal
 abbrev pub number : Refusal → ℕ
@@ -45,6 +45,11 @@ unfoldable pub unless : {A : Type 0} → ℕ → Bool → (Unit {0} → Answer A
 unless n true f = f tt
 unless n false f = refused n
 
+-- what a result of the code answers, a refusal by its number
+abbrev pub answered : {A : Type 0} → Result A Refusal → Answer A
+answered (Ok a) = accepted a
+answered (Err r) = refused (number r)
+
 -- what a conversion leaves: its number (0 for success), the length, and the whole lent buffer
 pub record Settled : Type 0 where
   pub number : ℕ
@@ -63,10 +68,10 @@ unfoldable pub answer : Answer (List ℕ) → List ℕ → Settled
 answer (refused n) out = zeroed n out
 answer (accepted t) out = pick (leb (length t) (length out)) (settled 0 (length t) (t ++ drop (length t) out)) (zeroed 10 out)
 
--- what a returned `Converted` says, with the buffer as it is then
-unfoldable pub outcome : Converted → List ℕ → Settled
-outcome (Written n) out = settled 0 n out
-outcome (Refused r) out = settled (number r) 0 out
+-- what a returned result says, with the buffer as it is then
+unfoldable pub outcome : Result ℕ Refusal → List ℕ → Settled
+outcome (Ok n) out = settled 0 n out
+outcome (Err r) out = settled (number r) 0 out
 
 -- what a pen leaves that stopped at `at`, having begun at 0: the buffer as it is, or 10 where something did not fit
 unfoldable pub finished : ℕ → List ℕ → Settled

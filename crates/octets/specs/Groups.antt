@@ -4,7 +4,7 @@ use Prim.Native.Char.{code}
 use Rattle.octets.specs.Basics.{◌and◌, ◌or◌}
 use Rattle.octets.specs.Classes.{is_digit, name_octet, lower_name_octet, plain_octet, text_octet, is_space, upper_octet, lower_octet}
 use Rattle.octets.specs.declared.names.Class.{Class}
-use Rattle.octets.specs.declared.names.Class.TheVariants.{Digit, Name, LowerName, Plain, Text, Space, Unescaped, AsIs, TextBare, TextAsIs, Safe, CaretFree, ParamAsIs}
+use Rattle.octets.specs.declared.names.Class.TheVariants.{Digit, Name, LowerName, Plain, Text, Space, Unescaped, AsIs, TextBare, TextAsIs, Safe, CaretFree, ParamAsIs, Other}
 use Rattle.octets.specs.declared.names.Case.{Case}
 use Rattle.octets.specs.declared.names.Case.TheVariants.{Upper, Lower, Exact}
 
@@ -50,6 +50,7 @@ belongs TextAsIs c = text_as_is c
 belongs Safe c = safe_octet c
 belongs CaretFree c = caret_free c
 belongs ParamAsIs c = param_as_is c
+belongs (Other b) c = not (eqb c b)
 
 abbrev pub cased : Case → ℕ → ℕ
 cased Upper c = upper_octet c

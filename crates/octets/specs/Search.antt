@@ -1,17 +1,10 @@
--- What stands before the first octet of a kind, and what the search for it promises.
-use Rattle.std.specs.Prelude.{ℕ, ◌+◌, ◌-◌, ◌≤◌, ◌<◌, ◌≡◌, Bool, true, false, List, [], ◌∷◌, length, take, drop, get_or}
+-- What stands before the first octet of a kind, and a run of octets of a class.
+use Rattle.std.specs.Prelude.{ℕ, ◌-◌, ◌≤◌, ◌<◌, ◌≡◌, Bool, true, false, List, [], ◌∷◌, length, take, drop, get_or}
 use Rattle.octets.specs.Basics.{pick, all}
 
 unfoldable pub until : (ℕ → Bool) → List ℕ → List ℕ
 until stop [] = []
 until stop (c ∷ s) = pick (stop c) [] (c ∷ until stop s)
-
--- among the n octets of s from i on the first of the kind stands at r; r is behind them where there is none
-pub record Sought (stop : ℕ → Bool) (s : List ℕ) (i n r : ℕ) : Type 0 where
-  pub low : i ≤ r
-  pub high : r ≤ i + n
-  pub is : r + length (until stop (drop r s)) ≡ i + length (until stop (drop i s))
-  pub ends : r < i + n → length (until stop (drop r s)) ≡ 0
 
 -- from `at` to r stand octets of a class, and at r none
 pub record ClassRun (class : ℕ → Bool) (text : List ℕ) (at r : ℕ) : Type 0 where

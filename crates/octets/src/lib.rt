@@ -12,8 +12,8 @@ mod writing;
 pub use encoding::is_utf8;
 pub use names::{
     Case, Class, all_digits, all_plain, all_text, both, hex_digit, is_digit, is_lower,
-    is_lower_name, is_name, is_plain_octet, is_upper, lower_octet, peek, put_lower, put_upper,
-    same, same_name, upper_octet,
+    is_lower_name, is_name, is_plain_octet, is_upper, lower_octet, peek, same, same_name,
+    upper_octet,
 };
 pub use numbers::{
     is_negative, is_sign, leading_zeros, put_decimal, put_integer_text, sign_length, value_of,
@@ -21,7 +21,7 @@ pub use numbers::{
 pub use searching::{find, find_near, is_free, long_run_end, run_end};
 pub use settling::{finish, refuse};
 pub use tables::{Entering, SLOTS, enter};
-pub use writing::{put, put_all, zero};
+pub use writing::{put, put_all, put_lower, put_upper, zero};
 
 // Octets of a converted text.
 pub const MOST_TEXT: usize = 65536;
@@ -62,11 +62,4 @@ pub enum Refusal {
     BadStart,
     BadRule,
     NotServed,
-}
-
-// What a conversion answers: the length of what it wrote, or why it refused.
-#[derive(Clone, Copy)]
-pub enum Converted {
-    Written(usize),
-    Refused(Refusal),
 }

@@ -1,12 +1,10 @@
 // Classes of octets, names, and their case.
-ghost use Rattle.std.specs.Prelude.{◌≡◌, ◌++◌, map, ◌+◌, ◌≤◌, length, take, drop, get_or};
-ghost use Rattle.octets.specs.Basics.{◌and◌, all, same};
+ghost use Rattle.std.specs.Prelude.{◌≡◌, ◌<◌, ℕ, Bool, map, get_or, ltb, IfSome};
+ghost use Rattle.octets.specs.Basics.{◌and◌, all, filled, same};
 ghost use Rattle.octets.specs.Classes.{between, is_digit, is_upper, is_lower, name_octet, is_name, lower_name_octet, is_lower_name, plain_octet, text_octet, is_space, upper_octet, lower_octet, upper, lower, same_name, hex_digit};
 ghost use Rattle.octets.specs.Decimal.{digits};
+ghost use Rattle.octets.specs.Optional.{said, when};
 ghost use Rattle.octets.specs.Groups.{belongs, cased, json_unescaped, as_is_octet, text_bare, text_as_is, safe_octet, caret_free, param_as_is};
-ghost use Rattle.octets.specs.Pen.{pen, Wrote};
-
-use crate::writing::put;
 
 // A class of octets that a whole slice can be tested for, and whose runs are looked for.
 #[derive(Clone, Copy)]
@@ -24,12 +22,14 @@ pub enum Class {
     Safe,
     CaretFree,
     ParamAsIs,
+    // Any octet but this one.
+    Other(u8),
 }
 
 pub(crate) fn within(lo: u8, hi: u8, c: u8) -> bool
     ensures { result ≡ between lo hi c }
 {
-    if lo <= c { c <= hi } else { false }
+    lo <= c && c <= hi
 }
 
 pub fn is_digit(c: u8) -> bool
@@ -54,56 +54,35 @@ pub fn is_lower(c: u8) -> bool
 fn is_name_octet(c: u8) -> bool
     ensures { result ≡ name_octet c }
 {
-    if is_upper(c) {
-        return true;
-    }
-    is_lower_name_octet(c)
+    is_upper(c) || is_lower_name_octet(c)
 }
 
 // A lowercase letter, a digit or a hyphen.
 fn is_lower_name_octet(c: u8) -> bool
     ensures { result ≡ lower_name_octet c }
 {
-    if is_lower(c) {
-        return true;
-    }
-    if is_digit(c) {
-        return true;
-    }
-    c == b'-'
+    is_lower(c) || is_digit(c) || c == b'-'
 }
 
 // No control character but tab.
 pub fn is_plain_octet(c: u8) -> bool
     ensures { result ≡ plain_octet c }
 {
-    if c <= 31 {
-        return c == b'\t';
-    }
-    c != 127
+    if c <= 31 { c == b'\t' } else { c != 127 }
 }
 
 // No control character but tab and newline.
 fn is_text_octet(c: u8) -> bool
     ensures { result ≡ text_octet c }
 {
-    if is_plain_octet(c) {
-        return true;
-    }
-    c == b'\n'
+    is_plain_octet(c) || c == b'\n'
 }
 
 // White space of JSON.
 fn is_space(c: u8) -> bool
     ensures { result ≡ is_space c }
 {
-    match c {
-        b' ' => true,
-        b'\n' => true,
-        b'\r' => true,
-        b'\t' => true,
-        _ => false,
-    }
+    matches!(c, b' ' | b'\n' | b'\r' | b'\t')
 }
 
 // Stands for itself in a JSON string; with no branch.
@@ -117,13 +96,7 @@ fn is_unescaped(c: u8) -> bool
 fn is_as_is(c: u8) -> bool
     ensures { result ≡ as_is_octet c }
 {
-    match c {
-        b'"' => false,
-        b'\\' => false,
-        b'\n' => false,
-        b'\t' => false,
-        _ => true,
-    }
+    !matches!(c, b'"' | b'\\' | b'\n' | b'\t')
 }
 
 // Stands in a text as it is; with no branch.
@@ -196,20 +169,21 @@ impl Case {
     }
 }
 
-// The value of a hexadecimal digit, or 16.
-pub fn hex_digit(c: u8) -> u8
-    ensures { result ≡ hex_digit c }
+// The value of a hexadecimal digit.
+pub fn hex_digit(c: u8) -> Option<u8>
+    ensures value { said result ≡ when (ltb (hex_digit c) 16) (hex_digit c) }
+    ensures low { IfSome result (λ d. d < 16) }
 {
     if is_digit(c) {
-        return c - b'0';
+        return Some(c - b'0');
     }
     if within(b'A', b'F', c) {
-        return c - b'A' + 10;
+        return Some(c - b'A' + 10);
     }
     if within(b'a', b'f', c) {
-        return c - b'a' + 10;
+        return Some(c - b'a' + 10);
     }
-    16
+    None
 }
 
 impl Class {
@@ -231,6 +205,7 @@ impl Class {
             Class::Safe => is_safe(c),
             Class::CaretFree => is_caret_free(c),
             Class::ParamAsIs => is_param_as_is(c),
+            Class::Other(b) => c != b,
         }
     }
 }
@@ -242,17 +217,30 @@ pub fn both(a: bool, b: bool) -> bool
     if a { b } else { false }
 }
 
-// Each octet is of the class. The loop has no way out on the way, so that many octets are tested at once.
-fn all_in(s: &[u8], class: Class) -> bool
-    ensures { result ≡ all (belongs class) s.now }
+// Each octet passes the test. The loop has no way out on the way, so that many octets are tested at once.
+pub(crate) fn each_is<F: Fn(u8) -> bool>(s: &[u8], test: F) -> bool
+    requires { F.IsAlwaysCallable test }
+    ensures { (p : ℕ → Bool) → ((c : ℕ) (r : Bool) → F.post test c r → r ≡ p c) → result ≡ all p s.now }
 {
     let mut so_far = true;
-    let mut i = 0;
-    while i < s.len() {
-        so_far = both(so_far, class.has(s[i]));
-        i += 1;
+    for &c in s {
+        so_far = both(so_far, test(c));
     }
     so_far
+}
+
+// Each octet is of the class.
+pub(crate) fn all_in(s: &[u8], class: Class) -> bool
+    ensures { result ≡ all (belongs class) s.now }
+{
+    each_is(s, |c| class.has(c))
+}
+
+// One or more octets, each of the class.
+fn is_filled(s: &[u8], class: Class) -> bool
+    ensures { result ≡ (filled s.now and all (belongs class) s.now) }
+{
+    !s.is_empty() && all_in(s, class)
 }
 
 // No control character but tab.
@@ -273,61 +261,42 @@ pub fn all_text(s: &[u8]) -> bool
 pub fn all_digits(s: &[u8]) -> bool
     ensures { result ≡ digits s.now }
 {
-    if s.len() == 0 {
-        return false;
-    }
-    all_in(s, Class::Digit)
+    is_filled(s, Class::Digit)
 }
 
 // A name: one or more letters, digits and hyphens.
 pub fn is_name(s: &[u8]) -> bool
     ensures { result ≡ is_name s.now }
 {
-    if s.len() == 0 {
-        return false;
-    }
-    all_in(s, Class::Name)
+    is_filled(s, Class::Name)
 }
 
 // A name in lowercase.
 pub fn is_lower_name(s: &[u8]) -> bool
     ensures { result ≡ is_lower_name s.now }
 {
-    if s.len() == 0 {
-        return false;
-    }
-    all_in(s, Class::LowerName)
+    is_filled(s, Class::LowerName)
 }
 
-// The octet at i, or 0 where there is none.
+// The octet at i, or 0 where there is none, as its clause and the definitions that cite it say.
 pub fn peek(s: &[u8], i: usize) -> u8
     ensures { result ≡ get_or s.now i 0 }
 {
-    if i < s.len() { s[i] } else { 0 }
+    s.get(i).copied().unwrap_or(0)
 }
 
 // The same octets in one case.
 pub(crate) fn same_in(a: &[u8], b: &[u8], case: Case) -> bool
     ensures { result ≡ same (map (cased case) a.now) (map (cased case) b.now) }
 {
-    if a.len() != b.len() {
-        return false;
-    }
-    let mut i = 0;
-    while i < a.len() {
-        if case.turn(a[i]) != case.turn(b[i]) {
-            return false;
-        }
-        i += 1;
-    }
-    true
+    a.len() == b.len() && a.iter().zip(b).all(|(&x, &y)| case.turn(x) == case.turn(y))
 }
 
 // The same octets.
 pub fn same(a: &[u8], b: &[u8]) -> bool
     ensures { result ≡ same a.now b.now }
 {
-    same_in(a, b, Case::Exact)
+    a == b
 }
 
 // The same name, without case.
@@ -335,56 +304,4 @@ pub fn same_name(a: &[u8], b: &[u8]) -> bool
     ensures { result ≡ same_name a.now b.now }
 {
     same_in(a, b, Case::Upper)
-}
-
-// Copies a slice in one case, where there is room.
-fn copy_cased(out: &mut [u8], at: usize, src: &[u8], case: Case)
-    requires { at + length src.now ≤ length out.old }
-    ensures { out.new ≡ take at out.old ++ map (cased case) src.now ++ drop (at + length src.now) out.old }
-{
-    let mut i = 0;
-    while i < src.len() {
-        out[at + i] = case.turn(src[i]);
-        i += 1;
-    }
-}
-
-// Writes a slice in one case octet by octet, as far as there is room.
-fn put_each_cased(out: &mut [u8], at: usize, src: &[u8], case: Case) -> usize
-    ensures { Wrote (pen out.old at) (map (cased case) src.now) (pen out.new result) }
-{
-    let mut to = at;
-    let mut i = 0;
-    while i < src.len() {
-        to = put(out, to, case.turn(src[i]));
-        i += 1;
-    }
-    to
-}
-
-// Writes a slice in one case.
-fn put_cased(out: &mut [u8], at: usize, src: &[u8], case: Case) -> usize
-    ensures { Wrote (pen out.old at) (map (cased case) src.now) (pen out.new result) }
-{
-    if at <= out.len() {
-        if src.len() <= out.len() - at {
-            copy_cased(out, at, src, case);
-            return at + src.len();
-        }
-    }
-    put_each_cased(out, at, src, case)
-}
-
-// Writes a slice in uppercase.
-pub fn put_upper(out: &mut [u8], at: usize, src: &[u8]) -> usize
-    ensures { Wrote (pen out.old at) (upper src.now) (pen out.new result) }
-{
-    put_cased(out, at, src, Case::Upper)
-}
-
-// Writes a slice in lowercase.
-pub fn put_lower(out: &mut [u8], at: usize, src: &[u8]) -> usize
-    ensures { Wrote (pen out.old at) (lower src.now) (pen out.new result) }
-{
-    put_cased(out, at, src, Case::Lower)
 }

@@ -12,11 +12,9 @@ pub fn value_of(s: &[u8], most: u32) -> u64
     ensures { result ≡ min (value_of s.now) (most + 1) }
 {
     let limit = most as u64 + 1;
-    let mut value: u64 = 0;
-    let mut i = 0;
-    while i < s.len() {
-        value = next_value(value, s[i], limit);
-        i += 1;
+    let mut value = 0;
+    for &c in s {
+        value = next_value(value, c, limit);
     }
     value
 }
@@ -26,26 +24,19 @@ fn next_value(value: u64, c: u8, limit: u64) -> u64
     requires { (value ≤ limit) × (limit ≤ 4294967296) }
     ensures { result ≡ min (value * 10 + (c - 48)) limit }
 {
-    let digit = if c < b'0' { 0 } else { c - b'0' };
-    let next = value * 10 + digit as u64;
-    if next < limit { next } else { limit }
+    (value * 10 + c.saturating_sub(b'0') as u64).min(limit)
 }
 
 // How many zeros stand in front that a digit follows.
 pub fn leading_zeros(s: &[u8]) -> usize
     ensures { (result ≤ length s.now) × (trim s.now ≡ drop result s.now) }
 {
-    let mut i = 0;
-    while i < s.len() {
-        if s[i] != b'0' {
+    for (i, &c) in s.iter().enumerate() {
+        if c != b'0' || !is_digit(peek(s, i + 1)) {
             return i;
         }
-        if !is_digit(peek(s, i + 1)) {
-            return i;
-        }
-        i += 1;
     }
-    i
+    s.len()
 }
 
 // Writes n in decimal: the number without its last digit, if there is more than one, and then that digit.
@@ -63,28 +54,21 @@ pub fn put_decimal(out: &mut [u8], at: usize, n: u64) -> usize
 pub fn is_sign(c: u8) -> bool
     ensures { result ≡ is_sign c }
 {
-    if c == b'+' { true } else { c == b'-' }
+    c == b'+' || c == b'-'
 }
 
 // How many octets the sign has: one or none.
 pub fn sign_length(s: &[u8]) -> usize
     ensures { (result ≤ length s.now) × (unsigned s.now ≡ drop result s.now) }
 {
-    if s.len() == 0 {
-        return 0;
-    }
-    if is_sign(s[0]) { 1 } else { 0 }
+    if is_sign(peek(s, 0)) { 1 } else { 0 }
 }
 
 // Below 0.
 pub fn is_negative(s: &[u8]) -> bool
     ensures { result ≡ (minus s.now and not (eqb (value_of (unsigned s.now)) 0)) }
 {
-    if peek(s, 0) != b'-' {
-        return false;
-    }
-    let sign = sign_length(s);
-    value_of(&s[sign..], 0) != 0
+    peek(s, 0) == b'-' && value_of(&s[sign_length(s)..], 0) != 0
 }
 
 // Writes digits without leading zeros.
@@ -99,8 +83,8 @@ fn put_trimmed(out: &mut [u8], at: usize, s: &[u8]) -> usize
 pub fn put_integer_text(out: &mut [u8], at: usize, s: &[u8]) -> usize
     ensures { Wrote (pen out.old at) (integer_text s.now) (pen out.new result) }
 {
-    let sign = sign_length(&*s);
-    if is_negative(&*s) {
+    let sign = sign_length(s);
+    if is_negative(s) {
         let to = put(out, at, b'-');
         return put_trimmed(out, to, &s[sign..]);
     }

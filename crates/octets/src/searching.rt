@@ -1,153 +1,45 @@
 // The search for an octet, and for the end of a run of octets of a class.
-ghost use Rattle.std.specs.Prelude.{◌≡◌, not, ◌+◌, ◌≤◌, eqb, length, drop};
+ghost use Rattle.std.specs.Prelude.{◌≡◌, Bool, not, ◌+◌, eqb, length, drop};
+ghost use Rattle.std.specs.List.{position_or_len};
 ghost use Rattle.octets.specs.Basics.{all};
 ghost use Rattle.octets.specs.Groups.{belongs};
-ghost use Rattle.octets.specs.Search.{until, Sought};
+ghost use Rattle.octets.specs.Search.{until};
 
-use crate::names::{Class, both};
+use crate::names::{Class, all_in};
 
 // Octets that are looked at together.
 const BLOCK: usize = 16;
 
-// Whether no octet is `b`. The loop has no way out on the way, so that many octets are looked at together.
+// The place of the first element from `at` on that passes the test, or the end; `at` where that lies behind it.
+#[inline(always)]
+pub(crate) fn place_of<T: Copy, F: Fn(T) -> bool>(s: &[T], at: usize, test: F) -> usize
+    requires { F.IsAlwaysCallable test }
+    ensures { (p : T → Bool) → ((x : T) (r : Bool) → F.post test x r → r ≡ p x) → result ≡ at + position_or_len p (drop at s.now) }
+{
+    let Some(rest) = s.get(at..) else {
+        return at;
+    };
+    at + rest.iter().position(|&x| test(x)).unwrap_or(rest.len())
+}
+
+// Whether no octet is `b`.
 pub fn is_free(s: &[u8], b: u8) -> bool
     ensures { result ≡ all (λ c. not (eqb c b)) s.now }
 {
-    let mut free = true;
-    let mut i = 0;
-    while i < s.len() {
-        free = both(free, s[i] != b);
-        i += 1;
-    }
-    free
+    all_in(s, Class::Other(b))
 }
 
-// A place from which on the next `b` is that from `at` on: whole blocks without it are passed.
-fn past_blocks(s: &[u8], at: usize, b: u8) -> usize
-    ensures { result + length (until (λ c. eqb c b) (drop result s.now)) ≡ at + length (until (λ c. eqb c b) (drop at s.now)) }
-{
-    let n = s.len();
-    let mut i = at;
-    while i < n {
-        if n - i < BLOCK {
-            return i;
-        }
-        if is_free(&s[i..i + BLOCK], b) {
-            i += BLOCK;
-        } else {
-            return i;
-        }
-    }
-    i
-}
-
-// The place of the first `b` among the 2 octets from `at` on, or behind them.
-fn in_two(s: &[u8], at: usize, b: u8) -> usize
-    requires { at + 2 ≤ length s.now }
-    ensures { Sought (λ c. eqb c b) s.now at 2 result }
-{
-    if s[at] == b {
-        return at;
-    }
-    let next = at + 1;
-    if s[next] == b {
-        return next;
-    }
-    at + 2
-}
-
-// The same among 4 octets.
-fn in_four(s: &[u8], at: usize, b: u8) -> usize
-    requires { at + 4 ≤ length s.now }
-    ensures { Sought (λ c. eqb c b) s.now at 4 result }
-{
-    let half = in_two(s, at, b);
-    if half < at + 2 {
-        return half;
-    }
-    in_two(s, at + 2, b)
-}
-
-// The same among 8 octets.
-fn in_eight(s: &[u8], at: usize, b: u8) -> usize
-    requires { at + 8 ≤ length s.now }
-    ensures { Sought (λ c. eqb c b) s.now at 8 result }
-{
-    let half = in_four(s, at, b);
-    if half < at + 4 {
-        return half;
-    }
-    in_four(s, at + 4, b)
-}
-
-// The place of the next `b` from `at` on, or the end, octet by octet.
-fn find_last(s: &[u8], at: usize, b: u8) -> usize
-    ensures { result ≡ at + length (until (λ c. eqb c b) (drop at s.now)) }
-{
-    let mut i = at;
-    while i < s.len() {
-        if s[i] == b {
-            return i;
-        }
-        i += 1;
-    }
-    i
-}
-
-// The place of the next `b` from `at` on, or the end.
-pub fn find(s: &[u8], at: usize, b: u8) -> usize
-    ensures { result ≡ at + length (until (λ c. eqb c b) (drop at s.now)) }
-{
-    let n = s.len();
-    let mut i = past_blocks(&*s, at, b);
-    while i < n {
-        if n - i < 8 {
-            return find_last(&*s, i, b);
-        }
-        let e = in_eight(&*s, i, b);
-        if e < i + 8 {
-            return e;
-        }
-        i = e;
-    }
-    i
-}
-
-// The same, for an octet that mostly stands near: two times eight octets are looked at before whole blocks.
-pub fn find_near(s: &[u8], at: usize, b: u8) -> usize
-    ensures { result ≡ at + length (until (λ c. eqb c b) (drop at s.now)) }
-{
-    let n = s.len();
-    if n <= at {
-        return find_last(&*s, at, b);
-    }
-    if n - at < BLOCK {
-        return find_last(&*s, at, b);
-    }
-    let e = in_eight(&*s, at, b);
-    if e < at + 8 {
-        return e;
-    }
-    let f = in_eight(&*s, e, b);
-    if f < e + 8 {
-        return f;
-    }
-    find(&*s, f, b)
-}
-
-// The end of the octets of the class from `at` on.
+// The end of the octets of the class from `at` on. By `place_of` and a closure it took three times as long.
 #[inline(always)]
 pub fn run_end(s: &[u8], at: usize, class: Class) -> usize
     ensures { result ≡ at + length (until (λ c. not (belongs class c)) (drop at s.now)) }
 {
-    let mut i = at;
-    while i < s.len() {
+    for i in at..s.len() {
         if !class.has(s[i]) {
             return i;
         }
-        i += 1;
     }
-    i
+    s.len().max(at)
 }
 
 // Each octet of a block is of the class. They are counted, since a compiler then looks at all of them together, however many tests the class has.
@@ -155,13 +47,11 @@ pub fn run_end(s: &[u8], at: usize, class: Class) -> usize
 fn is_block_of(s: &[u8], class: Class) -> bool
     ensures { result ≡ all (belongs class) s.now }
 {
-    let mut n: usize = 0;
-    let mut i = 0;
-    while i < s.len() {
-        if class.has(s[i]) {
+    let mut n = 0;
+    for &c in s {
+        if class.has(c) {
             n += 1;
         }
-        i += 1;
     }
     n == s.len()
 }
@@ -171,16 +61,33 @@ fn is_block_of(s: &[u8], class: Class) -> bool
 pub fn long_run_end(s: &[u8], at: usize, class: Class) -> usize
     ensures { result ≡ at + length (until (λ c. not (belongs class c)) (drop at s.now)) }
 {
-    let n = s.len();
-    let mut i = at;
-    while i < n {
-        if n - i < BLOCK {
-            return run_end(&*s, i, class);
+    let Some(mut rest) = s.get(at..) else {
+        return at;
+    };
+    while let Some((block, behind)) = rest.split_at_checked(BLOCK) {
+        if !is_block_of(block, class) {
+            break;
         }
-        if !is_block_of(&s[i..i + BLOCK], class) {
-            return run_end(&*s, i, class);
-        }
-        i += BLOCK;
+        rest = behind;
     }
-    i
+    run_end(s, s.len() - rest.len(), class)
+}
+
+// The place of the next `b` from `at` on, or the end.
+pub fn find(s: &[u8], at: usize, b: u8) -> usize
+    ensures { result ≡ at + length (until (λ c. eqb c b) (drop at s.now)) }
+{
+    long_run_end(s, at, Class::Other(b))
+}
+
+// The same, for an octet that mostly stands near: a block's octets are looked at one by one before whole blocks.
+pub fn find_near(s: &[u8], at: usize, b: u8) -> usize
+    ensures { result ≡ at + length (until (λ c. eqb c b) (drop at s.now)) }
+{
+    if s.len() <= at || s.len() - at < BLOCK {
+        return run_end(s, at, Class::Other(b));
+    }
+    let far = at + BLOCK;
+    let e = run_end(&s[..far], at, Class::Other(b));
+    if e < far { e } else { find(s, far, b) }
 }

@@ -2,8 +2,8 @@
 ghost use Rattle.std.specs.Prelude.{◌≡◌};
 ghost use Rattle.octets.specs.Answers.{number, outcome, answer, refused, finished};
 
+use crate::Refusal;
 use crate::writing::zero;
-use crate::{Converted, Refusal};
 
 impl Refusal {
     // 01's number of this refusal.
@@ -31,21 +31,21 @@ impl Refusal {
 }
 
 // Refuses: the whole buffer is zeroed.
-pub fn refuse(out: &mut [u8], why: Refusal) -> Converted
+pub fn refuse(out: &mut [u8], why: Refusal) -> Result<usize, Refusal>
     ensures { outcome result out.new ≡ answer (refused (number why)) out.old }
 {
     zero(out);
-    Converted::Refused(why)
+    Err(why)
 }
 
 // Ends a conversion whose pen stopped at `at`: the text stands in the buffer, or it did not fit.
-pub fn finish(out: &mut [u8], at: usize) -> Converted
+pub fn finish(out: &mut [u8], at: usize) -> Result<usize, Refusal>
     ensures { outcome result out.new ≡ finished at out.old }
 {
     if at <= out.len() {
-        Converted::Written(at)
+        Ok(at)
     } else {
         zero(out);
-        Converted::Refused(Refusal::NoRoom)
+        Err(Refusal::NoRoom)
     }
 }

@@ -1,10 +1,12 @@
 // A table that finds names of a text again, each by both its ends.
-ghost use Rattle.std.specs.Prelude.{◌≡◌, map, ◌-◌, min, take, drop};
+ghost use Rattle.std.specs.Prelude.{◌≡◌, map, not, ◌-◌, eqb, take, drop};
 ghost use Rattle.octets.specs.Basics.{same};
 ghost use Rattle.octets.specs.Groups.{cased};
+ghost use Rattle.octets.specs.Optional.{said, when};
 ghost use Rattle.octets.specs.Slots.{slot_of, slot_for, slot_between, name_in, slot_in, Enters};
 
 use crate::names::{Case, same_in};
+use crate::searching::place_of;
 
 // Slots in a table: one for each answer of `slot_of`, and some more behind them.
 pub const SLOTS: usize = 16640;
@@ -25,76 +27,60 @@ fn slot_of(name: &[u8], case: Case) -> usize
     ensures { result ≡ slot_of (map (cased case) name.now) }
 {
     let mut h: usize = 0;
-    let mut i = 0;
-    while i < name.len() {
-        h = (h * 15541 + case.turn(name[i]) as usize) % 16381;
-        i += 1;
+    for &c in name {
+        h = (h * 15541 + case.turn(c) as usize) % 16381;
     }
     h
 }
 
-fn at_most(n: usize, most: usize) -> usize
-    ensures { result ≡ min n most }
+// What a slot holds for a name with these ends, if they fit. A slot of the lent table is one word, and 0 a free one, as `Enters` says: an Option would take twice
+// the fixed memory.
+fn slot_for(from: usize, end: usize) -> Option<usize>
+    ensures { said result ≡ when (not (eqb (slot_for from end) 0)) (slot_for from end) }
 {
-    if n < most { n } else { most }
-}
-
-// What a slot holds for a name with these ends; 0 where they do not fit.
-fn slot_for(from: usize, end: usize) -> usize
-    ensures { result ≡ slot_for from end }
-{
-    if from <= end {
-        if end < WIDE {
-            return from * WIDE + end;
-        }
+    if from <= end && end < WIDE && 0 < end {
+        Some(from * WIDE + end)
+    } else {
+        None
     }
-    0
 }
 
 // Whether a slot holds this name.
 fn is_held(s: &[u8], slot: usize, name: &[u8], case: Case) -> bool
     ensures { result ≡ same (map (cased case) name.now) (name_in case s.now slot) }
 {
-    let end = at_most(slot % WIDE, s.len());
-    let from = at_most(slot / WIDE, end);
-    same_in(&*name, &s[from..end], case)
+    let end = (slot % WIDE).min(s.len());
+    let from = (slot / WIDE).min(end);
+    same_in(name, &s[from..end], case)
 }
 
 // The slot that holds a name, or the free one for it, or the end of the table.
 fn slot_in(s: &[u8], table: &[usize], name: &[u8], case: Case) -> usize
     ensures { result ≡ slot_in (name_in case s.now) (map (cased case) name.now) table.now }
 {
-    let mut q = slot_of(&*name, case);
-    while q < table.len() {
-        let p = table[q];
-        if p == 0 {
-            return q;
-        }
-        if is_held(&*s, p, &*name, case) {
-            return q;
-        }
-        q += 1;
-    }
-    q
+    place_of(
+        table,
+        slot_of(name, case),
+        |p| p == 0 || is_held(s, p, name, case),
+    )
 }
 
 // Enters the name that stands in s from a place up to another; names compare in one case.
 pub fn enter(s: &[u8], from: usize, end: usize, case: Case, table: &mut [usize]) -> Entering
     ensures { Enters (name_in case s.now) (map (cased case) (take (end - from) (drop from s.now))) (slot_between s.now from end) table.old table.new result }
 {
-    let to = at_most(end, s.len());
-    let at = at_most(from, to);
-    let q = slot_in(&*s, &*table, &s[at..to], case);
+    let to = end.min(s.len());
+    let at = from.min(to);
+    let q = slot_in(s, table, &s[at..to], case);
     if table.len() <= q {
         return Entering::Full;
     }
     if table[q] != 0 {
         return Entering::Seen;
     }
-    let p = slot_for(at, to);
-    if p == 0 {
+    let Some(p) = slot_for(at, to) else {
         return Entering::Full;
-    }
+    };
     table[q] = p;
     Entering::Stored
 }

@@ -10,7 +10,9 @@ use native.Mathlib.Decide.{dec_le}
 use lib.ListN.{length}
 use Rattle.octets.proofs.Cases.{cases}
 use Rattle.recurrence_set.specs.Lists.{numbers_from, only, due}
-use Rattle.recurrence_set.specs.Searches.{First}
+use Rattle.std.specs.Prelude.{Some, None}
+use Rattle.std.specs.declared.option.Option as code
+use Rattle.recurrence_set.specs.Searches.{First, NextOf}
 
 module _ (p : ℕ → Bool) (l : ℕ) where
   pub past : (a : ℕ) → l ≤ a → due p l a ≡ []
@@ -78,5 +80,10 @@ module _ (p : ℕ → Bool) (l : ℕ) where
       let g = s.from in
       record { from = omega arith; same = skip a b h f ∙ s.same; passes = s.passes }
 
-  pub first_past : (a : ℕ) → l ≤ a → First p l a a
-  first_past a h = record { from = omega arith; same = refl; passes = λ g. absurd (omega arith) }
+  -- as an Option
+  pub nothing-next : (a b : ℕ) → l ≤ b → First p l a b → due p l a ≡ []
+  nothing-next a b h f = f.same ∙ past b h
+
+  pub next-after : (a b : ℕ) (o : code.Option ℕ) → a ≤ b → ((k : ℕ) → a ≤ k → k < b → k < l → p k ≡ false) → NextOf p l b o → NextOf p l a o
+  next-after a b None h f s = skip a b h f ∙ s
+  next-after a b (Some r) h f s = first-after a b r h f s

@@ -8,7 +8,9 @@ use native.Mathlib.Decide.{dec_le}
 use borrow.Author.Tests.{lt-ltb, le-ltb, ltb-true, ltb-false, eqb-true}
 use lib.Dec.{eqb}
 use lib.Pow.{shr_le}
+use mathlib.Core.List.{[]}
 use mathlib.Core.Option.{none, some}
+use Rattle.std.specs.declared.option.Option as code
 use lib.Dec.{ltb}
 use Rattle.octets.specs.Basics.{◌and◌}
 use Rattle.octets.specs.Optional.{when}
@@ -23,13 +25,13 @@ use Rattle.calendar.specs.Sets.{has}
 use Rattle.calendar.specs.declared.dates.Date.{Date}
 use Rattle.calendar.specs.declared.rules.Rule.{Rule}
 use Rattle.calendar.proofs.Days.{Day, day-tells, day-is, month-bounds}
-use Rattle.calendar.proofs.Inverse.{sum_step, all-months, year-order, day-count, date-back, number-back, number_small}
+use Rattle.calendar.proofs.Inverse.{sum_step, all-months, year-order, date-back, number-back, number_small}
 use Rattle.calendar.proofs.Months.{month-count, first-day}
 use Rattle.recurrence_set.specs.Lists.{due}
 use Rattle.recurrence_set.specs.Meets.{counts, ordinal_serves, day_serves, monthly_meets}
-use Rattle.recurrence_set.specs.Searches.{First, Least, MarksOnly, serves_in_month, names_none, month_first, Counting}
+use Rattle.recurrence_set.specs.Searches.{First, NextOf, Least, MarksOnly, serves_in_month, names_none, month_first, Counting}
 use Rattle.recurrence_set.proofs.Places.{date-said, date-within}
-use Rattle.recurrence_set.proofs.Due.{skip as jump, first-at, first-after, first-none, first_past}
+use Rattle.recurrence_set.proofs.Due.{past as none-behind, skip as jump, first-at, next-after, first-none, nothing-next}
 use Rattle.recurrence_set.proofs.Every.{counts-here, counts-not, counts-between, counts-next}
 use Rattle.calendar.proofs.SetLaws.{has-none}
 use Rattle.recurrence_set.proofs.SetBits.{has-shr, has-mod, has_above, least-below}
@@ -368,14 +370,12 @@ module _ (r : Rule) (e : Date) (places month skip at past : ℕ) (s : Searched r
   found : (n : ℕ) → First (monthly_meets r e) places (month_first at + past) n → First (monthly_meets r e) places (month_first month + skip) n
   found n f = let x = s.from in let y = f.from in record { from = omega arith; same = s.same ∙ f.same; passes = f.passes }
 
-  pub search-past : 120000 ≤ at → places ≤ day_count → First (monthly_meets r e) places (month_first month + skip) (3652425 + past)
-  search-past h q =
-      let g : month_first at + past ≡ 3652425 + past = ap (λ (n : ℕ). n + past) (month-behind at h ∙ day-count) in
-      rw g at (found (month_first at + past) (first_past _ places (month_first at + past) (rw (month-behind at h) (omega arith))))
+  pub search-past : 120000 ≤ at → places ≤ day_count → due (monthly_meets r e) places (month_first month + skip) ≡ []
+  search-past h q = s.same ∙ none-behind _ places (month_first at + past) (rw (month-behind at h) (omega arith))
 
   module _ (f l : ℕ) (small : at < 120000) (first : f ≡ month_first at) (days : l ≡ length_of at) where
-    pub search-ends : places ≤ f + past → First (monthly_meets r e) places (month_first month + skip) (f + past)
-    search-ends h = rw first (found (month_first at + past) (first_past _ places (month_first at + past) (rw first at h)))
+    pub search-ends : places ≤ f + past → due (monthly_meets r e) places (month_first month + skip) ≡ []
+    search-ends h = s.same ∙ none-behind _ places (month_first at + past) (rw first at h)
 
     -- the days of the month that serve
     module _ (v : ℕ) (day : e.day ≡ v) (set : ℕ) (m : MarksOnly l (serves_in_month r v l ((f + 5) % 7)) set) (q : places ≤ day_count) (p : 1 ≤ r.interval) where
@@ -471,12 +471,12 @@ module _ (r : Rule) (e : Date) (h : names_none r ≡ true) where
       back : (q w : ℕ) → w < 7 → w + 7 * (4 - q) < 35
       back q w z = omega arith
 
-  pub none_first : (places from : ℕ) → from < places → places ≤ day_count → First (monthly_meets r e) places from places
-  none_first places from l q =
+  pub none_first : (places from : ℕ) → from < places → places ≤ day_count → due (monthly_meets r e) places from ≡ []
+  none_first places from l q = nothing-next _ places from places (omega arith) (
       first-none _ places from places (omega arith) (omega arith) (λ k x y.
       let d : k < day_count = omega arith in
       let g = day-range k d in
-      monthly-is r e k d ∙ rw (serves-not (month_days (date_at k).year (date_at k).month) (date_at k).day ((k + 5) % 7) g.0 g.1 (omega arith)) (and-false-right (counts r.interval (month_number (date_at k) - month_number e))))
+      monthly-is r e k d ∙ rw (serves-not (month_days (date_at k).year (date_at k).month) (date_at k).day ((k + 5) % 7) g.0 g.1 (omega arith)) (and-false-right (counts r.interval (month_number (date_at k) - month_number e)))))
 
 -- the month to begin with: that of the day, or the next that counts
 module _ (r : Rule) (e : Date) (places from : ℕ) (d : Date) (is : d ≡ date_at from) (p : 1 ≤ r.interval) (l : from < day_count) (h : month_number e ≤ month_number d) where
@@ -498,9 +498,9 @@ module _ (r : Rule) (e : Date) (places from : ℕ) (d : Date) (is : d ≡ date_a
           let w : month_number d + 1 ≤ month_number d = rw (← is) at (month-from (month_number d + 1) from l y) in
           absurd (omega arith)
 
-  first-here : (n : ℕ) → (month_number d - month_number e) % r.interval ≡ 0
-      → (Counting r e (month_number d) → month_first (month_number d) + (d.day - 1) ≤ month_first (month_number d + 1) → First (monthly_meets r e) places (month_first (month_number d) + (d.day - 1)) n)
-      → First (monthly_meets r e) places from n
+  first-here : (n : code.Option ℕ) → (month_number d - month_number e) % r.interval ≡ 0
+      → (Counting r e (month_number d) → month_first (month_number d) + (d.day - 1) ≤ month_first (month_number d + 1) → NextOf (monthly_meets r e) places (month_first (month_number d) + (d.day - 1)) n)
+      → NextOf (monthly_meets r e) places from n
   first-here n o f = rw month-day at (f (month-here o) month-room)
 
   module _ (n : (month_number d - month_number e) % r.interval ≡ 0 → ⊥) where
@@ -552,11 +552,11 @@ module _ (r : Rule) (e : Date) (places from : ℕ) (d : Date) (is : d ≡ date_a
             let v = u in
             counts-between r.interval (month_number d - month_number e) (month_number (date_at k) - month_number e) p (omega arith) (omega arith)
 
-    first_next : (t : ℕ) → places ≤ day_count
-        → (Counting r e next → month_first next + 0 ≤ month_first (next + 1) → First (monthly_meets r e) places (month_first next + 0) t)
-        → First (monthly_meets r e) places from t
+    first_next : (t : code.Option ℕ) → places ≤ day_count
+        → (Counting r e next → month_first next + 0 ≤ month_first (next + 1) → NextOf (monthly_meets r e) places (month_first next + 0) t)
+        → NextOf (monthly_meets r e) places from t
     first_next t q f =
-        first-after _ places from (month_first next + 0) t next-from (λ k x y z. jumped k (omega arith) x y) (f month-next next-room)
+        next-after _ places from (month_first next + 0) t next-from (λ k x y z. jumped k (omega arith) x y) (f month-next next-room)
 
 -- the date that the code is told of the day to begin with
 module _ (from : ℕ) (d : Date) (t : some d ≡ when (ltb from day_count) (date_at from)) where
@@ -578,14 +578,14 @@ module _ (from : ℕ) (d : Date) (t : some d ≡ when (ltb from day_count) (date
     pub never-before : {P : Type 0} → month < begin → P
     never-before u = let o = order in absurd (omega arith)
 
-    pub from-here : (n : ℕ) → (month - begin) % r.interval ≡ 0
-        → (Counting r e month → month_first month + (d.day - 1) ≤ month_first (month + 1) → First (monthly_meets r e) places (month_first month + (d.day - 1)) n)
-        → First (monthly_meets r e) places from n
+    pub from-here : (n : code.Option ℕ) → (month - begin) % r.interval ≡ 0
+        → (Counting r e month → month_first month + (d.day - 1) ≤ month_first (month + 1) → NextOf (monthly_meets r e) places (month_first month + (d.day - 1)) n)
+        → NextOf (monthly_meets r e) places from n
     from-here n o f = first-here r e places from d (date-said from d t) p in-time order n (rw (m, b) at o) (rw m at f)
 
-    pub from_next : (n : ℕ) → ((month - begin) % r.interval ≡ 0 → ⊥) → places ≤ day_count
+    pub from_next : (n : code.Option ℕ) → ((month - begin) % r.interval ≡ 0 → ⊥) → places ≤ day_count
         → (Counting r e (month + (r.interval - (month - begin) % r.interval))
         → month_first (month + (r.interval - (month - begin) % r.interval)) + 0 ≤ month_first (month + (r.interval - (month - begin) % r.interval) + 1)
-        → First (monthly_meets r e) places (month_first (month + (r.interval - (month - begin) % r.interval)) + 0) n)
-        → First (monthly_meets r e) places from n
+        → NextOf (monthly_meets r e) places (month_first (month + (r.interval - (month - begin) % r.interval)) + 0) n)
+        → NextOf (monthly_meets r e) places from n
     from_next n o q f = first_next r e places from d (date-said from d t) p in-time order (rw (m, b) at o) n q (rw (m, b) at f)

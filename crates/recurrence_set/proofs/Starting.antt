@@ -2,6 +2,9 @@
 use Prim.Native.Nat.{ℕ, ◌≤◌, ◌<◌}
 use mathlib.Core.Path.{◌≡◌, refl, sym, subst, ◌∙◌}
 use mathlib.Core.Bool.{true, false}
+use Rattle.std.specs.Prelude.{Some, None}
+use Rattle.std.specs.declared.option.Option as code
+use mathlib.Core.Logic.{◌⊎◌, inl, inr}
 use native.Mathlib.Omega.{arith}
 use Rattle.octets.proofs.Cases.{both}
 use Rattle.calendar.specs.Gregorian.{is_day, day_number, day_count, date_at, month_number}
@@ -11,40 +14,33 @@ use Rattle.calendar.specs.declared.rules.Frequency.TheVariants.{Secondly, Minute
 use Rattle.calendar.proofs.Inverse.{date-back}
 use Rattle.recurrence_set.specs.declared.Series.{Series}
 use Rattle.recurrence_set.specs.Meets.{is_hourly, place_of, places_of, every_meets, weekly_meets, monthly_meets, meets_by}
-use Rattle.recurrence_set.specs.Searches.{First, meets_at, Founded}
-use Rattle.recurrence_set.proofs.Due.{first-none}
+use Rattle.recurrence_set.specs.Searches.{First, NextOf, meets_at, Founded}
+use Rattle.recurrence_set.proofs.Due.{first-none, nothing-next}
 use Rattle.recurrence_set.proofs.MonthSearch.{month-order}
 
-module _ (s : Series) (from r : ℕ) where
-  by : (f : Frequency) → s.rule.frequency ≡ f → First (meets_by f s.rule s.start s.place) s.places from r → First (meets_at s) s.places from r
+module _ (s : Series) (from : ℕ) (o : code.Option ℕ) where
+  by : (f : Frequency) → s.rule.frequency ≡ f → NextOf (meets_by f s.rule s.start s.place) s.places from o → NextOf (meets_at s) s.places from o
   unfolding meets_at
-  by f e h = subst (λ (g : Frequency). First (meets_by g s.rule s.start s.place) s.places from r) (sym e) h
+  by f e h = subst (λ (g : Frequency). NextOf (meets_by g s.rule s.start s.place) s.places from o) (sym e) h
 
-  pub by-hourly : s.rule.frequency ≡ Hourly → ((l : ℕ) → First (every_meets s.rule s.place) l from r) → First (meets_at s) s.places from r
-  unfolding meets_by
-  by-hourly e h = by Hourly e (h s.places)
-
-  pub by-daily : s.rule.frequency ≡ Daily → ((l : ℕ) → First (every_meets s.rule s.place) l from r) → First (meets_at s) s.places from r
-  unfolding meets_by
-  by-daily e h = by Daily e (h s.places)
-
-  pub by-weekly : s.rule.frequency ≡ Weekly → First (weekly_meets s.rule s.place) s.places from r → First (meets_at s) s.places from r
+  pub by-weekly : s.rule.frequency ≡ Weekly → NextOf (weekly_meets s.rule s.place) s.places from o → NextOf (meets_at s) s.places from o
   unfolding meets_by
   by-weekly e h = by Weekly e h
 
+pub by-every : (s : Series) (from r : ℕ) → (s.rule.frequency ≡ Hourly) ⊎ (s.rule.frequency ≡ Daily) → ((l : ℕ) → First (every_meets s.rule s.place) l from r) → NextOf (meets_at s) s.places from (Some r)
+unfolding meets_by
+by-every s from r (inl e) h = by s from (Some r) Hourly e (h s.places)
+by-every s from r (inr e) h = by s from (Some r) Daily e (h s.places)
+
 -- the frequencies that no place meets
 module _ (s : Series) (from : ℕ) (l : from < s.places) where
-  by-none : (f : Frequency) → s.rule.frequency ≡ f → ((n : ℕ) → meets_by f s.rule s.start s.place n ≡ false) → First (meets_at s) s.places from s.places
-  by-none f e h = by s from s.places f e (first-none _ s.places from s.places (omega arith) (omega arith) (λ k x y. h k))
+  by-none : (f : Frequency) → s.rule.frequency ≡ f → ((n : ℕ) → meets_by f s.rule s.start s.place n ≡ false) → NextOf (meets_at s) s.places from None
+  by-none f e h = by s from None f e (nothing-next _ s.places from s.places (omega arith) (first-none _ s.places from s.places (omega arith) (omega arith) (λ k x y. h k)))
 
-  pub by-secondly : s.rule.frequency ≡ Secondly → First (meets_at s) s.places from s.places
-  by-secondly e = by-none Secondly e (λ n. unfold meets_by in refl)
-
-  pub by-minutely : s.rule.frequency ≡ Minutely → First (meets_at s) s.places from s.places
-  by-minutely e = by-none Minutely e (λ n. unfold meets_by in refl)
-
-  pub by-yearly : s.rule.frequency ≡ Yearly → First (meets_at s) s.places from s.places
-  by-yearly e = by-none Yearly e (λ n. unfold meets_by in refl)
+  pub by-nothing : (s.rule.frequency ≡ Secondly) ⊎ ((s.rule.frequency ≡ Minutely) ⊎ (s.rule.frequency ≡ Yearly)) → NextOf (meets_at s) s.places from None
+  by-nothing (inl e) = by-none Secondly e (λ n. unfold meets_by in refl)
+  by-nothing (inr (inl e)) = by-none Minutely e (λ n. unfold meets_by in refl)
+  by-nothing (inr (inr e)) = by-none Yearly e (λ n. unfold meets_by in refl)
 
   -- a monthly rule: its places are days, and the day to begin with lies not before the start's
   module _ (h : Founded s) (b : s.place ≤ from) (e : s.rule.frequency ≡ Monthly) where
@@ -66,8 +62,8 @@ module _ (s : Series) (from : ℕ) (l : from < s.places) where
         let p = monthly-place in
         rw (date-back s.start.date start-day) at (month-order (day_number s.start.date) from (omega arith) (omega arith))
 
-    pub by-monthly : (r : ℕ)
-        → (s.places ≤ day_count → month_number s.start.date ≤ month_number (date_at from) → First (monthly_meets s.rule s.start.date) s.places from r)
-        → First (meets_at s) s.places from r
+    pub by-monthly : (o : code.Option ℕ)
+        → (s.places ≤ day_count → month_number s.start.date ≤ month_number (date_at from) → NextOf (monthly_meets s.rule s.start.date) s.places from o)
+        → NextOf (meets_at s) s.places from o
     unfolding meets_by
-    by-monthly r f = by s from r Monthly e (f monthly-places monthly-start)
+    by-monthly o f = by s from o Monthly e (f monthly-places monthly-start)

@@ -1,6 +1,7 @@
 -- The search for the places that meet a rule, as the code has it: the least number of a set, the days of a week or a month as sets, and the first
 -- place from one on.
-use Rattle.std.specs.Prelude.{ℕ, ◌+◌, ◌-◌, ◌*◌, ◌/◌, ◌%◌, ◌^◌, ◌≤◌, ◌<◌, min, ◌≡◌, Bool, true, false, eqb, ltb}
+use Rattle.std.specs.Prelude.{ℕ, ◌+◌, ◌-◌, ◌*◌, ◌/◌, ◌%◌, ◌^◌, ◌≤◌, ◌<◌, min, ◌≡◌, Bool, true, false, [], eqb, ltb, Some, None}
+use Rattle.std.specs.declared.option.Option as code
 use Rattle.octets.specs.Basics.{pick, ◌and◌}
 use Rattle.calendar.specs.Gregorian.{day_count, date_at, month_number}
 use Rattle.calendar.specs.Moments.{is_moment, second_number}
@@ -22,11 +23,26 @@ pub record First (p : ℕ → Bool) (l a r : ℕ) : Type 0 where
   pub same : due p l a ≡ due p l r
   pub passes : r < l → p r ≡ true
 
+-- the first from a on and below l that passes, or that none does
+abbrev pub FirstOf : (ℕ → Bool) → ℕ → ℕ → code.Option ℕ → Type 0
+FirstOf p l a None = due p l a ≡ []
+FirstOf p l a (Some r) = First p l a r × (r < l)
+
+-- a first from a on that passes, or a place at l or behind it; or that none below l passes
+abbrev pub NextOf : (ℕ → Bool) → ℕ → ℕ → code.Option ℕ → Type 0
+NextOf p l a None = due p l a ≡ []
+NextOf p l a (Some r) = First p l a r
+
 -- r is the least number of a set, or 64 where it has none below
 pub record Least (set r : ℕ) : Type 0 where
   pub most : r ≤ 64
   pub none : (k : ℕ) → k < r → has set k ≡ false
   pub there : r < 64 → has set r ≡ true
+
+-- the least number of a set, or that it has none
+abbrev pub LeastOf : ℕ → code.Option ℕ → Type 0
+LeastOf set None = set ≡ 0
+LeastOf set (Some r) = Least set r × (set ≡ 0 → ⊥)
 
 -- of the numbers below l, the set r has those that pass; and it has no other
 pub record Marks (l : ℕ) (p : ℕ → Bool) (r : ℕ) : Type 0 where

@@ -9,12 +9,11 @@ ghost use Rattle.std.specs.Prelude.{◌≡◌, true, ℕ, ◌≤◌, ◌<◌, �
 ghost use Rattle.calendar.specs.Gregorian.{day_count};
 ghost use Rattle.calendar.specs.Moments.{is_moment, second_number};
 ghost use Rattle.recurrence_set.specs.Meets.{is_hourly, place_of, places_of, moment_at, every_meets};
-ghost use Rattle.recurrence_set.specs.Searches.{First, moment_on, unit_of, seconds_in, places_up_to, limit_of, series_of, meets_at, real_end, Founded};
+ghost use Rattle.recurrence_set.specs.Searches.{First, NextOf, FirstOf, moment_on, unit_of, seconds_in, places_up_to, limit_of, series_of, meets_at, real_end, Founded};
 
-use calendar::by_days::ByDays;
-use calendar::dates::{DAY_COUNT, Date, DateAt, DayNumber};
-use calendar::moments::{Kind, Moment};
-use calendar::rules::{ByParts, End, Frequency, Rule, Weekday};
+use calendar::dates::{DAY_COUNT, Date};
+use calendar::moments::Moment;
+use calendar::rules::{End, Frequency, Rule};
 use calendar::texts::is_clock;
 use months::monthly_from;
 use weeks::weekly_from;
@@ -29,61 +28,22 @@ pub struct Series {
     pub places: u32,
 }
 
-impl Series {
-    // No places.
-    pub const EMPTY: Series = Series {
-        rule: Rule {
-            frequency: Frequency::Daily,
-            interval: 1,
-            end: End::Open,
-            wkst: Weekday::Monday,
-            by: ByParts {
-                second: false,
-                minute: false,
-                hour: false,
-                day: false,
-                monthday: false,
-                yearday: false,
-                weekno: false,
-                month: false,
-                setpos: false,
-            },
-            days: ByDays {
-                weekdays: 0,
-                ordinals: 0,
-                lastordinals: 0,
-                monthdays: 0,
-                lastmonthdays: 0,
-            },
-        },
-        start: Moment {
-            date: Date::FIRST,
-            hour: 0,
-            minute: 0,
-            second: 0,
-            kind: Kind::Day,
-        },
-        place: 0,
-        places: 0,
-    };
+// A rule whose interval is no 0.
+#[derive(Clone, Copy)]
+struct Stepped {
+    rule: Rule,
+    ghost steps: { 1 ≤ rule.interval },
 }
 
 // The frequency is HOURLY.
+#[tactic(auto, unfolding(crate::specs::Meets::is_hourly))]
 fn is_hourly(f: Frequency) -> bool
     ensures { result ≡ is_hourly f }
 {
-    match f {
-        Frequency::Secondly => false,
-        Frequency::Minutely => false,
-        Frequency::Hourly => true,
-        Frequency::Daily => false,
-        Frequency::Weekly => false,
-        Frequency::Monthly => false,
-        Frequency::Yearly => false,
-    }
+    matches!(f, Frequency::Hourly)
 }
 
-// The place of a moment; 0 for what is no moment.
+// The place of a moment; 0 for what is no moment, since `series_of` answers any start with a series, and promises nothing of one that is no moment.
 fn place_of(f: Frequency, m: Moment) -> u32
     ensures { is_moment m ≡ true → result ≡ place_of f m }
 {
@@ -91,7 +51,7 @@ fn place_of(f: Frequency, m: Moment) -> u32
     if !is_clock(m.hour, m.minute, m.second) {
         return 0;
     }
-    let DayNumber::Day(n) = date.day_number() else {
+    let Some(n) = date.day_number() else {
         return 0;
     };
     if is_hourly(f) {
@@ -110,7 +70,7 @@ fn places_of(f: Frequency) -> u32
     DAY_COUNT
 }
 
-// Seconds from the first day on; 0 for what is no moment.
+// Seconds from the first day on; 0 for what is no moment, as in `place_of`.
 fn seconds_of(m: Moment) -> u64
     ensures { (is_moment m ≡ true → result ≡ second_number m) × (result ≤ 315569520000) }
 {
@@ -118,7 +78,7 @@ fn seconds_of(m: Moment) -> u64
     if !is_clock(m.hour, m.minute, m.second) {
         return 0;
     }
-    let DayNumber::Day(n) = date.day_number() else {
+    let Some(n) = date.day_number() else {
         return 0;
     };
     (((n as u64) * 24 + (m.hour as u64)) * 60 + (m.minute as u64)) * 60 + (m.second as u64)
@@ -153,15 +113,8 @@ fn limit_of(f: Frequency, m: Moment, end: End) -> u32
 {
     let all = places_of(f);
     match end {
-        End::Count(_) => all,
-        End::Until(last) => {
-            let n = places_until(f, m, last);
-            if all < n {
-                return all;
-            }
-            n
-        }
-        End::Open => all,
+        End::Until(last) => all.min(places_until(f, m, last)),
+        End::Count(_) | End::Open => all,
     }
 }
 
@@ -170,56 +123,55 @@ pub fn series_of(start: Moment, rule: Rule) -> Series
     ensures { is_moment start ≡ true → real_end rule.end → result ≡ series_of start rule }
 {
     let f = rule.frequency;
-    let end = rule.end;
     Series {
-        rule: rule,
-        start: start,
+        rule,
+        start,
         place: place_of(f, start),
-        places: limit_of(f, start, end),
+        places: limit_of(f, start, rule.end),
     }
 }
 
 // The first place from one on that is one of every so many from the start's on.
-fn every_from(rule: Rule, start: u64, from: u64) -> u64
-    requires { (1 ≤ rule.interval) × (start ≤ from) × (from ≤ 4294967295) }
-    ensures { (l : ℕ) → First (every_meets rule start) l from result }
+fn every_from(stepped: Stepped, start: u32, from: u32) -> u64
+    requires { start ≤ from }
+    ensures { (l : ℕ) → First (every_meets stepped.rule start) l from result }
 {
-    let interval = rule.interval as u64;
+    let interval = stepped.rule.interval;
     let out = (from - start) % interval;
     if out == 0 {
-        return from;
+        return from as u64;
     }
-    from + (interval - out)
+    from as u64 + (interval - out) as u64
 }
 
-// The first place from one on that meets the rule; where none does, the number of places or more.
-pub fn first_from(series: Series, from: u32) -> u64
-    ensures { Founded series → series.place ≤ from → First (meets_at series) series.places from result }
+// The first place from one on that meets the rule, or a place behind the places there are; None where none meets it.
+fn search(series: Series, from: u32) -> Option<u64>
+    ensures { Founded series → series.place ≤ from → NextOf (meets_at series) series.places from result }
 {
     let rule = series.rule;
-    let start = series.start;
-    let date = start.date;
-    let f = rule.frequency;
-    let places = series.places as u64;
-    let place = series.place as u64;
-    let at = from as u64;
-    if places <= at {
-        return at;
+    let place = series.place;
+    let places = series.places;
+    if places <= from || from < place || rule.interval < 1 {
+        return None;
     }
-    if at < place {
-        return at;
+    let stepped = Stepped { rule };
+    match rule.frequency {
+        Frequency::Hourly | Frequency::Daily => Some(every_from(stepped, place, from)),
+        Frequency::Weekly => weekly_from(stepped, place, from, places),
+        Frequency::Monthly => monthly_from(stepped, series.start.date, from, places),
+        Frequency::Secondly | Frequency::Minutely | Frequency::Yearly => None,
     }
-    if rule.interval < 1 {
-        return at;
-    }
-    match f {
-        Frequency::Secondly => places,
-        Frequency::Minutely => places,
-        Frequency::Hourly => every_from(rule, place, at),
-        Frequency::Daily => every_from(rule, place, at),
-        Frequency::Weekly => weekly_from(rule, place, at, places),
-        Frequency::Monthly => monthly_from(rule, date, at, places),
-        Frequency::Yearly => places,
+}
+
+// The first place from one on that meets the rule, if one does.
+pub fn first_from(series: Series, from: u32) -> Option<u32>
+    ensures { Founded series → series.place ≤ from → FirstOf (meets_at series) series.places from result }
+{
+    let found = search(series, from)?;
+    if found < series.places as u64 {
+        Some(found as u32)
+    } else {
+        None
     }
 }
 
@@ -227,16 +179,13 @@ pub fn first_from(series: Series, from: u32) -> u64
 fn moment_on(start: Moment, day: u32, hour: u32) -> Moment
     ensures { day < day_count → result ≡ moment_on start day hour }
 {
-    let kind = start.kind;
-    let DateAt::On(date) = Date::from_day_number(day) else {
+    let Some(date) = Date::from_day_number(day) else {
         return start;
     };
     Moment {
-        date: date,
-        hour: hour,
-        minute: start.minute,
-        second: start.second,
-        kind: kind,
+        date,
+        hour,
+        ..start
     }
 }
 
@@ -244,10 +193,8 @@ fn moment_on(start: Moment, day: u32, hour: u32) -> Moment
 pub fn moment_at(series: Series, place: u32) -> Moment
     ensures { place < places_of series.rule.frequency → result ≡ moment_at series.rule.frequency series.start place }
 {
-    let rule = series.rule;
     let start = series.start;
-    let f = rule.frequency;
-    if is_hourly(f) {
+    if is_hourly(series.rule.frequency) {
         return moment_on(start, place / 24, place % 24);
     }
     moment_on(start, place, start.hour)

@@ -1,16 +1,19 @@
 // Sets of days: the least of them, and weeks of them.
 ghost use Rattle.std.specs.Prelude.{◌+◌, ◌*◌, ◌/◌, ◌%◌, ◌<◌};
 ghost use Rattle.calendar.specs.Sets.{has};
-ghost use Rattle.recurrence_set.specs.Searches.{Least, Marks};
+ghost use Rattle.recurrence_set.specs.Searches.{LeastOf, Marks};
 
 // The first day of each of five weeks.
 const WEEKS: u64 = 1 + 128 + 16384 + 2097152 + 268435456;
 
-// The least number of a set; 64 where there is none.
-pub(crate) fn least(set: u64) -> u64
-    ensures { Least set result }
+// The least number of a set, if it has one.
+pub(crate) fn least(set: u64) -> Option<u64>
+    ensures { LeastOf set result }
 {
-    u64::trailing_zeros(set) as u64
+    if set == 0 {
+        return None;
+    }
+    Some(u64::trailing_zeros(set) as u64)
 }
 
 // A set of weekdays in each of five weeks.

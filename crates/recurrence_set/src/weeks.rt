@@ -1,8 +1,9 @@
 // Weekly rules: the weekdays that serve, and the first day from one on that meets the rule.
 ghost use Rattle.std.specs.Prelude.{◌≤◌, ◌<◌};
 ghost use Rattle.recurrence_set.specs.Meets.{weekly_meets};
-ghost use Rattle.recurrence_set.specs.Searches.{First, MarksOnly, serves_in_week};
+ghost use Rattle.recurrence_set.specs.Searches.{NextOf, MarksOnly, serves_in_week};
 
+use crate::Stepped;
 use crate::sets::{each_week, least};
 use calendar::by_days::weekday_place;
 use calendar::rules::Rule;
@@ -18,26 +19,24 @@ fn week_set(rule: Rule, v: u64, w: u64) -> u64
     (each_week(set) >> w) % 128
 }
 
-// The first day from one on that meets a weekly rule; where none does, the number of places or more.
-pub(crate) fn weekly_from(rule: Rule, start: u64, from: u64, places: u64) -> u64
-    requires { (1 ≤ rule.interval) × (start ≤ from) × (from < places) × (places ≤ 4294967295) }
-    ensures { First (weekly_meets rule start) places from result }
+// The first day from one on that meets a weekly rule, if any day does.
+pub(crate) fn weekly_from(stepped: Stepped, start: u32, from: u32, places: u32) -> Option<u64>
+    requires { (start ≤ from) × (from < places) }
+    ensures { NextOf (weekly_meets stepped.rule start) places from result }
 {
+    let rule = stepped.rule;
     let wkst = rule.wkst;
     let w = weekday_place(wkst);
-    let set = week_set(rule, (start + 5) % 7, w);
-    if set == 0 {
-        return places;
-    }
+    let set = week_set(rule, (start as u64 + 5) % 7, w);
+    let first = least(set)?;
     let interval = rule.interval as u64;
-    let at = from + 5 + (7 - w);
+    let at = from as u64 + 5 + (7 - w);
     let week = at / 7;
-    let out = (week - (start + 5 + (7 - w)) / 7) % interval;
+    let out = (week - (start as u64 + 5 + (7 - w)) / 7) % interval;
     if out == 0 {
-        let rest = set >> (at % 7);
-        if rest != 0 {
-            return from + least(rest);
+        if let Some(later) = least(set >> (at % 7)) {
+            return Some(from as u64 + later);
         }
     }
-    (week + (interval - out)) * 7 + least(set) - 5 - (7 - w)
+    Some((week + (interval - out)) * 7 + first - 5 - (7 - w))
 }

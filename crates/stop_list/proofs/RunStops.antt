@@ -1,83 +1,50 @@
 -- The stops of a run, one at a time: a search from a place on finds the first of them, and behind its place are the others.
-use Prim.Native.Nat.{ℕ, zero, suc, ◌+◌, ◌-◌, ◌≤◌, ◌<◌}
-use mathlib.Core.Path.{◌≡◌, refl, ◌∙◌}
-use mathlib.Core.Bool.{true, false, false≢true}
+use Prim.Native.Nat.{ℕ, zero, suc, ◌+◌, ◌≤◌, ◌<◌, min}
+use mathlib.Core.Path.{◌≡◌, refl}
 use mathlib.Core.List.{[], ◌∷◌}
 use native.Mathlib.Omega.{arith}
-use lib.ListN.{take}
-use Rattle.recurrence_set.specs.declared.Series.{Series}
-use Rattle.recurrence_set.specs.Searches.{First, meets_at, Founded}
-use Rattle.recurrence_set.proofs.Due.{past, passes-first}
+use lib.ListN.{take, length, length-map, length-take}
+use Rattle.octets.proofs.Cases.{cases}
+use Rattle.calendar.specs.declared.moments.Moment.{Moment}
+use Rattle.calendar.specs.declared.rules.Frequency.{Frequency}
+use Rattle.recurrence_set.specs.Lists.{due}
+use Rattle.recurrence_set.specs.Meets.{is_hourly, places_of, moment_at}
+use Rattle.recurrence_set.specs.Searches.{First, meets_at}
+use Rattle.recurrence_set.proofs.Due.{passes-first}
+use Rattle.recurrence_set.proofs.Places.{all-hours, all-days}
 use Rattle.stop_list.specs.declared.runs.Run.{Run}
-use Rattle.stop_list.specs.Runs.{stop_in, stops_from, stops_of, RunsAt, Live, Sound, RunsFrom, Advances}
+use Rattle.stop_list.specs.Runs.{stop_in, stops_from, stops_of, Live}
 
 take_none : {A : Type 0} (n : ℕ) → take {A = A} n [] ≡ []
 take_none zero = refl
 take_none (suc n) = refl
 
-pub ended-stops : (s : Series) (r : Run) → r.more ≡ false → stops_of s r ≡ []
-unfolding stops_of
-ended-stops s r b = rw b
+-- no room, or nothing found
+pub no_room : (r : Run) → r.room ≡ 0 → stops_of r ≡ []
+unfolding stops_of stops_from
+no_room r z = rw z
 
-pub ended-sound : (s : Series) (r : Run) → r.more ≡ false → Sound s r
-ended-sound s r b m = absurd (let z : false ≡ true = (cc) in false≢true z)
-
-module _ (s : Series) (a h : ℕ) (f : First (meets_at s) s.places a h) where
-  from_first : (n : ℕ) → stops_from s n h ≡ stops_from s n a
-  unfolding stops_from
-  from_first n = rw f.same
-
-  from-none : (n : ℕ) → s.places ≤ h → [] ≡ stops_from s n a
-  unfolding stops_from
-  from-none n l = rw (f.same, past (meets_at s) s.places h l, take_none {A = ℕ} n)
-
-no_room : (s : Series) (n a : ℕ) → n ≡ 0 → [] ≡ stops_from s n a
-unfolding stops_from
-no_room s n a z = rw z
+pub none_there : (r : Run) → due (meets_at r.series) r.series.places r.from ≡ [] → stops_of r ≡ []
+unfolding stops_of stops_from
+none_there r z = rw (z, take_none {A = ℕ} r.room)
 
 -- at a place that meets the rule the stops are its stop, and those from the next place on
-from-here : (s : Series) (n k h : ℕ) → n ≡ suc k → h < s.places → meets_at s h ≡ true → stops_from s n h ≡ stop_in s h ∷ stops_from s k (h + 1)
-unfolding stops_from
-from-here s n k h e l m = rw (e, passes-first (meets_at s) s.places h l m)
+pub some_there : (q r : Run) (h : ℕ) (m : Moment) → First (meets_at q.series) q.series.places q.from h → h < q.series.places → m ≡ moment_at q.series.rule.frequency q.series.start h
+    → r.series ≡ q.series → r.from ≡ h + 1 → q.room ≡ suc r.room → stops_of q ≡ record { moment = m } ∷ stops_of r
+unfolding stops_of stops_from stop_in
+some_there q r h m f w e s b k = rw (k, f.same, passes-first (meets_at q.series) q.series.places h w (f.passes w), e, s, b)
 
--- the run that a search finds
-module _ (s : Series) (at room from : ℕ) (r : Run) (founded : Founded s) (behind : s.place ≤ from) where
-  module _ (here : ℕ) (f : First (meets_at s) s.places from here) where
-    pub from_found : at < room → here < s.places → RunsAt s at room here r → RunsFrom s at room from r
-    from_found l w q =
-        record {
-          sound = λ m.
-              record {
-                more = m;
-                founded = founded;
-                from = rw q.here (let g = f.from in omega arith);
-                fits = rw (q.number, q.room) l;
-                within = rw q.here w;
-                meets = rw q.here (f.passes w);
-                stop = rw q.here (q.stop (let p = founded.places in omega arith));
-              };
-          number = q.number;
-          room = q.room;
-          stops = found-stops;
-        }
-      where
-        found-stops : stops_of s r ≡ stops_from s (room - at) from
-        found-stops = unfold stops_of in rw (q.more, q.room, q.number, q.here) (from_first s from here f (room - at))
+-- and what is left is live; the place behind one of a series is a number of 32 bits
+few_places : (f : Frequency) → places_of f ≤ 87658200
+few_places f = cases (is_hourly f) (λ e. let k = all-hours f e in omega arith) (λ e. let k = all-days f e in omega arith)
 
-    pub from_past : s.places ≤ here → (r.more ≡ false) × (r.at ≡ at) × (r.room ≡ room) → RunsFrom s at room from r
-    from_past l q = record { sound = ended-sound s r q.0; number = q.1; room = q.2; stops = ended-stops s r q.0 ∙ from-none s from here f (room - at) l }
+pub behind_it : (q : Run) (h n : ℕ) → Live q → h < q.series.places → n ≡ min (h + 1) 4294967295 → n ≡ h + 1
+behind_it q h n v w e = let p = v.founded.places in let k = few_places q.series.rule.frequency in omega arith
 
-  pub from-full : room ≤ at → (r.more ≡ false) × (r.at ≡ at) × (r.room ≡ room) → RunsFrom s at room from r
-  from-full l q = record { sound = ended-sound s r q.0; number = q.1; room = q.2; stops = ended-stops s r q.0 ∙ no_room s (room - at) from (omega arith) }
+pub on_live : (q r : Run) (h : ℕ) → Live q → First (meets_at q.series) q.series.places q.from h → r.series ≡ q.series → r.from ≡ h + 1 → Live r
+on_live q r h v f e b = record { founded = rw e v.founded; from = rw (e, b) (let a = v.from in let g = f.from in omega arith) }
 
--- the run at its next stop
-pub advances : (s : Series) (q r : Run) → Live s q → (Founded s → s.place ≤ q.here + 1 → RunsFrom s (q.at + 1) q.room (q.here + 1) r) → Advances s q r
-advances s q r v f =
-    let t = f v.founded (let g = v.from in omega arith) in
-    record { sound = t.sound; number = t.number; room = t.room; stops = on t.stops }
-  where
-    on : stops_of s r ≡ stops_from s (q.room - (q.at + 1)) (q.here + 1) → stops_of s q ≡ q.stop ∷ stops_of s r
-    on e =
-        let k : q.room - q.at ≡ suc (q.room - (q.at + 1)) = (let l = v.fits in omega arith) in
-        let w = from-here s (q.room - q.at) (q.room - (q.at + 1)) q.here k v.within v.meets in
-        rw (e, v.stop) (unfold stops_of in rw v.more w)
+-- there are not more than there is room for
+pub few_stops : (r : Run) → length (stops_of r) ≤ r.room
+unfolding stops_of stops_from
+few_stops r = rw (length-map, length-take) (omega arith)

@@ -1,33 +1,20 @@
--- What a start and a rule come to, as the code has it: why they are refused, or a run of stops.
-use Rattle.std.specs.Prelude.{ℕ, ◌≡◌, false, List, []}
+-- What a start and a rule come to, as the code has it: a run of stops, or why they are refused.
+use Rattle.std.specs.Prelude.{ℕ, ◌≡◌, ◌≤◌, List, Ok, Err}
+use Rattle.std.specs.declared.result.Result.{Result}
 use Rattle.octets.specs.Answers.{number, Answer, refused, accepted}
 use Rattle.octets.specs.declared.Refusal.{Refusal}
 use Rattle.stop_list.specs.declared.Stop.{Stop}
-use Rattle.stop_list.specs.declared.Listed.{Listed}
-use Rattle.stop_list.specs.declared.Listed.TheVariants.{Stops, Refused}
-use Rattle.stop_list.specs.declared.plans.Plan.{Plan}
+use Rattle.stop_list.specs.declared.runs.Run.{Run}
 use Rattle.stop_list.specs.Stops.{list_of}
-use Rattle.stop_list.specs.Runs.{stops_of, Begins}
+use Rattle.stop_list.specs.Runs.{stops_of, Live}
 
--- the answer, once so many stops are listed
-unfoldable pub concluded : Listed → ℕ → Listed
-concluded (Stops k) n = Stops n
-concluded (Refused r) n = Refused r
+-- the definition's answer, told by the stops of a run or by a refusal
+unfoldable pub list_told : Result Run Refusal → Answer (List Stop)
+list_told (Ok r) = accepted (stops_of r)
+list_told (Err why) = refused (number why)
 
--- the definition's answer, told by a plan's and the stops of its run
-unfoldable pub list_told : Listed → List Stop → Answer (List Stop)
-list_told (Stops k) ss = accepted ss
-list_told (Refused r) ss = refused (number r)
-
--- a refusal, whose run has no stop
-pub record RefusedFor (why : Refusal) (p : Plan) : Type 0 where
-  pub listed : p.listed ≡ Refused why
-  pub ended : p.run.more ≡ false
-  pub front : p.run.at ≡ 0
-  pub room : p.run.room ≡ 0
-
--- what a plan tells is the definition's answer, and a refusal has no stop
-pub record Plans (start rule : List ℕ) (room : ℕ) (p : Plan) : Type 0 where
-  pub answer : list_told p.listed (stops_of p.series p.run) ≡ list_of start rule room
-  pub none : (why : Refusal) → p.listed ≡ Refused why → stops_of p.series p.run ≡ []
-  pub begins : Begins p.series p.run room
+-- what a plan tells is the definition's answer, and its run is live and has no more room than was given
+pub record Plans (start rule : List ℕ) (room : ℕ) (p : Result Run Refusal) : Type 0 where
+  pub answer : list_told p ≡ list_of start rule room
+  pub live : (r : Run) → p ≡ Ok r → Live r
+  pub fits : (r : Run) → p ≡ Ok r → r.room ≤ room

@@ -1,8 +1,10 @@
 -- The stop list (01, The stop list; 02, [1]): which rules it serves, the stops of a start and a rule, and what a lent list of stop records holds then.
-use Rattle.std.specs.Prelude.{ℕ, Bool, true, false, not, List, ◌++◌, map, eqb, length, drop}
+use Rattle.std.specs.Prelude.{ℕ, Bool, true, false, not, List, ◌++◌, map, eqb, length, drop, Ok, Err}
+use Rattle.std.specs.declared.result.Result.{Result}
 use Rattle.octets.specs.Basics.{◌and◌, ◌or◌}
 use Rattle.octets.specs.Optional.{guard}
 use Rattle.octets.specs.Answers.{number, Answer, refused, accepted, then, or_else, unless}
+use Rattle.octets.specs.declared.Refusal.{Refusal}
 use Rattle.calendar.specs.Moments.{read_moment, same_kind}
 use Rattle.calendar.specs.Rules.{read_rule}
 use Rattle.calendar.specs.declared.moments.Kind.{Kind}
@@ -17,8 +19,6 @@ use Rattle.calendar.specs.declared.by_days.ByDays.{ByDays}
 use Rattle.calendar.specs.declared.rules.Rule.{Rule}
 use Rattle.recurrence_set.specs.Meets.{listed}
 use Rattle.stop_list.specs.declared.Stop.{Stop}
-use Rattle.stop_list.specs.declared.Listed.{Listed}
-use Rattle.stop_list.specs.declared.Listed.TheVariants.{Stops, Refused}
 
 -- number 13: a date or date-time whose second is not 60
 unfoldable pub start_of : List ℕ → Answer Moment
@@ -83,7 +83,7 @@ unfoldable pub list_answer : Answer (List Stop) → List Stop → ListSettled
 list_answer (refused n) list = list_settled n 0 list
 list_answer (accepted ss) list = list_settled 0 (length ss) (ss ++ drop (length ss) list)
 
--- what a returned `Listed` says, with the list as it is then
-unfoldable pub list_outcome : Listed → List Stop → ListSettled
-list_outcome (Stops n) list = list_settled 0 n list
-list_outcome (Refused r) list = list_settled (number r) 0 list
+-- what a returned count or refusal says, with the list as it is then
+unfoldable pub list_outcome : Result ℕ Refusal → List Stop → ListSettled
+list_outcome (Ok n) list = list_settled 0 n list
+list_outcome (Err r) list = list_settled (number r) 0 list

@@ -4,28 +4,19 @@
 pub mod plans;
 pub mod runs;
 
-ghost use Rattle.std.specs.Prelude.{◌≡◌, ◌<◌, length, set};
+ghost use Rattle.std.specs.Prelude.{◌≡◌, ◌≤◌, length};
 ghost use Rattle.stop_list.specs.Stops.{list_of, list_answer, list_outcome};
-ghost use Rattle.stop_list.specs.Runs.{stop_on, stops_of, Begins, StopsLaid};
+ghost use Rattle.stop_list.specs.Runs.{stop_on, stops_of, Live, StopsLaid};
 
-use crate::plans::{conclude, make_plan};
+use crate::plans::make_plan;
 use crate::runs::{Run, advance};
 use calendar::dates::Date;
-use calendar::moments::{Kind, Moment, Moved};
+use calendar::moments::{Kind, Moment, NotMoved};
 use octets::Refusal;
-use recurrence_set::Series;
 
 #[derive(Clone, Copy)]
 pub struct Stop {
     pub moment: Moment,
-}
-
-// A stop moved on, or that it lies past the last day then, or that there was no such moment to move.
-#[derive(Clone, Copy)]
-pub enum StopMoved {
-    At(Stop),
-    Past,
-    NoMoment,
 }
 
 impl Stop {
@@ -40,59 +31,35 @@ impl Stop {
         },
     };
 
-    // The stop so many hours later. Its other fields are kept.
-    pub fn moved(self, hours: u64) -> StopMoved
+    // The stop so many hours later, or why there is none. Its other fields are kept.
+    pub fn moved(self, hours: u64) -> Result<Stop, NotMoved>
         ensures { result ≡ stop_on self hours }
     {
         let mut stop = self;
-        let moment = stop.moment;
-        match moment.moved(hours) {
-            Moved::At(m) => {
-                stop.moment = m;
-                StopMoved::At(stop)
-            }
-            Moved::Past => StopMoved::Past,
-            Moved::NoMoment => StopMoved::NoMoment,
-        }
+        stop.moment = self.moment.moved(hours)?;
+        Ok(stop)
     }
 }
 
-// How many stops were listed, or why none were.
-#[derive(Clone, Copy)]
-pub enum Listed {
-    Stops(usize),
-    Refused(Refusal),
-}
-
-// Stores a record.
-fn store(list: &mut [Stop], at: usize, stop: Stop)
-    requires { at < length list.old }
-    ensures { list.new ≡ set list.old at stop }
-{
-    list[at] = stop;
-}
-
-// Lists a run of stops of a series from the front of the list, and says how many there are.
-fn fill(list: &mut [Stop], series: Series, first: Run) -> usize
-    requires { Begins series first (length list.old) }
-    ensures { StopsLaid (stops_of series first) list.old list.new result }
-{
-    let mut run = first;
-    while run.more {
-        store(&mut *list, run.at, run.stop);
-        run = advance(series, run);
-    }
-    run.at
-}
-
-// Lists the stops of a start and a rule.
-pub fn list_stops(start: &[u8], rule: &[u8], list: &mut [Stop]) -> Listed
-    ensures { list_outcome result list.new ≡ list_answer (list_of start.now rule.now (length list.old)) list.old }
+// Lists a run of stops from the front of the list, and says how many there are.
+fn fill(list: &mut [Stop], mut run: Run) -> usize
+    requires { Live run × (run.room ≤ length list.old) }
+    ensures { StopsLaid (stops_of run) list.old list.new result }
 {
     let room = list.len();
-    let plan = make_plan(start, rule, room);
-    let series = plan.series;
-    let run = plan.run;
-    let count = fill(list, series, run);
-    conclude(plan, count)
+    for (i, slot) in list.iter_mut().enumerate() {
+        let Some(stop) = advance(&mut run) else {
+            return i;
+        };
+        *slot = stop;
+    }
+    room
+}
+
+// Lists the stops of a start and a rule: how many there are, or why none are listed.
+pub fn list_stops(start: &[u8], rule: &[u8], list: &mut [Stop]) -> Result<usize, Refusal>
+    ensures { list_outcome result list.new ≡ list_answer (list_of start.now rule.now (length list.old)) list.old }
+{
+    let run = make_plan(start, rule, list.len())?;
+    Ok(fill(list, run))
 }

@@ -1,71 +1,45 @@
 // A run of stops: the moments of a rule one after the other, as far as its end and the room for them go.
-ghost use Rattle.std.specs.Prelude.{◌≡◌, false, ◌≤◌};
-ghost use Rattle.recurrence_set.specs.Searches.{Founded};
-ghost use Rattle.stop_list.specs.Runs.{RunsAt, Live, RunsFrom, Advances};
+ghost use Rattle.std.specs.Iterator.{YieldsFirst, item_count};
+ghost use Rattle.stop_list.specs.Runs.{stops_of, Live, Advances};
 
 use crate::Stop;
 use recurrence_set::{Series, first_from, moment_at};
 
-// Where a run of stops of a series is: whether there is a stop, its number, the room for stops, which it is, and its place.
+// The stops of a series that are ahead: how many more there is room for, and the place from which on the next is looked for.
 #[derive(Clone, Copy)]
 pub struct Run {
-    pub more: bool,
-    pub at: usize,
+    pub series: Series,
     pub room: usize,
-    pub stop: Stop,
-    pub here: u32,
+    pub from: u32,
 }
 
-// The run at a place of a series.
-fn run_at(series: Series, at: usize, room: usize, here: u32) -> Run
-    ensures { RunsAt series at room here result }
+// The next stop of a run, if there is one, and room for it.
+pub fn advance(run: &mut Run) -> Option<Stop>
+    ensures { Live run.old → Advances run.old result run.new }
 {
-    let stop = Stop {
+    if run.room == 0 {
+        return None;
+    }
+    let series = run.series;
+    let here = first_from(series, run.from)?;
+    run.room -= 1;
+    // The search says of a founded series alone that it finds a place with one behind it.
+    run.from = here.saturating_add(1);
+    Some(Stop {
         moment: moment_at(series, here),
-    };
-    Run {
-        more: true,
-        at: at,
-        room: room,
-        stop: stop,
-        here: here,
-    }
+    })
 }
 
-// A run that has no more stop.
-pub fn run_ended(at: usize, room: usize) -> Run
-    ensures { (result.more ≡ false) × (result.at ≡ at) × (result.room ≡ room) }
-{
-    Run {
-        more: false,
-        at: at,
-        room: room,
-        stop: Stop::FIRST,
-        here: 0,
-    }
-}
+impl Iterator for Run {
+    type Item = Stop;
 
-// The run at the first stop from a place on, if there is one, and room for it.
-pub fn run_from(series: Series, at: usize, room: usize, from: u32) -> Run
-    ensures { Founded series → series.place ≤ from → RunsFrom series at room from result }
-{
-    if at < room {
-        let here = first_from(series, from);
-        if here < series.places as u64 {
-            return run_at(series, at, room, here as u32);
-        }
-    }
-    run_ended(at, room)
-}
+    ghost can_next = { Live };
 
-// The run of a series at its next stop.
-pub fn advance(series: Series, run: Run) -> Run
-    ensures { Live series run → Advances series run result }
-{
-    if run.at < run.room {
-        if run.here < series.places {
-            return run_from(series, run.at + 1, run.room, run.here + 1);
-        }
+    ghost next_gives = { YieldsFirst stops_of };
+
+    ghost remaining = { item_count stops_of };
+
+    fn next(&mut self) -> Option<Stop> {
+        advance(self)
     }
-    run
 }

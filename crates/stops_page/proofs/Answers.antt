@@ -1,14 +1,15 @@
 -- What is printed of a plan, and of a list that was lent, is what is printed of the definition's list.
-use Prim.Native.Nat.{ℕ, ◌+◌, ◌≤◌}
+use Prim.Native.Nat.{ℕ, ◌≤◌}
 use mathlib.Core.Path.{◌≡◌, sym, ap, ◌∙◌}
+use Rattle.std.specs.Prelude.{Ok, Err}
 use mathlib.Core.Bool.{Bool, true, false, not}
 use mathlib.Core.List.{List, ◌++◌, map}
 use mathlib.Core.Option.{Option, none, some}
 use native.Mathlib.Omega.{arith}
 use borrow.Author.Tests.{leb-true}
 use lib.Dec.{eqb, leb}
-use lib.ListN.{length, take, drop, length-append, length-take}
-use lib.Seq.{take-take, take_at}
+use lib.ListN.{length, take, drop, length-append}
+use lib.Seq.{take_at}
 use Rattle.octets.specs.Basics.{octets, ◌and◌, same}
 use Rattle.octets.specs.Optional.{guard, given}
 use Rattle.octets.specs.Decimal.{digits, value_of, trim}
@@ -23,29 +24,22 @@ use Rattle.calendar.specs.declared.moments.Moment.{Moment}
 use Rattle.calendar.specs.declared.rules.Rule.{Rule}
 use Rattle.recurrence_set.specs.Meets.{listed}
 use Rattle.stop_list.specs.declared.Stop.{Stop}
-use Rattle.stop_list.specs.declared.Listed.{Listed}
-use Rattle.stop_list.specs.declared.Listed.TheVariants.{Stops, Refused}
-use Rattle.stop_list.specs.declared.plans.Plan.{Plan}
+use Rattle.stop_list.specs.declared.runs.Run.{Run}
 use Rattle.stop_list.specs.Stops.{start_of, served, stop, list_of, ListSettled, list_answer, list_outcome}
 use Rattle.stop_list.specs.Runs.{stops_of}
 use Rattle.stop_list.specs.Plans.{list_told, Plans}
-use Rattle.stops_page.specs.declared.Page.{Page}
-use Rattle.stops_page.specs.Pages.{Lists}
 use Rattle.stops_page.specs.Printing.{head_shown, stops_shown, answer_shown, bad_input, most_stops, most_of, shown_for}
 
 -- the plan of a start and a rule
-module _ (start rule : List ℕ) (room : ℕ) (p : Plan) (e : Plans start rule room p) where
-  pub shows-stops : (k n : ℕ) → p.listed ≡ Stops k → n ≡ length (stops_of p.series p.run)
-      → head_shown (octets "stops ") n ++ stops_shown (p.run.at + 1) (stops_of p.series p.run) ≡ answer_shown (list_of start rule room)
+module _ (start rule : List ℕ) (room : ℕ) where
+  pub shows-stops : (r : Run) → Plans start rule room (Ok r) → (n : ℕ) → n ≡ length (stops_of r)
+      → head_shown (octets "stops ") n ++ stops_shown 1 (stops_of r) ≡ answer_shown (list_of start rule room)
   unfolding list_told answer_shown
-  shows-stops k n d c =
-      rw c
-      (ap (λ (x : ℕ). head_shown (octets "stops ") (length (stops_of p.series p.run)) ++ stops_shown (x + 1) (stops_of p.series p.run)) e.begins.front
-      ∙ ap answer_shown (rw d at e.answer))
+  shows-stops r e n c = rw c (ap answer_shown e.answer)
 
-  pub shows-refusal : (why : Refusal) → p.listed ≡ Refused why → head_shown (octets "refused ") (number why) ≡ answer_shown (list_of start rule room)
+  pub shows-refusal : (why : Refusal) → Plans start rule room (Err why) → head_shown (octets "refused ") (number why) ≡ answer_shown (list_of start rule room)
   unfolding list_told answer_shown
-  shows-refusal why d = ap answer_shown (rw d at e.answer)
+  shows-refusal why e = ap answer_shown e.answer
 
 -- a refusal has a number that is no 0
 abbrev Numbered : Answer (List Stop) → Type 0
@@ -67,7 +61,7 @@ list-numbered start rule room = go (guard (λ (m : Moment). not (eqb m.second 60
 
 -- an answer and the list that it leaves
 module _ (list old : List Stop) where
-  left-stops : (n : ℕ) (a : Answer (List Stop)) → Numbered a → list_outcome (Stops n) list ≡ list_answer a old → (n ≤ length list) × (a ≡ accepted (take n list)) × (n ≡ length (take n list))
+  left-stops : (n : ℕ) (a : Answer (List Stop)) → Numbered a → list_outcome (Ok n) list ≡ list_answer a old → (n ≤ length list) × (a ≡ accepted (take n list)) × (n ≡ length (take n list))
   unfolding list_outcome list_answer
   left-stops n (accepted ss) h e =
       let c : n ≡ length ss = ap (λ (f : ListSettled). f.count) e in
@@ -76,32 +70,28 @@ module _ (list old : List Stop) where
       (rw l (omega (arith, length-append ss (drop (length ss) old))), ap accepted (sym t), rw t c)
   left-stops n (refused k) h e = absurd (h (sym (ap (λ (f : ListSettled). f.number) e)))
 
-  left-refusal : (why : Refusal) (a : Answer (List Stop)) → list_outcome (Refused why) list ≡ list_answer a old → a ≡ refused (number why)
+  left-refusal : (why : Refusal) (a : Answer (List Stop)) → list_outcome (Err why) list ≡ list_answer a old → a ≡ refused (number why)
   unfolding list_outcome list_answer
   left-refusal why (accepted ss) e = absurd (numbered why (ap (λ (f : ListSettled). f.number) e))
   left-refusal why (refused k) e = ap refused (sym (ap (λ (f : ListSettled). f.number) e))
 
--- the page of a start and a rule
-module _ (list : List Stop) (start rule : List ℕ) (most : ℕ) (p : Page) (l : Lists list start rule most p) where
-  held : (d : Listed) → p.listed ≡ d → list_outcome d (take most p.list) ≡ list_answer (list_of start rule most) (take most list)
-  held d e = rw (← e) l.front
+-- the page of a start and a rule: a list of records as it was, and as it is then
+module _ (start rule : List ℕ) (old list : List Stop) where
+  module _ (n : ℕ) (e : list_outcome (Ok n) list ≡ list_answer (list_of start rule (length old)) old) where
+    left : (n ≤ length list) × (list_of start rule (length old) ≡ accepted (take n list)) × (n ≡ length (take n list))
+    left = left-stops list old n (list_of start rule (length old)) (list-numbered start rule (length old)) e
 
-  module _ (n : ℕ) (e : p.listed ≡ Stops n) where
-    left : (n ≤ length (take most p.list)) × (list_of start rule most ≡ accepted (take n (take most p.list))) × (n ≡ length (take n (take most p.list)))
-    left = left-stops (take most p.list) (take most list) n (list_of start rule most) (list-numbered start rule most) (held (Stops n) e)
+    pub page-bound : n ≤ length list
+    page-bound = left.0
 
-    pub page-bound : n ≤ most
-    page-bound = let b = left.0 in omega (arith, length-take most p.list)
-
-    pub page-stops : head_shown (octets "stops ") n ++ stops_shown 1 (take n p.list) ≡ answer_shown (list_of start rule most)
+    pub page-stops : head_shown (octets "stops ") n ++ stops_shown 1 (take n list) ≡ answer_shown (list_of start rule (length old))
     unfolding answer_shown
-    page-stops =
-        let t = take-take n most p.list page-bound in
-        rw (left.1, t) (ap (λ (k : ℕ). head_shown (octets "stops ") k ++ stops_shown 1 (take n p.list)) (rw t at left.2))
+    page-stops = rw left.1 (ap (λ (k : ℕ). head_shown (octets "stops ") k ++ stops_shown 1 (take n list)) left.2)
 
-  pub page-refusal : (why : Refusal) → p.listed ≡ Refused why → head_shown (octets "refused ") (number why) ≡ answer_shown (list_of start rule most)
+  pub page-refusal : (why : Refusal) → list_outcome (Err why) list ≡ list_answer (list_of start rule (length old)) old
+      → head_shown (octets "refused ") (number why) ≡ answer_shown (list_of start rule (length old))
   unfolding answer_shown
-  page-refusal why e = rw (left-refusal (take most p.list) (take most list) why (list_of start rule most) (held (Refused why) e))
+  page-refusal why e = rw (left-refusal list old why (list_of start rule (length old)) e)
 
 -- the most stops are at most 64
 pub most-bound : (line : List ℕ) (n : ℕ) → some n ≡ most_of line → n ≤ 64
@@ -117,6 +107,6 @@ module _ (start rule line : List ℕ) where
   unfolding shown_for given
   no-most e = rw (← e)
 
-  pub list-shown : (n : ℕ) → some n ≡ most_of line → answer_shown (list_of start rule n) ≡ shown_for start rule line
+  pub list-shown : (n k : ℕ) → some n ≡ most_of line → k ≡ n → answer_shown (list_of start rule k) ≡ shown_for start rule line
   unfolding shown_for given
-  list-shown n e = rw (← e)
+  list-shown n k e d = rw (← e, d)

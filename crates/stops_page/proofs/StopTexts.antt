@@ -1,22 +1,19 @@
 -- Stops as they are printed, one after the other as a run has them, and a moment by the front of its text.
-use Prim.Native.Nat.{ℕ, ◌+◌, ◌-◌, ◌≤◌, ◌<◌}
-use mathlib.Core.Path.{◌≡◌, refl, sym}
-use mathlib.Core.Bool.{false}
-use mathlib.Core.List.{List, [], ◌++◌}
+use Prim.Native.Nat.{ℕ, suc, ◌^◌, ◌+◌, ◌≤◌, ◌<◌}
+use mathlib.Core.Path.{◌≡◌, refl, ap}
+use mathlib.Core.List.{List, [], ◌∷◌, ◌++◌}
 use native.Mathlib.Omega.{arith}
-use native.Mathlib.Nat.{sub-zero}
 use native.Mathlib.Numerals.{add-one}
-use lib.ListN.{length, get_or, take, drop, length-take, drop_of_length-le}
-use lib.Seq.{length-take-le, drop-cons, get_or-take}
+use lib.ListN.{length, get_or, take, drop, drop_of_length-le}
+use lib.Seq.{drop-cons}
 use Rattle.octets.specs.Decimal.{figures}
 use Rattle.calendar.specs.declared.moments.Kind.{Kind}
 use Rattle.calendar.specs.declared.moments.Kind.TheVariants.{Day, Local, Utc}
 use Rattle.calendar.specs.declared.moments.Moment.{Moment}
-use Rattle.recurrence_set.specs.declared.Series.{Series}
 use Rattle.stop_list.specs.declared.Stop.{Stop}
 use Rattle.stop_list.specs.declared.runs.Run.{Run}
-use Rattle.stop_list.specs.Runs.{stops_of, Advances}
-use Rattle.stop_list.proofs.RunStops.{ended-stops}
+use Rattle.stop_list.specs.Runs.{stops_of}
+use Rattle.stop_list.proofs.RunStops.{few_stops}
 use Rattle.stops_page.specs.Printing.{three_shown, date_shown, clock_shown, time_shown, stop_shown, stops_shown}
 use Rattle.stops_page.specs.Pages.{shown_length}
 
@@ -28,8 +25,8 @@ front-shown Local m = refl
 front-shown Utc m = refl
 
 pub shown-front : (k : Kind) (m : Moment) (n : ℕ) (t : List ℕ) → n ≡ shown_length k → t ≡ date_shown m.date ++ time_shown Utc m
-    → take (n - 0) t ≡ date_shown m.date ++ time_shown k m
-shown-front k m n t e q = rw (sub-zero, e, q) (front-shown k m)
+    → take n t ≡ date_shown m.date ++ time_shown k m
+shown-front k m n t e q = rw (e, q) (front-shown k m)
 
 pub shown-short : (k : Kind) (n : ℕ) → n ≡ shown_length k → n ≤ 20
 unfolding shown_length
@@ -37,26 +34,34 @@ shown-short Day n e = omega arith
 shown-short Local n e = omega arith
 shown-short Utc n e = omega arith
 
--- for a turn: a run of a series with a stop, and the run behind it
-module _ (s : Series) (r n : Run) (a : Advances s r n) where
-  pub on-length : length (stops_of s r) ≡ length (stops_of s n) + 1
-  on-length = rw a.stops (sym (add-one (length (stops_of s n))))
+-- for a walk that counts the stops of a run: it begins with all of them
+module _ (q r : Run) (n : ℕ) (e : q ≡ r) (z : n ≡ 0) where
+  pub all-fit : r.room < 2 ^ 64 → n + length (stops_of q) < 2 ^ 64
+  all-fit h = rw (e, z) (let w = few_stops r in omega arith)
 
-  pub on-shown : stops_shown (r.at + 1) (stops_of s r) ≡ stop_shown (r.at + 1) r.stop ++ stops_shown (n.at + 1) (stops_of s n)
+  pub all-shown : stops_shown 1 (stops_of r) ≡ stops_shown (n + 1) (stops_of q)
+  all-shown = rw (e, z)
+
+-- for a turn: a run with a stop, and the run behind it
+module _ (q r : Run) (x : Stop) (n i m : ℕ) (e : stops_of q ≡ x ∷ stops_of r) (j : i ≡ n) (k : m ≡ n + 1) where
+  pub on-fit : n + length (stops_of q) < 2 ^ 64 → m + length (stops_of r) < 2 ^ 64
+  on-fit h = let w : length (stops_of q) ≡ suc (length (stops_of r)) = ap length e in omega arith
+
+  pub on-shown : stops_shown (n + 1) (stops_of q) ≡ stop_shown (i + 1) x ++ stops_shown (m + 1) (stops_of r)
   unfolding stops_shown
-  on-shown = rw (a.stops, a.number, add-one (r.at + 1))
+  on-shown = rw (e, j, k, add-one (n + 1))
 
 -- a run that has no stop
-pub end-shown : (s : Series) (r : Run) (i : ℕ) → r.more ≡ false → stops_shown i (stops_of s r) ≡ []
+pub end-shown : (r : Run) (i : ℕ) → stops_of r ≡ [] → stops_shown i (stops_of r) ≡ []
 unfolding stops_shown
-end-shown s r i b = rw (ended-stops s r b)
+end-shown r i b = rw b
 
--- for a turn over a list: the next of its first n stops, and their end
-pub stops-on : (d : Stop) (l : List Stop) (n i : ℕ) → i < n → n ≤ length l
-    → stops_shown (i + 1) (drop i (take n l)) ≡ stop_shown (i + 1) (get_or l i d) ++ stops_shown (i + 1 + 1) (drop (i + 1) (take n l))
+-- for a turn over a list: the next of its stops, and their end
+pub stops-on : (d : Stop) (l : List Stop) (i : ℕ) → i < length l
+    → stops_shown (i + 1) (drop i l) ≡ stop_shown (i + 1) (get_or l i d) ++ stops_shown (i + 1 + 1) (drop (i + 1) l)
 unfolding stops_shown
-stops-on d l n i h k = rw (drop-cons (take n l) i d (rw (length-take-le n l k) h), get_or-take n l i d h, add-one, add-one)
+stops-on d l i h = rw (drop-cons l i d h, add-one, add-one)
 
-pub stops_end : (l : List Stop) (n i j : ℕ) → n ≤ i → stops_shown j (drop i (take n l)) ≡ []
+pub stops_end : (l : List Stop) (i j : ℕ) → length l ≤ i → stops_shown j (drop i l) ≡ []
 unfolding stops_shown
-stops_end l n i j h = rw (drop_of_length-le (take n l) {i = i} (let e = length-take n l in omega arith))
+stops_end l i j h = rw (drop_of_length-le l {i = i} h)

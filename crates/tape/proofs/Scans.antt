@@ -4,8 +4,8 @@ use mathlib.Core.Path.{◌≡◌, refl, sym, ap, ◌∙◌}
 use mathlib.Core.Bool.{Bool, true, false, not}
 use mathlib.Core.List.{List, [], ◌∷◌}
 use native.Mathlib.Omega.{arith}
-use borrow.Author.Tests.{ne_eqb, le-leb, lt-leb, not-true}
-use lib.Dec.{eqb, leb}
+use borrow.Author.Tests.{ne_eqb, not-true}
+use lib.Dec.{eqb}
 use lib.ListN.{length, take, drop, get_or, drop_of_length-le}
 use lib.Seq.{drop-drop}
 use Rattle.octets.specs.Basics.{pick, ◌and◌, ◌or◌, all, same}
@@ -18,51 +18,10 @@ use Rattle.tape.specs.Decode.{top, paired, groups, in_text, view, tag_at, text_a
 use Rattle.tape.specs.Promise.{After, Next, TextAt}
 use Rattle.tape.specs.Scan.{sound_here, sound_along, sound_from, sound_tape, PastString, Scans, keys_along, keys_from}
 use Rattle.tape.specs.declared.Text.{Text}
-use Rattle.tape.specs.declared.sounding.Scanned.{Scanned}
-use Rattle.tape.specs.declared.sounding.Scanned.TheVariants.{To, Unsound}
-use Rattle.tape.proofs.Tags.{on-or-past, read-tag, here, text-here, text-on, text-past, text-within}
+use Rattle.std.specs.Prelude.{Some, None}
+use Rattle.std.specs.declared.option.Option as code
+use Rattle.tape.proofs.Tags.{on-or-past, read-tag, here, text-within}
 use Rattle.tape.proofs.Values.{members-end, members-next}
-use Rattle.tape.proofs.Walks.{after-past, after_on}
-
--- up to e no lone surrogate stands in the string at i; p is the octet before e
-pub record Seeking (t : List ℕ) (i e p : ℕ) : Type 0 where
-  pub lone : has_lone p (text_at t e) ≡ has_lone 0 (text_at t i)
-  pub ends : e + length (text_at t e) ≡ i + length (text_at t i)
-
-pub seek-start : {t : List ℕ} {i : ℕ} → Seeking t i i 0
-seek-start = record { lone = refl; ends = refl }
-
-module _ {t : List ℕ} {i e p : ℕ} (s : Seeking t i e p) where
-  -- the text ends at e
-  ended : text_at t e ≡ [] → {r : ℕ} → After t e r → PastString t i (To r)
-  unfolding has_lone
-  ended z a = let q : e ≡ i + length (text_at t i) = omega (arith, rw z at s.ends) in (sym (rw z at s.lone), rw q at a)
-
-  pub seek-past : length t ≤ e → PastString t i (To (length t))
-  seek-past h = ended (text-past t e h) (after-past t e h)
-
-  module _ (h : e < length t) where
-    pub seek-end : get_or t e 0 ≡ tag_end → PastString t i (To (e + 1))
-    seek-end z = ended (text-here t e h (sym (read-tag t e h) ∙ z)) (after_on t e h)
-
-    module _ (n : (get_or t e 0 ≡ tag_end) → ⊥) where
-      one_more : text_at t e ≡ get_or t e 0 ∷ text_at t (e + 1)
-      one_more = rw (read-tag t e h) (text-on t e h (λ z. n (read-tag t e h ∙ z)))
-
-      pub seek-lone : p ≡ 237 → 160 ≤ get_or t e 0 → PastString t i Unsound
-      unfolding has_lone
-      seek-lone q l = sym (rw (one_more, q, le-leb 160 (get_or t e 0) l) at s.lone)
-
-      seek-on : (eqb p 237 and leb 160 (get_or t e 0)) ≡ false → Seeking t i (e + 1) (get_or t e 0)
-      unfolding has_lone
-      seek-on f = record { lone = rw (one_more, f) at s.lone; ends = omega (arith, rw one_more at s.ends) }
-
-      -- an octet below 160, or one that does not follow 237
-      pub seek-low : get_or t e 0 < 160 → Seeking t i (e + 1) (get_or t e 0)
-      seek-low l = seek-on (rw (lt-leb 160 (get_or t e 0) l) (and-false-right (eqb p 237)))
-
-      pub seek-other : ((p ≡ 237) → ⊥) → Seeking t i (e + 1) (get_or t e 0)
-      seek-other q = seek-on (rw (ne_eqb p 237 q))
 
 -- where no octet is the one that a surrogate begins with, no string has a lone one
 no-lone : (p : ℕ) (s : List ℕ) → eqb p 237 ≡ false → all (λ c. not (eqb c 237)) s ≡ true → has_lone p (text_at_front s) ≡ false
@@ -153,26 +112,26 @@ module _ (t : List ℕ) (i : ℕ) (h : i < length t) where
   text-on-from : {e : ℕ} → After t (i + 1 + length (text_at t (i + 1))) e → i < e
   text-on-from a = omega (arith, a.low (text-within t (i + 1) (omega arith)))
 
-  pub scan-number : get_or t i 0 ≡ tag_number → {e : ℕ} → After t (i + 1 + length (text_at t (i + 1))) e → Scans t i (To e)
+  pub scan-number : get_or t i 0 ≡ tag_number → {e : ℕ} → After t (i + 1 + length (text_at t (i + 1))) e → Scans t i (Some e)
   unfolding in_text
   scan-number q a = (on-scan ∙ rw (← (read-tag t i h), q, behind-text a), text-on-from a, a.high)
 
-  pub scan-string : get_or t i 0 ≡ tag_string → (r : Scanned) → PastString t (i + 1) r → Scans t i r
+  pub scan-string : get_or t i 0 ≡ tag_string → (r : code.Option ℕ) → PastString t (i + 1) r → Scans t i r
   unfolding in_text text_at
-  scan-string q (To e) p = (on-scan ∙ rw (← (read-tag t i h), q, behind-text p.1, p.0), text-on-from p.1, p.1.high)
-  scan-string q Unsound p = on-scan ∙ rw (← (read-tag t i h), q, p)
+  scan-string q (Some e) p = (on-scan ∙ rw (← (read-tag t i h), q, behind-text p.1, p.0), text-on-from p.1, p.1.high)
+  scan-string q None p = on-scan ∙ rw (← (read-tag t i h), q, p)
 
   object-scan : get_or t i 0 ≡ tag_object → sound_from t i ≡ (distinct_keys (members_at t (i + 1)) and sound_from t (i + 1))
   unfolding in_text sound_from members_at items_at view
   object-scan q = on-scan ∙ rw (← (read-tag t i h), q)
 
-  pub scan-object : get_or t i 0 ≡ tag_object → distinct_keys (members_at t (i + 1)) ≡ true → Scans t i (To (i + 1))
+  pub scan-object : get_or t i 0 ≡ tag_object → distinct_keys (members_at t (i + 1)) ≡ true → Scans t i (Some (i + 1))
   scan-object q f = (object-scan q ∙ rw f, omega arith, omega arith)
 
-  pub scan-twice : get_or t i 0 ≡ tag_object → distinct_keys (members_at t (i + 1)) ≡ false → Scans t i Unsound
+  pub scan-twice : get_or t i 0 ≡ tag_object → distinct_keys (members_at t (i + 1)) ≡ false → Scans t i None
   scan-twice q f = object-scan q ∙ rw f
 
-  pub scan-other : ((get_or t i 0 ≡ tag_string) → ⊥) → ((get_or t i 0 ≡ tag_number) → ⊥) → ((get_or t i 0 ≡ tag_object) → ⊥) → Scans t i (To (i + 1))
+  pub scan-other : ((get_or t i 0 ≡ tag_string) → ⊥) → ((get_or t i 0 ≡ tag_number) → ⊥) → ((get_or t i 0 ≡ tag_object) → ⊥) → Scans t i (Some (i + 1))
   unfolding in_text sound_from
   scan-other s n o = (on-scan ∙ rw (← (read-tag t i h), ne_eqb _ tag_string s, ne_eqb _ tag_number n, ne_eqb _ tag_object o), omega arith, omega arith)
 

@@ -1,12 +1,11 @@
 -- The test `sound` as one scan along the octets of a tape: at each string its octets, at each object its keys.
-use Rattle.std.specs.Prelude.{ℕ, ◌+◌, ◌≤◌, ◌<◌, ◌≡◌, Bool, true, false, not, List, [], ◌∷◌, eqb, length, drop}
+use Rattle.std.specs.Prelude.{ℕ, ◌+◌, ◌≤◌, ◌<◌, ◌≡◌, Bool, true, false, not, List, [], ◌∷◌, eqb, length, drop, Some, None}
 use Rattle.octets.specs.Basics.{pick, ◌and◌, ◌or◌}
 use Rattle.json_text.specs.Tape.{tag_string, tag_object}
 use Rattle.tape.specs.Sound.{has_lone, distinct_keys}
 use Rattle.tape.specs.Decode.{top, paired, text_at_front, in_text, groups, text_at}
 use Rattle.tape.specs.Promise.{After}
-use Rattle.tape.specs.declared.sounding.Scanned.{Scanned}
-use Rattle.tape.specs.declared.sounding.Scanned.TheVariants.{To, Unsound}
+use Rattle.std.specs.declared.option.Option as code
 
 -- the test at the octet b with s behind it; within a text there is none
 abbrev pub sound_here : Bool → ℕ → List ℕ → Bool
@@ -27,14 +26,14 @@ unfoldable pub sound_tape : List ℕ → Bool
 sound_tape t = sound_along false t
 
 -- e is behind the string whose text stands at i, or a lone surrogate stands in it
-abbrev pub PastString : List ℕ → ℕ → Scanned → Type 0
-PastString t i (To e) = (has_lone 0 (text_at t i) ≡ false) × After t (i + length (text_at t i)) e
-PastString t i Unsound = has_lone 0 (text_at t i) ≡ true
+abbrev pub PastString : List ℕ → ℕ → code.Option ℕ → Type 0
+PastString t i (Some e) = (has_lone 0 (text_at t i) ≡ false) × After t (i + length (text_at t i)) e
+PastString t i None = has_lone 0 (text_at t i) ≡ true
 
 -- the scan from i on is that from e on, or something at i is not sound
-abbrev pub Scans : List ℕ → ℕ → Scanned → Type 0
-Scans t i (To e) = (sound_from t i ≡ sound_from t e) × (i < e) × (e ≤ length t)
-Scans t i Unsound = sound_from t i ≡ false
+abbrev pub Scans : List ℕ → ℕ → code.Option ℕ → Type 0
+Scans t i (Some e) = (sound_from t i ≡ sound_from t e) × (i < e) × (e ≤ length t)
+Scans t i None = sound_from t i ≡ false
 
 -- behind every octet that may be an object's tag, in a text or not, the keys are all different
 unfoldable pub keys_along : List ℕ → Bool

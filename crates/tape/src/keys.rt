@@ -17,15 +17,12 @@ fn has_key(t: &[u8], at: usize, key: &[u8]) -> bool
 {
     let mut i = at;
     loop {
-        if tag(&*t, i) == END {
+        if tag(t, i) == END {
             return false;
         }
-        let k = text_at(&*t, i);
-        let v = k.next;
-        let e = behind(&*t, v);
-        let from = k.from;
-        let to = k.to;
-        if same(&*key, &t[from..to]) {
+        let k = text_at(t, i);
+        let e = behind(t, k.next);
+        if same(key, &t[k.from..k.to]) {
             return true;
         }
         i = e;
@@ -43,22 +40,17 @@ fn all_new(t: &[u8], at: usize, table: &mut [usize]) -> bool
             return true;
         }
         let k = text_at(t, i);
-        let v = k.next;
-        let e = behind(t, v);
-        let from = k.from;
-        let to = k.to;
-        match enter(t, from, to, Case::Exact, table) {
+        let e = behind(t, k.next);
+        match enter(t, k.from, k.to, Case::Exact, table) {
             Entering::Seen => return false,
-            Entering::Stored => {
-                i = e;
-            }
+            Entering::Stored => {}
             Entering::Full => {
-                if has_key(t, e, &t[from..to]) {
+                if has_key(t, e, &t[k.from..k.to]) {
                     return false;
                 }
-                i = e;
             }
         }
+        i = e;
     }
 }
 
@@ -67,7 +59,7 @@ fn many_distinct(t: &[u8], at: usize) -> bool
     ensures { result ≡ distinct_keys (members_at t.now at) }
 {
     let mut table = [0usize; SLOTS];
-    all_new(&*t, at, &mut table)
+    all_new(t, at, &mut table)
 }
 
 // Whether the keys from `at` on are all different: `few` of them are compared with all keys behind them, the rest by a table.
@@ -75,29 +67,23 @@ fn many_distinct(t: &[u8], at: usize) -> bool
 fn few_distinct(t: &[u8], at: usize, few: usize) -> bool
     ensures { result ≡ distinct_keys (members_at t.now at) }
 {
-    if tag(&*t, at) == END {
+    if tag(t, at) == END {
         return true;
     }
     if few == 0 {
-        return many_distinct(&*t, at);
+        return many_distinct(t, at);
     }
-    let k = text_at(&*t, at);
-    let v = k.next;
-    let e = behind(&*t, v);
-    let from = k.from;
-    let to = k.to;
-    if few_distinct(&*t, e, few - 1) {
-        return !has_key(&*t, e, &t[from..to]);
-    }
-    false
+    let k = text_at(t, at);
+    let e = behind(t, k.next);
+    few_distinct(t, e, few - 1) && !has_key(t, e, &t[k.from..k.to])
 }
 
 // Whether the keys from `at` to the end of the object are all different.
 pub fn keys_distinct(t: &[u8], at: usize) -> bool
     ensures { result ≡ distinct_keys (members_at t.now at) }
 {
-    if tag(&*t, at) == END {
+    if tag(t, at) == END {
         return true;
     }
-    few_distinct(&*t, at, FEW)
+    few_distinct(t, at, FEW)
 }

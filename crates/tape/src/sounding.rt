@@ -1,65 +1,54 @@
 // Whether a tape is sound: no object has a key twice, and no string has a lone surrogate.
 ghost use Rattle.std.specs.Prelude.{◌≡◌, ◌+◌, ◌≤◌, ◌<◌, true, length};
-ghost use Rattle.tape.specs.Scan.{sound_tape, PastString, Scans, keys_from, keys_along};
+ghost use Rattle.tape.specs.Sound.{has_lone};
+ghost use Rattle.tape.specs.Scan.{sound_tape, Scans, keys_from, keys_along};
 
 use super::keys::keys_distinct;
-use super::walking::past_text;
+use super::walking::{after, past_text, text_end};
 use super::{END, NUMBER, OBJECT, STRING};
 use octets::{find, is_free};
-
-// A turn of the scan: the place that it goes on from, or that something is not sound.
-#[derive(Clone, Copy)]
-pub enum Scanned {
-    To(usize),
-    Unsound,
-}
 
 // The octet that a surrogate begins with. Few texts have it.
 const SURROGATE: u8 = 237;
 
-// Behind the string whose text stands at `at`, unless a lone surrogate stands in it.
-fn past_string(t: &[u8], at: usize) -> Scanned
-    ensures { PastString t.now at result }
+// Whether a lone surrogate stands in the octets of a string.
+fn has_lone(s: &[u8]) -> bool
+    ensures { result ≡ has_lone 0 s.now }
 {
-    let mut e = at;
     let mut p = 0;
-    while e < t.len() {
-        let b = t[e];
-        if b < 160 {
-            p = b;
-            e += 1;
-        } else if b == END {
-            return Scanned::To(e + 1);
-        } else if p == SURROGATE {
-            return Scanned::Unsound;
-        } else {
-            p = b;
-            e += 1;
+    for &b in s {
+        if 160 <= b && p == SURROGATE {
+            return true;
         }
+        p = b;
     }
-    Scanned::To(t.len())
+    false
 }
 
-// One turn of the scan: past a text, and otherwise one octet on.
-fn scan(t: &[u8], at: usize) -> Scanned
+// One turn of the scan, past a text and otherwise one octet on: the place that it goes on from; none, where something is not sound.
+fn scan(t: &[u8], at: usize) -> Option<usize>
     requires { at < length t.now }
     ensures { Scans t.now at result }
 {
     let b = t[at];
     match b {
-        STRING => past_string(t, at + 1),
-        NUMBER => {
-            let e = past_text(t, at + 1);
-            Scanned::To(e)
-        }
-        OBJECT => {
-            if keys_distinct(t, at + 1) {
-                Scanned::To(at + 1)
+        STRING => {
+            let e = text_end(t, at + 1);
+            if has_lone(&t[at + 1..e]) {
+                None
             } else {
-                Scanned::Unsound
+                Some(after(t, e))
             }
         }
-        _ => Scanned::To(at + 1),
+        NUMBER => Some(past_text(t, at + 1)),
+        OBJECT => {
+            if keys_distinct(t, at + 1) {
+                Some(at + 1)
+            } else {
+                None
+            }
+        }
+        _ => Some(at + 1),
     }
 }
 
@@ -69,15 +58,10 @@ fn each_sound(t: &[u8]) -> bool
 {
     let mut i = 0;
     while i < t.len() {
-        let s = scan(t, i);
-        match s {
-            Scanned::To(e) => {
-                i = e;
-            }
-            Scanned::Unsound => {
-                return false;
-            }
-        }
+        let Some(e) = scan(t, i) else {
+            return false;
+        };
+        i = e;
     }
     true
 }
@@ -96,13 +80,7 @@ fn all_distinct(t: &[u8]) -> bool
 {
     let mut i = next_object(t, 0);
     while i < t.len() {
-        if i == 0 {
-            return false;
-        }
-        if t[i - 1] != END {
-            return false;
-        }
-        if !keys_distinct(t, i + 1) {
+        if i == 0 || t[i - 1] != END || !keys_distinct(t, i + 1) {
             return false;
         }
         i = next_object(t, i + 1);
@@ -115,10 +93,8 @@ fn all_distinct(t: &[u8]) -> bool
 pub fn is_sound(t: &[u8]) -> bool
     ensures { result ≡ sound_tape t.now }
 {
-    if is_free(t, SURROGATE) {
-        if all_distinct(t) {
-            return true;
-        }
+    if is_free(t, SURROGATE) && all_distinct(t) {
+        return true;
     }
     each_sound(t)
 }

@@ -21,7 +21,7 @@ pub fn after(t: &[u8], at: usize) -> usize
 }
 
 // Where the text at `at` ends.
-fn text_end(t: &[u8], at: usize) -> usize
+pub(crate) fn text_end(t: &[u8], at: usize) -> usize
     ensures { result ≡ at + length (text_at t.now at) }
 {
     find_near(t, at, END)
@@ -68,7 +68,7 @@ pub fn leave(t: &[u8], at: usize) -> usize
                 i += 1;
             }
             _ => {
-                i = past_leaf(&*t, i);
+                i = past_leaf(t, i);
             }
         }
     }
@@ -121,13 +121,11 @@ pub fn count(t: &[u8], at: usize, most: usize) -> usize
     ensures { result ≡ min most (length (list_at t.now at)) }
 {
     let mut i = at;
-    let mut n = 0;
-    while n < most {
-        if tag(&*t, i) == END {
+    for n in 0..most {
+        if tag(t, i) == END {
             return n;
         }
-        i = behind(&*t, i);
-        n += 1;
+        i = behind(t, i);
     }
-    n
+    most
 }

@@ -6,30 +6,21 @@ use mathlib.Core.List.{List, [], ◌∷◌, ◌++◌, append_assoc, append-nil}
 use mathlib.Core.Option.{Option, none, some}
 use native.Mathlib.Omega.{arith}
 use native.Mathlib.Numerals.{add-one}
-use borrow.Author.Tests.{ne_eqb, eqb-true, le-leb, lt-leb}
-use lib.Dec.{eqb, leb}
-use lib.ListN.{length, get_or, take, drop, set}
+use borrow.Author.Tests.{eqb-true, le-leb, lt-leb, ltb-true, ltb-false}
+use lib.Dec.{eqb, leb, ltb}
+use lib.ListN.{length, get_or, take, drop, set, length-drop}
 use lib.Seq.{take-suc-set}
 use Rattle.octets.specs.Basics.{octets, pick, ◌and◌, ◌or◌, all, same}
 use Rattle.octets.specs.Optional.{map?, both?, then?, is_some, when}
 use Rattle.octets.specs.Classes.{between, hex_digit}
 use Rattle.octets.proofs.Cases.{same?, never, both, and_assoc, and-false-right}
 use Rattle.octets.proofs.Classes.{within-between, below-between, above-between, between-true}
-use Rattle.octets.proofs.Optional.{missing, some_same, both_is, when_true, some-when}
-use Rattle.octets.proofs.Positions.{here, ended, from}
+use Rattle.octets.proofs.Optional.{missing, some_same, both_is, when_true, when-is, when-none, some-when}
+use Rattle.octets.proofs.Positions.{from}
 use Rattle.types.specs.Codes.{binary, utc_offset, type_splits}
 use Rattle.types.specs.Table.{Entry, entry}
 use Rattle.types.specs.Laid.{laid_row}
 use Rattle.types.specs.Rows.{octet_of, frame_of, row_octet, is_row, entry_of, row_of}
-
--- of the fourteen codes all but four split, and none beyond them
-pub splits-each : (c : ℕ) → 1 ≤ c → c ≤ 14 → (c ≡ 1 → ⊥) → (c ≡ 3 → ⊥) → (c ≡ 10 → ⊥) → (c ≡ 13 → ⊥) → type_splits c ≡ true
-unfolding type_splits
-splits-each c h k a b d e = rw (within-between 1 14 c h k, ne_eqb c 1 a, ne_eqb c 3 b, ne_eqb c 10 d, ne_eqb c 13 e)
-
-pub splits-beyond : (c : ℕ) → 13 ≤ c → (c ≡ 13 → ⊥) → (c ≡ 14 → ⊥) → type_splits c ≡ false
-unfolding type_splits
-splits-beyond c h a b = rw (above-between 1 14 c (omega arith))
 
 -- a frame is a row: the tests in the code's order
 unfoldable pub kind : ℕ → ℕ → Bool
@@ -143,36 +134,57 @@ module _ (h l : ℕ) where
   unfolding octet_of when
   octet-good a b = rw (le-leb (hex_digit h) 15 a, le-leb (hex_digit l) 15 b)
 
-  pub octet-is : (x y : ℕ) → x ≡ hex_digit h → y ≡ hex_digit l → x ≤ 15 → y ≤ 15 → octet_of h l ≡ some (x * 16 + y)
-  octet-is x y e f a b = rw (e, f) (octet-good (rw (← e) a) (rw (← f) b))
+  pub octet-is : {x y : ℕ} → some x ≡ when (ltb (hex_digit h) 16) (hex_digit h) → some y ≡ when (ltb (hex_digit l) 16) (hex_digit l) → octet_of h l ≡ some (x * 16 + y)
+  octet-is {x} {y} e f =
+      let p = when-is _ _ x (sym e) in
+      let q = when-is _ _ y (sym f) in
+      rw (p.1, q.1) at (octet-good (omega (arith, ltb-true (hex_digit h) 16 p.0)) (omega (arith, ltb-true (hex_digit l) 16 q.0)))
 
-  pub high-bad : 15 < hex_digit h → octet_of h l ≡ none
+  high-bad : 15 < hex_digit h → octet_of h l ≡ none
   unfolding octet_of when
   high-bad a = rw (lt-leb (hex_digit h) 15 a)
 
-  pub low-bad : 15 < hex_digit l → octet_of h l ≡ none
+  low-bad : 15 < hex_digit l → octet_of h l ≡ none
   unfolding octet_of when
   low-bad b = rw (lt-leb (hex_digit l) 15 b, and-false-right (leb (hex_digit h) 15))
 
--- the octets from the place i on
-module _ (s : List ℕ) (i : ℕ) where
-  frame-two : i + 1 < length s → frame_of (drop i s) ≡ both? ◌∷◌ (octet_of (get_or s i 0) (get_or s (i + 1) 0)) (frame_of (drop (i + 2) s))
-  unfolding frame_of
-  frame-two h =
-      let e : i + 1 + 1 ≡ i + 2 = omega arith in
-      rw (here s i (omega arith), here s (i + 1) h, e)
+  pub no-high : none ≡ when (ltb (hex_digit h) 16) (hex_digit h) → octet_of h l ≡ none
+  no-high e = high-bad (omega (arith, ltb-false (hex_digit h) 16 (when-none _ _ (sym e))))
 
-  frame-one : i + 1 ≡ length s → frame_of (drop i s) ≡ none
-  unfolding frame_of
-  frame-one h = rw (here s i (omega arith), ended s (i + 1) (omega arith))
+  pub no-low : none ≡ when (ltb (hex_digit l) 16) (hex_digit l) → octet_of h l ≡ none
+  no-low e = low-bad (omega (arith, ltb-false (hex_digit l) 16 (when-none _ _ (sym e))))
 
-  frame-none : length s ≤ i → frame_of (drop i s) ≡ some []
-  unfolding frame_of
-  frame-none h = rw (ended s i h)
+-- a digit alone is no octet
+odd-end : (s : List ℕ) → 0 < length s → length s < 2 → frame_of s ≡ none
+unfolding frame_of
+odd-end [] h k = absurd (omega arith)
+odd-end (x ∷ []) h k = refl
+odd-end (x ∷ y ∷ s) h k = absurd (omega arith)
 
--- the first n octets of a frame are decoded
-pub record Decoded (line : List ℕ) (n : ℕ) (frame : List ℕ) : Type 0 where
-  pub is : frame_of line ≡ map? (λ r. take n frame ++ r) (frame_of (drop (2 * n) line))
+pair-front : (s : List ℕ) → 2 ≤ length s → frame_of s ≡ both? ◌∷◌ (octet_of (get_or s 0 0) (get_or s 1 0)) (frame_of (take (length s - 2) (drop 2 s)))
+pair-front s h = rw (from s 2) (by s h)
+  where
+    by : (s : List ℕ) → 2 ≤ length s → frame_of s ≡ both? ◌∷◌ (octet_of (get_or s 0 0) (get_or s 1 0)) (frame_of (drop 2 s))
+    by [] h = absurd (omega arith)
+    by (x ∷ []) h = absurd (omega arith)
+    by (x ∷ y ∷ s) h = unfold frame_of in refl
+
+even-end : (s : List ℕ) → length s ≡ 0 → frame_of s ≡ some []
+unfolding frame_of
+even-end [] h = refl
+even-end (x ∷ s) h = absurd (omega arith)
+
+-- what is left behind two octets
+pub part-size : (s : List ℕ) → 2 ≤ length s → length (take (length s - 2) (drop 2 s)) ≡ length s - 2
+part-size s h = rw (from s 2, length-drop 2 s)
+
+pub some-left : (s : List ℕ) → (length s ≡ 0 → ⊥) → 0 < length s
+some-left [] h = absurd (h refl)
+some-left (x ∷ s) h = omega arith
+
+-- the first n octets of a frame are decoded, and these digits are left
+pub record Decoded (line : List ℕ) (n : ℕ) (frame left : List ℕ) : Type 0 where
+  pub is : frame_of line ≡ map? (λ r. take n frame ++ r) (frame_of left)
 
 map_same : {A : Type 0} (o : Option A) → o ≡ map? (λ a. a) o
 unfolding map?
@@ -184,31 +196,36 @@ unfolding map? both?
 map-onto f g x e none = refl
 map-onto f g x e (some r) = ap some (e r)
 
+-- what the answer says of the row
+pub no-digits : (line frame : List ℕ) → row_of line ≡ none → then? (map? (λ n. take n frame) none) entry_of ≡ row_of line
+unfolding then? map?
+no-digits line frame e = sym e
+
 module _ (line frame : List ℕ) where
-  pub decoded-none : Decoded line 0 frame
+  pub decoded-none : Decoded line 0 frame line
   decoded-none = record { is = map_same (frame_of line) }
 
-  module _ (n : ℕ) (d : Decoded line n frame) where
-    stopped : frame_of (drop (2 * n) line) ≡ none → entry_of [] ≡ row_of line
-    unfolding row_of then? map? entry_of
+  module _ {n : ℕ} {left : List ℕ} (d : Decoded line n frame left) where
+    stopped : frame_of left ≡ none → row_of line ≡ none
+    unfolding row_of then? map?
     stopped e = rw (d.is, e)
 
-    pub odd-digits : 2 * n + 1 ≡ length line → entry_of [] ≡ row_of line
-    odd-digits h = stopped (frame-one line (2 * n) h)
+    pub odd-digits : 0 < length left → length left < 2 → row_of line ≡ none
+    odd-digits h k = stopped (odd-end left h k)
 
-    pub whole-frame : length line ≤ 2 * n → entry_of (take n frame) ≡ row_of line
+    pub whole-frame : length left ≡ 0 → then? (map? (λ n. take n frame) (some n)) entry_of ≡ row_of line
     unfolding row_of then? map?
-    whole-frame h = rw (d.is, frame-none line (2 * n) h, append-nil (take n frame))
+    whole-frame h = rw (d.is, even-end left h, append-nil (take n frame))
 
-    module _ (h : 2 * n + 1 < length line) where
-      pub bad-digits : octet_of (get_or line (2 * n) 0) (get_or line (2 * n + 1) 0) ≡ none → entry_of [] ≡ row_of line
+    module _ (g : 2 ≤ length left) where
+      pub bad-digits : octet_of (get_or left 0 0) (get_or left 1 0) ≡ none → row_of line ≡ none
       unfolding both?
-      bad-digits e = stopped (frame-two line (2 * n) h ∙ rw e)
+      bad-digits e = stopped (pair-front left g ∙ rw e)
 
-      pub decoded-more : (x : ℕ) → n < length frame → octet_of (get_or line (2 * n) 0) (get_or line (2 * n + 1) 0) ≡ some x → Decoded line (n + 1) (set frame n x)
-      decoded-more x k e =
-          let j : 2 * (n + 1) ≡ 2 * n + 2 = omega arith in
-          record { is = d.is ∙ rw (frame-two line (2 * n) h, e, j, add-one, take-suc-set frame n x k) (map-onto (λ r. take n frame ++ r) (λ r. take n frame ++ (x ∷ []) ++ r) x (λ r. sym (append_assoc (take n frame) (x ∷ []) r)) (frame_of (drop (2 * n + 2) line))) }
+      pub decoded-more : (x : ℕ) → n < length frame → octet_of (get_or left 0 0) (get_or left 1 0) ≡ some x → Decoded line (n + 1) (set frame n x) (take (length left - 2) (drop 2 left))
+      decoded-more x k e = record {
+        is = d.is ∙ rw (pair-front left g, e, add-one, take-suc-set frame n x k) (map-onto (λ r. take n frame ++ r) (λ r. take n frame ++ (x ∷ []) ++ r) x (λ r. sym (append_assoc (take n frame) (x ∷ []) r)) (frame_of (take (length left - 2) (drop 2 left))));
+      }
 
 -- a frame has an octet for each two digits
 frame-length : (s f : List ℕ) → frame_of s ≡ some f → length s ≡ 2 * length f
@@ -222,10 +239,10 @@ frame-length (h ∷ l ∷ s) f e =
     more : (a b : ℕ) → a ≡ 2 * b → suc (suc a) ≡ 2 * suc b
     more a b e = omega arith
 
-pub long-line : (line : List ℕ) → 68 < length line → entry_of [] ≡ row_of line
+pub long-line : (line : List ℕ) → 68 < length line → row_of line ≡ none
 unfolding row_of
 long-line line h = by (frame_of line) refl
   where
-    by : (o : Option (List ℕ)) → frame_of line ≡ o → entry_of [] ≡ then? o entry_of
-    by none e = unfold then? entry_of in refl
-    by (some f) e = unfold then? in (too_short [] (omega arith) ∙ sym (too_long f (let q = frame-length line f e in omega arith)))
+    by : (o : Option (List ℕ)) → frame_of line ≡ o → then? o entry_of ≡ none
+    by none e = unfold then? in refl
+    by (some f) e = unfold then? in too_long f (let q = frame-length line f e in omega arith)

@@ -22,8 +22,8 @@ use Rattle.octets.proofs.Positions.{ended}
 use Rattle.octets.proofs.Optional.{missing, when-is, then_is}
 use Rattle.types.specs.Table.{Entry, entry, Table, names_of, find, defaults}
 use Rattle.types.specs.Rows.{row_octet, is_row, frame_of, entry_of, row_of, ended_lines, rows_of, may_join}
-use Rattle.types.specs.Reading.{if_unlisted, first_line}
-use Rattle.types.proofs.Lines.{one_line, more-lines}
+use Rattle.types.specs.Reading.{if_unlisted}
+use Rattle.types.proofs.Lines.{first_line, one_line, more-lines}
 use Rattle.types.proofs.Frames.{row_told}
 
 -- a name of a row is in uppercase

@@ -2,6 +2,7 @@ pub mod Names
 pub mod LookupLaws
 pub mod Laid
 pub mod Types
+pub mod CodeLaws
 pub mod Lines
 pub mod Frames
 pub mod Laying

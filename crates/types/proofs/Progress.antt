@@ -19,9 +19,9 @@ use Rattle.octets.proofs.Classes.{between-true}
 use Rattle.types.specs.Table.{Entry, entry, Table, find, defaults}
 use Rattle.types.specs.Rows.{is_row, frame_of, entry_of, row_of, rows_of, may_join}
 use Rattle.types.specs.Laid.{laid_row, laid, table_in, room_for_rows}
-use Rattle.types.specs.Reading.{if_unlisted, first_line, pen_behind}
-use Rattle.types.specs.declared.rows.RowsLaid.TheVariants.{Upto, Malformed}
-use Rattle.types.proofs.Lines.{line-within}
+use Rattle.types.specs.Reading.{if_unlisted, pen_behind}
+use Rattle.std.specs.Prelude.{Some, None}
+use Rattle.types.proofs.Lines.{first_line, line-within}
 use Rattle.types.proofs.Frames.{row_told}
 use Rattle.types.proofs.Laid.{rows-again, laid-append}
 use Rattle.types.proofs.Joining.{added, joins, joins-file, joins-end, joins-line}
@@ -84,7 +84,7 @@ module _ {hex o rows : List ℕ} {from at count : ℕ} (p : Progress hex o rows 
   unfolding table_in
   listed-so-far = rw (standing.front, rows-again p.es)
 
-  pub all_read : length hex ≤ from → pen_behind (Upto at) rows ≡ map? (λ es. wrote (pen o 0) (laid es)) (guard may_join (rows_of hex))
+  pub all_read : length hex ≤ from → pen_behind (Some at) rows ≡ map? (λ es. wrote (pen o 0) (laid es)) (guard may_join (rows_of hex))
   unfolding pen_behind map?
   all_read h = rw (p.left, joins-end hex from p.es h) (ap some p.written.is)
 
@@ -108,13 +108,13 @@ module _ {hex o rows : List ℕ} {from at count : ℕ} (p : Progress hex o rows 
       added_is = rw (one_more, listed-so-far)
 
       module _ (b : List ℕ) where
-        pub bad-line : pen_behind Malformed b ≡ map? (λ r. wrote (pen rows at) (laid_row r)) (if_unlisted (table_in (take at rows)) (row_of (take (end - from) (drop from hex)))) → guard may_join (rows_of hex) ≡ none
+        pub bad-line : pen_behind None b ≡ map? (λ r. wrote (pen rows at) (laid_row r)) (if_unlisted (table_in (take at rows)) (row_of (take (end - from) (drop from hex)))) → guard may_join (rows_of hex) ≡ none
         unfolding pen_behind then?
         bad-line t =
             let q = map-none (λ r. wrote (pen rows at) (laid_row r)) (if_unlisted (table_in (take at rows)) (row_of (take (end - from) (drop from hex)))) (sym t) in
             line-left ∙ rw (added_is, q) (unfold map? in refl)
 
-        pub good-line : (next : ℕ) → pen_behind (Upto next) b ≡ map? (λ r. wrote (pen rows at) (laid_row r)) (if_unlisted (table_in (take at rows)) (row_of (take (end - from) (drop from hex))))
+        pub good-line : (next : ℕ) → pen_behind (Some next) b ≡ map? (λ r. wrote (pen rows at) (laid_row r)) (if_unlisted (table_in (take at rows)) (row_of (take (end - from) (drop from hex))))
             → Progress hex o b (end + 1) next (count + 1)
         unfolding pen_behind
         good-line next t =
@@ -134,7 +134,7 @@ module _ {hex o rows : List ℕ} {from at count : ℕ} (p : Progress hex o rows 
             }
 
 -- nothing is laid out of a file that is refused
-pub refused-file : (hex o b : List ℕ) → guard may_join (rows_of hex) ≡ none → pen_behind Malformed b ≡ map? (λ es. wrote (pen o 0) (laid es)) (guard may_join (rows_of hex))
+pub refused-file : (hex o b : List ℕ) → guard may_join (rows_of hex) ≡ none → pen_behind None b ≡ map? (λ es. wrote (pen o 0) (laid es)) (guard may_join (rows_of hex))
 unfolding pen_behind map?
 refused-file hex o b e = rw e
 

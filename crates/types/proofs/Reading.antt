@@ -1,5 +1,5 @@
 -- Reading a file of rows into a lent buffer: what is left there, and what it tells of the table.
-use Prim.Native.Nat.{ℕ, suc, ◌+◌, ◌*◌, ◌-◌, ◌≤◌}
+use Prim.Native.Nat.{ℕ, suc, ◌+◌, ◌*◌, ◌≤◌}
 use Prim.Native.Char.{code}
 use mathlib.Core.Path.{◌≡◌, refl, sym, ap, ◌∙◌}
 use mathlib.Core.Bool.{not}
@@ -17,18 +17,17 @@ use Rattle.octets.specs.Limits.{most_rows}
 use Rattle.octets.specs.Pen.{pen, wrote, Wrote}
 use Rattle.octets.specs.Answers.{refused, accepted, then, or_else, number, Settled, settled, zeroed, answer, outcome, finished}
 use Rattle.octets.specs.declared.Refusal.{Refusal}
-use Rattle.octets.specs.declared.Converted.TheVariants.{Written, Refused}
+use Rattle.std.specs.Prelude.{Ok, Err}
 use Rattle.octets.proofs.Cases.{both}
 use Rattle.octets.proofs.Limits.{most-rows}
 use Rattle.octets.proofs.Optional.{map_is, guard-is, then_is, each_none, each-is}
 use Rattle.octets.proofs.Answers.{finished-answer, numbered}
-use Rattle.octets.proofs.Positions.{upto}
 use Rattle.octets.proofs.Pen.{as-text, Landed, landed}
 use Rattle.types.specs.Table.{Table, names_of, defaults}
 use Rattle.types.specs.Rows.{row_of, ended_lines, rows_of, may_join, table_of}
 use Rattle.types.specs.Laid.{laid_row, laid, rows_in, table_in, laid_of, room_for_rows}
 use Rattle.types.specs.Reading.{pen_behind}
-use Rattle.types.specs.declared.rows.RowsLaid.TheVariants.{Upto, Malformed}
+use Rattle.std.specs.Prelude.{Some, None}
 use Rattle.types.proofs.Laid.{rows-again}
 use Rattle.types.proofs.Progress.{row-size, map-none}
 
@@ -67,12 +66,12 @@ module _ (hex : List ℕ) where
 
 -- what laying out rows leaves is what the definition says
 module _ (hex o b : List ℕ) where
-  pub malformed : pen_behind Malformed b ≡ map? (λ es. wrote (pen o 0) (laid es)) (guard may_join (rows_of hex)) → (rows c : List ℕ) → length c ≡ length rows → answer (refused 2) c ≡ answer (laid_of hex) rows
+  pub malformed : pen_behind None b ≡ map? (λ es. wrote (pen o 0) (laid es)) (guard may_join (rows_of hex)) → (rows c : List ℕ) → length c ≡ length rows → answer (refused 2) c ≡ answer (laid_of hex) rows
   unfolding pen_behind answer zeroed
   malformed e rows c l = rw (none-laid hex (map-none (λ es. wrote (pen o 0) (laid es)) (guard may_join (rows_of hex)) (sym e)), l)
 
   -- in a buffer with room for any file they stand at the front
-  module _ (h : room_for_rows ≤ length o) (n : ℕ) (e : pen_behind (Upto n) b ≡ map? (λ es. wrote (pen o 0) (laid es)) (guard may_join (rows_of hex))) where
+  module _ (h : room_for_rows ≤ length o) (n : ℕ) (e : pen_behind (Some n) b ≡ map? (λ es. wrote (pen o 0) (laid es)) (guard may_join (rows_of hex))) where
     there {ℓ} : {P : Type ℓ} → ((es : Table) → laid_of hex ≡ accepted (laid es) → length (laid es) ≤ length o → Landed o (laid es) b n → P) → P
     unfolding pen_behind
     there k =
@@ -84,13 +83,13 @@ module _ (hex o b : List ℕ) where
     pub rows-within : n ≤ length b
     rows-within = there (λ es _ _ l. rw (l.count, l.buffer, length-append) (omega arith))
 
-    pub written : outcome (Written n) b ≡ answer (laid_of hex) o
+    pub written : outcome (Ok n) b ≡ answer (laid_of hex) o
     unfolding outcome answer
     written = there (λ es q k l. rw (q, le-leb (length (laid es)) (length o) k, l.count, l.buffer))
 
-    pub copied : (r : Settled) (rows c : List ℕ) (at : ℕ) → Wrote (pen rows 0) (take (n - 0) (drop 0 b)) (pen c at) → r ≡ finished at c → r ≡ answer (laid_of hex) rows
+    pub copied : (r : Settled) (rows c : List ℕ) (at : ℕ) → Wrote (pen rows 0) (take n b) (pen c at) → r ≡ finished at c → r ≡ answer (laid_of hex) rows
     copied r rows c at w q =
-        there (λ es a _ l. q ∙ finished-answer rows (laid es) c at (as-text w (upto b n ∙ l.front)) ∙ rw a)
+        there (λ es a _ l. q ∙ finished-answer rows (laid es) c at (as-text w l.front) ∙ rw a)
 
 -- what is laid out stands for the file's table
 pub table-laid : (hex : List ℕ) → table_of hex ≡ then (laid_of hex) (λ s. accepted (table_in s))
@@ -115,7 +114,7 @@ module _ (hex o b : List ℕ) (h : room_for_rows ≤ length o) where
   unfolding answer
   read_some es q = let f = file-fits hex es q in rw (some-laid hex es q, le-leb (length (laid es)) (length o) (omega arith))
 
-  pub rows_written : (n : ℕ) → outcome (Written n) b ≡ answer (laid_of hex) o → Read_table hex b n
+  pub rows_written : (n : ℕ) → outcome (Ok n) b ≡ answer (laid_of hex) o → Read_table hex b n
   unfolding outcome then
   rows_written n e = by (guard may_join (rows_of hex)) refl
     where
@@ -132,7 +131,7 @@ module _ (hex o b : List ℕ) (h : room_for_rows ≤ length o) where
       by none q = let z : ◌≡◌ {A = ℕ} 0 2 = ap (λ (s : Settled). s.number) (e ∙ read_none q) in absurd (omega arith)
       by (some es) q = laid-there es q (e ∙ read_some es q)
 
-  pub rows-refused : (w : Refusal) → outcome (Refused w) b ≡ answer (laid_of hex) o → (table_of hex ≡ refused 2) × (number w ≡ 2)
+  pub rows-refused : (w : Refusal) → outcome (Err w) b ≡ answer (laid_of hex) o → (table_of hex ≡ refused 2) × (number w ≡ 2)
   unfolding outcome then
   rows-refused w e = by (guard may_join (rows_of hex)) refl
     where

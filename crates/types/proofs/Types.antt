@@ -1,21 +1,20 @@
 -- The types' names and codes.
-use Prim.Native.Nat.{ℕ, zero, suc, ◌+◌, ◌-◌, ◌*◌, ◌≤◌, ◌<◌}
-use Prim.Native.Char.{code}
+use Prim.Native.Nat.{ℕ, zero, suc, ◌+◌, ◌-◌, ◌≤◌, ◌<◌}
 use mathlib.Core.Path.{◌≡◌, refl, sym}
 use mathlib.Core.Bool.{Bool, true, false, not}
-use mathlib.Core.List.{List, [], ◌∷◌, ◌++◌}
+use mathlib.Core.List.{List, [], ◌∷◌}
 use native.Mathlib.Omega.{arith}
-use borrow.Author.Tests.{leb-true, eqb-true, eqb-false, not-true}
-use lib.Dec.{eqb, leb}
-use lib.ListN.{length, get_or, take, drop, replicate, get_or-eq_default}
+use borrow.Author.Tests.{eqb-true, eqb-false, not-true}
+use lib.Dec.{eqb}
+use lib.ListN.{length, get_or, get_or-eq_default}
 use Rattle.octets.specs.Basics.{octets, ◌and◌, ◌or◌, all, filled, same}
-use Rattle.octets.specs.Optional.{given}
 use Rattle.octets.specs.Classes.{between, is_lower, is_digit, lower_name_octet, is_lower_name, lower, upper_octet, upper}
 use Rattle.octets.proofs.Cases.{cases, same?, both, either}
 use Rattle.octets.proofs.Classes.{same-is}
-use Rattle.types.specs.Codes.{type_names, type_name, place_from, code_named}
+use Rattle.octets.specs.Optional.{given}
 use Rattle.types.specs.Table.{Row, find}
 use Rattle.types.specs.Reading.{numbered, types}
+use Rattle.types.specs.Codes.{type_names, type_name, place_from, code_named}
 use Rattle.types.proofs.Names.{same-lower}
 
 -- names that are all lowercase
@@ -116,39 +115,16 @@ module _ (t : List ℕ) where
       by zero e = absurd (n e)
       by (suc c) e = (coded t c e).0
 
--- the names in slots of twelve octets: the length, the name, and dots
-slot : List ℕ → List ℕ → List ℕ
-slot n rest = length n ∷ (n ++ (replicate (11 - length n) (code ".") ++ rest))
-
-slotted : List (List ℕ) → List ℕ
-slotted [] = []
-slotted (n ∷ ns) = slot n (slotted ns)
-
-unfoldable pub slots : List ℕ
-unfolding slotted slot
-slots = slotted ([] ∷ type_names)
-
-in-slot : ℕ → Bool
-in-slot c = leb (get_or slots (12 * c + 1 - 1) 0) 11 and same (take (12 * c + 1 + get_or slots (12 * c + 1 - 1) 0 - (12 * c + 1)) (drop (12 * c + 1) slots)) (type_name c)
-
-all-in-slots : passed in-slot 15 ≡ true
-unfolding passed in-slot slots slotted slot type_name type_names same
-all-in-slots = refl
-
-module _ (c : ℕ) (h : c ≤ 14) where
-  a-slot : (leb (get_or slots (12 * c + 1 - 1) 0) 11 ≡ true) × (same (take (12 * c + 1 + get_or slots (12 * c + 1 - 1) 0 - (12 * c + 1)) (drop (12 * c + 1) slots)) (type_name c) ≡ true)
-  unfolding in-slot
-  a-slot = both (leb (get_or slots (12 * c + 1 - 1) 0) 11) (same (take (12 * c + 1 + get_or slots (12 * c + 1 - 1) 0 - (12 * c + 1)) (drop (12 * c + 1) slots)) (type_name c)) (at in-slot 15 c (omega arith) all-in-slots)
-
-  pub slot-length : get_or slots (12 * c + 1 - 1) 0 ≤ 11
-  slot-length = leb-true (get_or slots (12 * c + 1 - 1) 0) 11 a-slot.0
-
-  pub slot-name : take (12 * c + 1 + get_or slots (12 * c + 1 - 1) 0 - (12 * c + 1)) (drop (12 * c + 1) slots) ≡ type_name c
-  slot-name = same-is (take (12 * c + 1 + get_or slots (12 * c + 1 - 1) 0 - (12 * c + 1)) (drop (12 * c + 1) slots)) (type_name c) a-slot.1
-
 pub nameless : (c : ℕ) → 14 < c → type_name c ≡ []
 unfolding type_name
 nameless c h = get_or-eq_default ([] ∷ type_names) [] {n = c} (omega (arith, fourteen))
 
 pub code-of-none : (c : ℕ) → 14 < c → code_named (type_name c) ≡ 0
 code-of-none c h = rw (nameless c h) (unfold code_named place_from type_names same in refl)
+
+pub code-of-other : (c : ℕ) → (1 ≤ c → c ≤ 14 → ⊥) → code_named (type_name c) ≡ 0
+code-of-other zero h = code-of-name 0 (omega arith)
+code-of-other (suc c) h = code-of-none (suc c) (beyond h)
+  where
+    beyond : (1 ≤ suc c → suc c ≤ 14 → ⊥) → 14 < suc c
+    beyond h = omega (arith, h)

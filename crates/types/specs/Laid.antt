@@ -1,5 +1,5 @@
 -- Rows laid out as octets, as the code holds them: for each row the length of its name, its type code, 0 for one value or 1 for many, and its name.
-use Rattle.std.specs.Prelude.{ℕ, zero, suc, ◌+◌, ◌*◌, List, [], ◌∷◌, ◌++◌, eqb, leb, length, get_or, take, drop}
+use Rattle.std.specs.Prelude.{ℕ, zero, suc, ◌+◌, ◌*◌, List, [], ◌∷◌, ◌++◌, eqb, leb, length, get_or, take, drop, Some, None}
 use Rattle.std.proofs.Math.Option.{Option, none, some}
 use Rattle.octets.specs.Basics.{pick}
 use Rattle.octets.specs.Optional.{map?, guard}
@@ -7,8 +7,8 @@ use Rattle.octets.specs.Limits.{most_rows}
 use Rattle.octets.specs.Answers.{Answer, or_else}
 use Rattle.types.specs.Table.{Row, Entry, entry, Table, defaults}
 use Rattle.types.specs.Rows.{most_name, rows_of, may_join}
-use Rattle.types.specs.declared.Lookup.{Lookup}
-use Rattle.types.specs.declared.Lookup.TheVariants.{Listed, Unlisted}
+use Rattle.std.specs.declared.option.Option as code
+use Rattle.types.specs.declared.Listing.{Listing}
 
 unfoldable pub laid_row : Entry → List ℕ
 laid_row e = length e.name ∷ e.row.code ∷ pick e.row.many 1 0 ∷ e.name
@@ -30,10 +30,10 @@ rows_in s = rows_from 0 s
 unfoldable pub table_in : List ℕ → Table
 table_in s = defaults ++ rows_in s
 
--- what a returned `Lookup` says
-unfoldable pub row_found : Lookup → Option Row
-row_found (Listed c m) = some (record { code = c; many = m })
-row_found Unlisted = none
+-- what a returned `Listing` says, if there is one
+unfoldable pub row_found : code.Option Listing → Option Row
+row_found None = none
+row_found (Some l) = some (record { code = l.code; many = l.many })
 
 -- the rows of a file laid out; malformed ones are refused
 unfoldable pub laid_of : List ℕ → Answer (List ℕ)

@@ -2,10 +2,12 @@
 #![tactic(auto)]
 
 mod codes;
+mod kinds;
 mod rows;
 mod table;
 
 pub use codes::{code_named, does_split, is_unknown, known_code, put_type_name};
+pub use kinds::ValueType;
 pub use rows::read_rows;
 pub use table::find;
 
@@ -19,8 +21,9 @@ const MOST_DIGITS: usize = 2 * MOST_FRAME;
 pub const ROOM_FOR_ROWS: usize = (1 + MOST_FRAME) * octets::MOST_ROWS;
 
 // What a table says of a name: the code of its type, and whether it may have many values.
+// The code is an octet and no `ValueType`: `find` takes any octets for rows, and `table_in` has of a row whatever stands there.
 #[derive(Clone, Copy)]
-pub enum Lookup {
-    Listed(u8, bool),
-    Unlisted,
+pub struct Listing {
+    pub code: u8,
+    pub many: bool,
 }

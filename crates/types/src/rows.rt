@@ -1,60 +1,53 @@
 // Reading rows.hex.
-ghost use Rattle.std.specs.Prelude.{◌≡◌, ◌+◌, ◌≤◌, eqb, length, take, drop};
+ghost use Rattle.std.specs.Prelude.{◌≡◌, ◌≤◌, eqb, length, take, IfSome};
 ghost use Rattle.octets.specs.Basics.{◌and◌, ◌or◌, all};
 ghost use Rattle.octets.specs.Classes.{between};
-ghost use Rattle.octets.specs.Optional.{map?, is_some, guard};
+ghost use Rattle.octets.specs.Optional.{map?, then?, is_some, guard, said};
 ghost use Rattle.octets.specs.Pen.{pen, wrote};
 ghost use Rattle.octets.specs.Answers.{outcome, answer};
 ghost use Rattle.types.specs.Codes.{binary, utc_offset, type_splits};
-ghost use Rattle.types.specs.Table.{find};
 ghost use Rattle.types.specs.Rows.{row_octet, entry_of, row_of, rows_of, may_join};
 ghost use Rattle.types.specs.Laid.{laid_row, laid, table_in, laid_of, room_for_rows};
-ghost use Rattle.types.specs.Reading.{first_line, if_unlisted, pen_behind};
+ghost use Rattle.types.specs.Reading.{if_unlisted, pen_behind};
 
-use crate::codes::does_split;
+use crate::kinds::ValueType;
 use crate::table::find;
-use crate::{Lookup, MOST_DIGITS, MOST_FRAME, ROOM_FOR_ROWS};
+use crate::{MOST_DIGITS, MOST_FRAME, ROOM_FOR_ROWS};
 use octets::{
-    Converted, MOST_ROWS, Refusal, finish, hex_digit, is_digit, is_upper, put, put_all, refuse,
-    same,
+    MOST_ROWS, Refusal, find as next_octet, finish, hex_digit, is_digit, is_upper, put, put_all,
+    refuse, same,
 };
 
-// Where laying out rows came to.
-#[derive(Clone, Copy)]
-enum RowsLaid {
-    Upto(usize),
-    Malformed,
-}
-
 // Reads the content of rows.hex, and lays its rows out at the front of a buffer.
-pub fn read_rows(hex: &[u8], rows: &mut [u8]) -> Converted
+pub fn read_rows(hex: &[u8], rows: &mut [u8]) -> Result<usize, Refusal>
     ensures { outcome result rows.new ≡ answer (laid_of hex.now) rows.old }
 {
     if rows.len() < ROOM_FOR_ROWS {
-        return read_apart(&*hex, rows);
+        return read_apart(hex, rows);
     }
-    match lay_rows(&*hex, rows) {
-        RowsLaid::Upto(n) => Converted::Written(n),
-        RowsLaid::Malformed => refuse(rows, Refusal::RowsMalformed),
+    match lay_rows(hex, rows) {
+        Some(n) => Ok(n),
+        None => refuse(rows, Refusal::RowsMalformed),
     }
 }
 
 // The same where the rows of some file have no room: they are laid out apart, and copied if they fit.
-fn read_apart(hex: &[u8], rows: &mut [u8]) -> Converted
+fn read_apart(hex: &[u8], rows: &mut [u8]) -> Result<usize, Refusal>
     ensures { outcome result rows.new ≡ answer (laid_of hex.now) rows.old }
 {
     let mut room = [0u8; ROOM_FOR_ROWS];
-    match lay_rows(&*hex, &mut room) {
-        RowsLaid::Upto(n) => {
-            let end = put_all(rows, 0, &room[0..n]);
+    match lay_rows(hex, &mut room) {
+        Some(n) => {
+            let end = put_all(rows, 0, &room[..n]);
             finish(rows, end)
         }
-        RowsLaid::Malformed => refuse(rows, Refusal::RowsMalformed),
+        None => refuse(rows, Refusal::RowsMalformed),
     }
 }
 
-// Lays out the rows line by line.
-fn lay_rows(hex: &[u8], rows: &mut [u8]) -> RowsLaid
+// Lays out the rows line by line, and answers where they end; none where they are malformed.
+// Each line is ended: of the pieces that a `split` yields the last is none, and a `for` over them would have to know it.
+fn lay_rows(hex: &[u8], rows: &mut [u8]) -> Option<usize>
     requires { room_for_rows ≤ length rows.old }
     ensures { pen_behind result rows.new ≡ map? (λ es. wrote (pen rows.old 0) (laid es)) (guard may_join (rows_of hex.now)) }
 {
@@ -62,97 +55,64 @@ fn lay_rows(hex: &[u8], rows: &mut [u8]) -> RowsLaid
     let mut at = 0;
     let mut count = 0;
     while from < hex.len() {
-        let end = line_end(hex, from);
+        let end = next_octet(hex, from, b'\n');
         if end == hex.len() {
-            return RowsLaid::Malformed;
+            return None;
         }
         if count == MOST_ROWS {
-            return RowsLaid::Malformed;
+            return None;
         }
-        let RowsLaid::Upto(next) = lay_line(&hex[from..end], rows, at) else {
-            return RowsLaid::Malformed;
-        };
-        at = next;
+        at = lay_line(&hex[from..end], rows, at)?;
         from = end + 1;
         count += 1;
     }
-    RowsLaid::Upto(at)
-}
-
-// The place of the next line feed, or the end.
-fn line_end(hex: &[u8], from: usize) -> usize
-    requires { from ≤ length hex.now }
-    ensures { result ≡ from + length (first_line (drop from hex.now)) }
-{
-    let mut i = from;
-    while i < hex.len() {
-        if hex[i] == b'\n' {
-            return i;
-        }
-        i += 1;
-    }
-    i
+    Some(at)
 }
 
 // Lays out the row of a line, where it is one and its name is not listed already.
-fn lay_line(line: &[u8], rows: &mut [u8], at: usize) -> RowsLaid
+fn lay_line(line: &[u8], rows: &mut [u8], at: usize) -> Option<usize>
     requires { at ≤ length rows.old }
     ensures { pen_behind result rows.new ≡ map? (λ e. wrote (pen rows.old at) (laid_row e)) (if_unlisted (table_in (take at rows.old)) (row_of line.now)) }
 {
     let mut frame = [0u8; MOST_FRAME];
-    let n = decode(line, &mut frame);
-    lay_frame(&frame[0..n], rows, at)
+    let n = decode(line, &mut frame)?;
+    lay_frame(&frame[..n], rows, at)
 }
 
 // Lays out the row of a frame, where it is one and its name is not listed already.
-fn lay_frame(frame: &[u8], rows: &mut [u8], at: usize) -> RowsLaid
+fn lay_frame(frame: &[u8], rows: &mut [u8], at: usize) -> Option<usize>
     requires { at ≤ length rows.old }
     ensures { pen_behind result rows.new ≡ map? (λ e. wrote (pen rows.old at) (laid_row e)) (if_unlisted (table_in (take at rows.old)) (entry_of frame.now)) }
 {
     if !is_row(frame) {
-        return RowsLaid::Malformed;
+        return None;
     }
-    if is_listed(&rows[0..at], &frame[2..]) {
-        return RowsLaid::Malformed;
+    if find(&rows[..at], &frame[2..]).is_some() {
+        return None;
     }
     let start = put(rows, at, (frame.len() - 2) as u8);
-    RowsLaid::Upto(put_all(rows, start, frame))
+    Some(put_all(rows, start, frame))
 }
 
-fn is_listed(rows: &[u8], name: &[u8]) -> bool
-    ensures { result ≡ is_some (find (table_in rows.now) name.now) }
-{
-    match find(rows, name) {
-        Lookup::Listed(_, _) => true,
-        Lookup::Unlisted => false,
-    }
-}
-
-// Decodes the frame of a line, and answers its length: 0 for a line that is no row.
-fn decode(line: &[u8], frame: &mut [u8]) -> usize
+// Decodes the frame of a line, and answers its length; none for a line that is not made of pairs of digits, or is too long for a row.
+fn decode(line: &[u8], frame: &mut [u8]) -> Option<usize>
     requires { length frame.old ≡ 34 }
-    ensures { (result ≤ 34) × (entry_of (take result frame.new) ≡ row_of line.now) }
+    ensures within { IfSome result (λ n. n ≤ 34) }
+    ensures row { then? (map? (λ n. take n frame.new) (said result)) entry_of ≡ row_of line.now }
 {
     if MOST_DIGITS < line.len() {
-        return 0;
+        return None;
     }
+    let mut left = line;
     let mut n = 0;
-    while 2 * n < line.len() {
-        if 2 * n + 1 == line.len() {
-            return 0;
-        }
-        let high = hex_digit(line[2 * n]);
-        let low = hex_digit(line[2 * n + 1]);
-        if 15 < high {
-            return 0;
-        }
-        if 15 < low {
-            return 0;
-        }
+    while let [h, l, rest @ ..] = left {
+        let high = hex_digit(*h)?;
+        let low = hex_digit(*l)?;
         frame[n] = high * 16 + low;
         n += 1;
+        left = rest;
     }
-    n
+    if left.is_empty() { Some(n) } else { None }
 }
 
 // A frame is a row.
@@ -178,20 +138,13 @@ fn is_row(frame: &[u8]) -> bool
     !same(name, b"END")
 }
 
-// One of the fourteen codes, with 0 for one value, or 1 for many of a type that splits.
+// The code of a type, with 0 for one value, or 1 for many of a type that splits.
 fn is_kind(code: u8, many: u8) -> bool
     ensures { result ≡ (between binary utc_offset code and (eqb many 0 or (eqb many 1 and type_splits code))) }
 {
-    if code < 1 {
-        return false;
-    }
-    if 14 < code {
-        return false;
-    }
-    match many {
-        0 => true,
-        1 => does_split(code),
-        _ => false,
+    match ValueType::of_code(code) {
+        Some(kind) => many == 0 || many == 1 && kind.splits(),
+        None => false,
     }
 }
 
@@ -199,12 +152,10 @@ fn is_kind(code: u8, many: u8) -> bool
 fn is_row_name(name: &[u8]) -> bool
     ensures { result ≡ all row_octet name.now }
 {
-    let mut i = 0;
-    while i < name.len() {
-        if !is_row_octet(name[i]) {
+    for &c in name {
+        if !is_row_octet(c) {
             return false;
         }
-        i += 1;
     }
     true
 }

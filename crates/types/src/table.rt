@@ -1,180 +1,172 @@
 // Looking a name up: among the default types, and in rows that are laid out as octets.
-ghost use Rattle.std.specs.Prelude.{◌≡◌, [], ◌∷◌, get_or};
+ghost use Rattle.std.specs.Prelude.{◌≡◌, map, get_or};
 ghost use Rattle.octets.specs.Basics.{same};
 ghost use Rattle.octets.specs.Classes.{upper_octet, upper};
-ghost use Rattle.octets.specs.Optional.{or?};
 ghost use Rattle.types.specs.Table.{entry, find, defaults};
+ghost use Rattle.types.specs.Coded.{type_code};
 ghost use Rattle.types.specs.Laid.{rows_in, table_in, row_found};
-ghost use Rattle.types.specs.Reading.{under};
 
-use crate::Lookup;
+use crate::Listing;
+use crate::kinds::ValueType::{
+    self, CalAddress, DateTime, Duration, Float, Integer, Period, Recur, Text, Uri, UtcOffset,
+};
 use octets::{both, peek, upper_octet};
 
+// A row: its name in uppercase, its type, and whether the name may have many values.
+pub(crate) type Row = (&'static [u8], ValueType, bool);
+
+// The default types by their first letters.
+static A_ROWS: [Row; 3] = [
+    (b"ACTION", Text, false),
+    (b"ATTACH", Uri, false),
+    (b"ATTENDEE", CalAddress, false),
+];
+
+static C_ROWS: [Row; 7] = [
+    (b"CALSCALE", Text, false),
+    (b"CLASS", Text, false),
+    (b"COMMENT", Text, false),
+    (b"CONTACT", Text, false),
+    (b"CATEGORIES", Text, true),
+    (b"COMPLETED", DateTime, false),
+    (b"CREATED", DateTime, false),
+];
+
+static D_ROWS: [Row; 6] = [
+    (b"DESCRIPTION", Text, false),
+    (b"DTEND", DateTime, false),
+    (b"DUE", DateTime, false),
+    (b"DTSTART", DateTime, false),
+    (b"DTSTAMP", DateTime, false),
+    (b"DURATION", Duration, false),
+];
+
+static E_ROWS: [Row; 1] = [(b"EXDATE", DateTime, true)];
+
+static F_ROWS: [Row; 1] = [(b"FREEBUSY", Period, true)];
+
+static G_ROWS: [Row; 1] = [(b"GEO", Float, false)];
+
+static L_ROWS: [Row; 2] = [
+    (b"LOCATION", Text, false),
+    (b"LAST-MODIFIED", DateTime, false),
+];
+
+static M_ROWS: [Row; 1] = [(b"METHOD", Text, false)];
+
+static O_ROWS: [Row; 1] = [(b"ORGANIZER", CalAddress, false)];
+
+static P_ROWS: [Row; 3] = [
+    (b"PRODID", Text, false),
+    (b"PERCENT-COMPLETE", Integer, false),
+    (b"PRIORITY", Integer, false),
+];
+
+static R_ROWS: [Row; 7] = [
+    (b"RELATED-TO", Text, false),
+    (b"REQUEST-STATUS", Text, false),
+    (b"RESOURCES", Text, true),
+    (b"REPEAT", Integer, false),
+    (b"RECURRENCE-ID", DateTime, false),
+    (b"RDATE", DateTime, true),
+    (b"RRULE", Recur, false),
+];
+
+static S_ROWS: [Row; 3] = [
+    (b"STATUS", Text, false),
+    (b"SUMMARY", Text, false),
+    (b"SEQUENCE", Integer, false),
+];
+
+static T_ROWS: [Row; 7] = [
+    (b"TRANSP", Text, false),
+    (b"TZID", Text, false),
+    (b"TZNAME", Text, false),
+    (b"TZURL", Uri, false),
+    (b"TRIGGER", Duration, false),
+    (b"TZOFFSETFROM", UtcOffset, false),
+    (b"TZOFFSETTO", UtcOffset, false),
+];
+
+static U_ROWS: [Row; 2] = [(b"UID", Text, false), (b"URL", Uri, false)];
+
+static V_ROWS: [Row; 1] = [(b"VERSION", Text, false)];
+
 // What the default types and these rows say of a name, in either case.
-pub fn find(rows: &[u8], name: &[u8]) -> Lookup
+pub fn find(rows: &[u8], name: &[u8]) -> Option<Listing>
     ensures { row_found result ≡ find (table_in rows.now) name.now }
 {
     match find_default(name) {
-        Lookup::Listed(code, many) => Lookup::Listed(code, many),
-        Lookup::Unlisted => find_in(rows, name),
+        None => find_in(rows, name),
+        found => found,
     }
 }
 
 // What the default types say of a name.
-fn find_default(name: &[u8]) -> Lookup
+fn find_default(name: &[u8]) -> Option<Listing>
     ensures { row_found result ≡ find defaults name.now }
 {
     match initial(name) {
-        b'A' => find_a(name),
-        b'C' => find_c(name),
-        b'D' => find_d(name),
-        b'E' => named(name, b"EXDATE", 5, true),
-        b'F' => named(name, b"FREEBUSY", 9, true),
-        b'G' => named(name, b"GEO", 7, false),
-        b'L' => find_l(name),
-        b'M' => named(name, b"METHOD", 11, false),
-        b'O' => named(name, b"ORGANIZER", 3, false),
-        b'P' => find_p(name),
-        b'R' => find_r(name),
-        b'S' => find_s(name),
-        b'T' => find_t(name),
-        b'U' => find_u(name),
-        b'V' => named(name, b"VERSION", 11, false),
-        _ => Lookup::Unlisted,
+        b'A' => first_of(&A_ROWS, name),
+        b'C' => first_of(&C_ROWS, name),
+        b'D' => first_of(&D_ROWS, name),
+        b'E' => first_of(&E_ROWS, name),
+        b'F' => first_of(&F_ROWS, name),
+        b'G' => first_of(&G_ROWS, name),
+        b'L' => first_of(&L_ROWS, name),
+        b'M' => first_of(&M_ROWS, name),
+        b'O' => first_of(&O_ROWS, name),
+        b'P' => first_of(&P_ROWS, name),
+        b'R' => first_of(&R_ROWS, name),
+        b'S' => first_of(&S_ROWS, name),
+        b'T' => first_of(&T_ROWS, name),
+        b'U' => first_of(&U_ROWS, name),
+        b'V' => first_of(&V_ROWS, name),
+        _ => None,
     }
 }
 
-// The default types by their first letters.
-fn find_a(name: &[u8]) -> Lookup
-    ensures { row_found result ≡ find (under "A" defaults) name.now }
-{
-    let a = named(name, b"ACTION", 11, false);
-    let b = or_named(a, name, b"ATTACH", 13, false);
-    or_named(b, name, b"ATTENDEE", 3, false)
-}
-
-fn find_c(name: &[u8]) -> Lookup
-    ensures { row_found result ≡ find (under "C" defaults) name.now }
-{
-    let a = named(name, b"CALSCALE", 11, false);
-    let b = or_named(a, name, b"CLASS", 11, false);
-    let c = or_named(b, name, b"COMMENT", 11, false);
-    let d = or_named(c, name, b"CONTACT", 11, false);
-    let e = or_named(d, name, b"CATEGORIES", 11, true);
-    let f = or_named(e, name, b"COMPLETED", 5, false);
-    or_named(f, name, b"CREATED", 5, false)
-}
-
-fn find_d(name: &[u8]) -> Lookup
-    ensures { row_found result ≡ find (under "D" defaults) name.now }
-{
-    let a = named(name, b"DESCRIPTION", 11, false);
-    let b = or_named(a, name, b"DTEND", 5, false);
-    let c = or_named(b, name, b"DUE", 5, false);
-    let d = or_named(c, name, b"DTSTART", 5, false);
-    let e = or_named(d, name, b"DTSTAMP", 5, false);
-    or_named(e, name, b"DURATION", 6, false)
-}
-
-fn find_l(name: &[u8]) -> Lookup
-    ensures { row_found result ≡ find (under "L" defaults) name.now }
-{
-    let a = named(name, b"LOCATION", 11, false);
-    or_named(a, name, b"LAST-MODIFIED", 5, false)
-}
-
-fn find_p(name: &[u8]) -> Lookup
-    ensures { row_found result ≡ find (under "P" defaults) name.now }
-{
-    let a = named(name, b"PRODID", 11, false);
-    let b = or_named(a, name, b"PERCENT-COMPLETE", 8, false);
-    or_named(b, name, b"PRIORITY", 8, false)
-}
-
-fn find_r(name: &[u8]) -> Lookup
-    ensures { row_found result ≡ find (under "R" defaults) name.now }
-{
-    let a = named(name, b"RELATED-TO", 11, false);
-    let b = or_named(a, name, b"REQUEST-STATUS", 11, false);
-    let c = or_named(b, name, b"RESOURCES", 11, true);
-    let d = or_named(c, name, b"REPEAT", 8, false);
-    let e = or_named(d, name, b"RECURRENCE-ID", 5, false);
-    let f = or_named(e, name, b"RDATE", 5, true);
-    or_named(f, name, b"RRULE", 10, false)
-}
-
-fn find_s(name: &[u8]) -> Lookup
-    ensures { row_found result ≡ find (under "S" defaults) name.now }
-{
-    let a = named(name, b"STATUS", 11, false);
-    let b = or_named(a, name, b"SUMMARY", 11, false);
-    or_named(b, name, b"SEQUENCE", 8, false)
-}
-
-fn find_t(name: &[u8]) -> Lookup
-    ensures { row_found result ≡ find (under "T" defaults) name.now }
-{
-    let a = named(name, b"TRANSP", 11, false);
-    let b = or_named(a, name, b"TZID", 11, false);
-    let c = or_named(b, name, b"TZNAME", 11, false);
-    let d = or_named(c, name, b"TZURL", 13, false);
-    let e = or_named(d, name, b"TRIGGER", 6, false);
-    let f = or_named(e, name, b"TZOFFSETFROM", 14, false);
-    or_named(f, name, b"TZOFFSETTO", 14, false)
-}
-
-fn find_u(name: &[u8]) -> Lookup
-    ensures { row_found result ≡ find (under "U" defaults) name.now }
-{
-    let a = named(name, b"UID", 11, false);
-    or_named(a, name, b"URL", 13, false)
-}
-
 // The first letter of a name, in uppercase; 0 where there is none.
-pub(crate) fn initial(name: &[u8]) -> u8
+fn initial(name: &[u8]) -> u8
     ensures { result ≡ upper_octet (get_or name.now 0 0) }
 {
     upper_octet(peek(name, 0))
 }
 
-// What one row says of a name.
-pub(crate) fn named(name: &[u8], row: &[u8], code: u8, many: bool) -> Lookup
-    ensures { row_found result ≡ find (entry row.now code many ∷ []) name.now }
+// What the first of some rows that has this name says of it.
+pub(crate) fn first_of(mut rows: &[Row], name: &[u8]) -> Option<Listing>
+    ensures { row_found result ≡ find (map (λ r. entry r.0.now (type_code r.1) r.2) rows.entry.now) name.now }
 {
-    if is_named(row, name) {
-        return Lookup::Listed(code, many);
+    while let [(row, kind, many), rest @ ..] = rows {
+        if is_named(row, name) {
+            return Some(Listing {
+                code: kind.code(),
+                many: *many,
+            });
+        }
+        rows = rest;
     }
-    Lookup::Unlisted
-}
-
-// What was found before, or else what one row more says of a name.
-pub(crate) fn or_named(found: Lookup, name: &[u8], row: &[u8], code: u8, many: bool) -> Lookup
-    ensures { row_found result ≡ or? (row_found found) (find (entry row.now code many ∷ []) name.now) }
-{
-    match found {
-        Lookup::Listed(kind, several) => Lookup::Listed(kind, several),
-        Lookup::Unlisted => named(name, row, code, many),
-    }
+    None
 }
 
 // What these rows say of a name.
-fn find_in(rows: &[u8], name: &[u8]) -> Lookup
-    ensures { row_found result ≡ find (rows_in rows.now) name.now }
+fn find_in(mut rows: &[u8], name: &[u8]) -> Option<Listing>
+    ensures { row_found result ≡ find (rows_in rows.entry.now) name.now }
 {
-    let mut at = 0;
-    while at < rows.len() {
-        let n = rows[at] as usize;
-        if rows.len() - at < n + 3 {
-            return Lookup::Unlisted;
+    while let [length, code, many, rest @ ..] = rows {
+        let n = *length as usize;
+        if rest.len() < n {
+            return None;
         }
-        let start = at + 3;
-        let next = start + n;
-        if is_named(&rows[start..next], name) {
-            return Lookup::Listed(rows[at + 1], rows[at + 2] == 1);
+        if is_named(&rest[..n], name) {
+            return Some(Listing {
+                code: *code,
+                many: *many == 1,
+            });
         }
-        at = next;
+        rows = &rest[n..];
     }
-    Lookup::Unlisted
+    None
 }
 
 // The row's name is this one in uppercase.
@@ -185,10 +177,8 @@ pub fn is_named(row: &[u8], name: &[u8]) -> bool
         return false;
     }
     let mut so_far = true;
-    let mut i = 0;
-    while i < row.len() {
-        so_far = both(so_far, row[i] == upper_octet(name[i]));
-        i += 1;
+    for (i, &c) in row.iter().enumerate() {
+        so_far = both(so_far, c == upper_octet(name[i]));
     }
     so_far
 }

@@ -15,12 +15,12 @@ use Rattle.octets.specs.Optional.{is_some, when, guard}
 use Rattle.octets.specs.Utf8.{clean}
 use Rattle.octets.proofs.Cases.{cases}
 use Rattle.octets.proofs.Optional.{none_is}
-use Rattle.octets.proofs.Positions.{here, ended, upto}
+use Rattle.octets.proofs.Positions.{here, ended}
 use Rattle.values.specs.Simple.{base64_octet, unpadded, binary_is}
 use Rattle.values.specs.Base64.{groups_decoded, base64_of, text_sent}
 use Rattle.values.specs.Decoding.{DecodedAs, decoded_behind, entry}
-use Rattle.values.specs.declared.base64.Decoding.{Decoding}
-use Rattle.values.specs.declared.base64.Decoding.TheVariants.{Octets, Invalid}
+use Rattle.std.specs.Prelude.{Some, None}
+use Rattle.std.specs.declared.option.Option as code
 use Rattle.values.proofs.Sextets.{entry-small, small-entry, first, second, third, no-two, no_third, no-group, two-decoded, three-decoded, four-decoded}
 
 -- octets are stored behind the decoded ones
@@ -47,7 +47,7 @@ pub absent : {o : Option (List ℕ)} → o ≡ none → is_some o ≡ false
 unfolding is_some
 absent e = rw e
 
-pub decoded-same : {o p : Option (List ℕ)} (room : Bool) (out : List ℕ) (r : Decoding) → o ≡ p → DecodedAs room p out r → DecodedAs room o out r
+pub decoded-same : {o p : Option (List ℕ)} (room : Bool) (out : List ℕ) (r : code.Option ℕ) → o ≡ p → DecodedAs room p out r → DecodedAs room o out r
 decoded-same room out r e h = rw e h
 
 -- four octets from i on
@@ -140,27 +140,24 @@ module _ (s : List ℕ) where
   unfolding base64_of binary_is when
   no-binary h = rw (ne_eqb _ _ h)
 
-  module _ (n : ℕ) (f : take n s ≡ unpadded (unpadded s)) (h : length s % 4 ≡ 0) where
-    before : take (n - 0) (drop 0 s) ≡ unpadded (unpadded s)
-    before = upto s n ∙ f
+  module _ (t : List ℕ) (f : t ≡ unpadded (unpadded s)) (h : length s % 4 ≡ 0) where
+    pub not-one : length t % 4 ≡ 1 → ⊥
+    not-one k = omega (arith, ap length f, unpadded-length s, unpadded-length (unpadded s))
 
-    pub not-one : length (take (n - 0) (drop 0 s)) % 4 ≡ 1 → ⊥
-    not-one k = omega (arith, ap length before, unpadded-length s, unpadded-length (unpadded s))
+    pub no_longer : length t ≤ length s
+    no_longer = omega (arith, ap length f, unpadded-length s, unpadded-length (unpadded s))
 
-    pub no_longer : length (take (n - 0) (drop 0 s)) ≤ length s
-    no_longer = omega (arith, ap length before, unpadded-length s, unpadded-length (unpadded s))
-
-    pub binary : base64_of s ≡ decoded_behind [] (take (n - 0) (drop 0 s))
+    pub binary : base64_of s ≡ decoded_behind [] t
     unfolding base64_of binary_is decoded_behind
-    binary = rw (eq-eqb _ _ h, before)
+    binary = rw (eq-eqb _ _ h, f)
 
 -- what an answer tells
-module _ (room : Bool) (o : Option (List ℕ)) (out : List ℕ) (r : Decoding) (h : DecodedAs room o out r) where
-  pub told-octets : (n : ℕ) → r ≡ Octets n → (n ≤ length out) × (o ≡ some (take n out))
-  told-octets n e = let k = rw e at h in k.1
+module _ (room : Bool) (o : Option (List ℕ)) (out : List ℕ) (r : code.Option ℕ) (h : DecodedAs room o out r) where
+  pub told-some : (n : ℕ) → r ≡ Some n → (n ≤ length out) × (o ≡ some (take n out))
+  told-some n e = let k = rw e at h in k.1
 
-  pub told-invalid : room ≡ true → r ≡ Invalid → o ≡ none
-  told-invalid q e = let k = rw e at h in none_is o (rw q at k)
+  pub told-none : room ≡ true → r ≡ None → o ≡ none
+  told-none q e = let k = rw e at h in none_is o (rw q at k)
 
 -- the whole value
 module _ (s : List ℕ) where

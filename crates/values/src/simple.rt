@@ -19,74 +19,44 @@ use octets::{
 };
 
 // An octet of the alphabet of base64.
+#[tactic(auto, unfolding(crate::specs::Simple::base64_octet, octets::specs::Classes::is_letter))]
 fn is_base64(c: u8) -> bool
     ensures { result ≡ base64_octet c }
 {
-    if is_upper(c) {
-        return true;
-    }
-    if is_lower(c) {
-        return true;
-    }
-    if is_digit(c) {
-        return true;
-    }
-    if c == b'+' {
-        return true;
-    }
-    c == b'/'
+    is_upper(c) || is_lower(c) || is_digit(c) || c == b'+' || c == b'/'
 }
 
 fn all_base64(s: &[u8]) -> bool
     ensures { result ≡ all base64_octet s.now }
 {
-    let mut i = 0;
-    while i < s.len() {
-        if !is_base64(s[i]) {
-            return false;
-        }
-        i += 1;
-    }
-    true
+    s.iter().all(|&c| is_base64(c))
 }
 
 // The octets before a padding at the end, or all of them.
-fn unpadded(s: &[u8]) -> usize
-    ensures { (result ≤ length s.now) × (take result s.now ≡ unpadded s.now) }
+fn unpadded(s: &[u8]) -> &[u8]
+    ensures { result.now ≡ unpadded s.now }
 {
-    let n = s.len();
-    if n == 0 {
-        return 0;
-    }
-    if s[n - 1] == b'=' { n - 1 } else { n }
+    s.strip_suffix(b"=").unwrap_or(s)
 }
 
 // The octets before the paddings at the end, of which there are at most two.
-pub(crate) fn before_padding(s: &[u8]) -> usize
-    ensures { (result ≤ length s.now) × (take result s.now ≡ unpadded (unpadded s.now)) }
+pub(crate) fn before_padding(s: &[u8]) -> &[u8]
+    ensures { result.now ≡ unpadded (unpadded s.now) }
 {
-    let n = unpadded(s);
-    unpadded(&s[0..n])
+    unpadded(unpadded(s))
 }
 
 // Base64 in whole groups of four, with at most two paddings at the end.
 pub fn is_binary(s: &[u8]) -> bool
     ensures { result ≡ binary_is s.now }
 {
-    if s.len() % 4 != 0 {
-        return false;
-    }
-    let n = before_padding(s);
-    all_base64(&s[0..n])
+    s.len() % 4 == 0 && all_base64(before_padding(s))
 }
 
 pub fn is_boolean(s: &[u8]) -> bool
     ensures { result ≡ is_some (boolean_of (upper s.now)) }
 {
-    if same_name(s, b"TRUE") {
-        return true;
-    }
-    same_name(s, b"FALSE")
+    same_name(s, b"TRUE") || same_name(s, b"FALSE")
 }
 
 pub fn put_boolean(out: &mut [u8], at: usize, s: &[u8]) -> usize

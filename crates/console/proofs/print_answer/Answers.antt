@@ -2,10 +2,10 @@
 use Rattle.octets.specs.Answers.{outcome}
 use Rattle.console.proofs.print_answer.Goals as goal
 
-pub returns-in-Written : goal.returns-in-Written
+pub returns-in-Ok : goal.returns-in-Ok
 unfolding outcome
-returns-in-Written g c = rw c.in-Written.is c.print_text.ensures
+returns-in-Ok g c = rw c.in-Ok.is c.print_text.ensures
 
-pub returns-in-Refused : goal.returns-in-Refused
+pub returns-in-Err : goal.returns-in-Err
 unfolding outcome
-returns-in-Refused g c = rw c.in-Refused.is c.number-number.ensures
+returns-in-Err g c = rw c.in-Err.is c.number-number.ensures

@@ -5,8 +5,8 @@ use Rattle.ffi.specs.Words.{most_word, word}
 use Rattle.ffi.proofs.Words.{refused-word}
 use Rattle.ffi.proofs.word_of.Goals as goal
 
-pub returns-in-Written : goal.returns-in-Written
-returns-in-Written c = unfold word outcome in λ out. rw c.in-Written.is
+pub returns-in-Ok : goal.returns-in-Ok
+returns-in-Ok c = unfold word outcome in λ out. rw c.in-Ok.is
 
-pub returns-in-Refused : goal.returns-in-Refused
-returns-in-Refused c = unfold outcome most_word in λ out. rw (c.in-Refused.is, ← refused-word _ out) (ap (λ (n : ℕ). most_word - n) c.number.ensures)
+pub returns-in-Err : goal.returns-in-Err
+returns-in-Err c = unfold outcome most_word in λ out. rw (c.in-Err.is, ← refused-word _ out) (ap (λ (n : ℕ). most_word - n) c.number.ensures)

@@ -1,10 +1,7 @@
--- `stop_list::fill` lists a run of stops: what its turns come to is `Going`, and the room that is left falls.
-use Rattle.std.proofs.Common.{◌-◌, length}
-use Rattle.stop_list.proofs.Filling.{Going}
+-- `stop_list::fill` lists a run of stops: those that are stored, and those that are ahead.
+use Rattle.stop_list.specs.Runs.{stops_of, Live}
+use Rattle.stop_list.proofs.Filling.{Filling}
 use Rattle.stop_list.proofs.fill.Given as goal
 
-abbrev pub invariant-loop-run : goal.invariant-loop-run
-invariant-loop-run l = Going l.series l.fn.first l.fn.list l.run l.list
-
-abbrev pub decreases-loop-run : goal.decreases-loop-run
-decreases-loop-run l = length l.fn.list - l.run.at
+abbrev pub invariant-loop-i : goal.invariant-loop-i
+invariant-loop-i l = Live l.run × Filling (stops_of l.fn.run) (stops_of l.run) l.fn.list l.list l.i

@@ -1,19 +1,15 @@
 -- `stops_page::chopped` meets its contract: by the last octet.
 use Prim.Native.Nat.{◌-◌}
-use mathlib.Core.Path.{◌∙◌}
 use native.Mathlib.Omega.{arith}
 use lib.ListN.{length}
-use Rattle.octets.proofs.Positions.{upto}
 use Rattle.stops_page.proofs.InputLines.{chop-none, chop-return, chop-other}
 use Rattle.stops_page.proofs.chopped.Goals as goal
 
-pub returns-then-n-eq0 : goal.returns-then-n-eq0
-returns-then-n-eq0 c = chop-none _ c.if-n-eq0.true
+pub returns-in-13 : goal.returns-in-13
+returns-in-13 c = chop-return c.args.s.now (length c.args.s.now - 1) (omega arith) (omega arith)
 
-pub returns-then-s-last-eq13 : goal.returns-then-s-last-eq13
-returns-then-s-last-eq13 c = let args = c.args in
-    let s = args.s.now in upto s (length s - 1) ∙ chop-return s (length s - 1) (omega arith) c.if-s-last-eq13.true
+pub returns-in_default : goal.returns-in_default
+returns-in_default c = chop-none _ (omega arith)
 
-pub returns : goal.returns
-returns c = let args = c.args in
-    let s = args.s.now in chop-other s (length s - 1) (omega arith) c.if-s-last-eq13.false
+pub returns-in_default-2 : goal.returns-in_default-2
+returns-in_default-2 c = chop-other c.args.s.now (length c.args.s.now - 1) (omega arith) (λ e. omega arith)

@@ -2,5 +2,5 @@
 use Rattle.stops_page.proofs.Counts.{sure-count}
 use Rattle.stops_page.proofs.count_sure.Goals as goal
 
-pub returns-then-most-sure : goal.returns-then-most-sure
-returns-then-most-sure c = sure-count _ _ _ _ c.requires.2 c.if-most-sure.true
+pub returns-then-run-sure : goal.returns-then-run-sure
+returns-then-run-sure c = sure-count _ _ c.requires.1 c.if-run-sure.true

@@ -5,7 +5,4 @@ use Rattle.stops_page.proofs.Counts.{count_from}
 use Rattle.stops_page.proofs.count_walked.Given as goal
 
 abbrev pub invariant-loop-n : goal.invariant-loop-n
-invariant-loop-n l = (l.n ≤ l.most) × (l.series.place ≤ l.at) × (l.n + count_from l.series (l.most - l.n) l.at ≡ count_from l.series l.most l.from)
-
-abbrev pub decreases-loop-n : goal.decreases-loop-n
-decreases-loop-n l = l.most - l.n
+invariant-loop-n l = (l.run.series.place ≤ l.at) × (l.n + count_from l.run.series (l.run.room - l.n) l.at ≡ count_from l.run.series l.run.room l.run.from)

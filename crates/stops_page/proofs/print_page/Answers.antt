@@ -1,40 +1,26 @@
--- `stops_page::print_page` meets its contract: by the places of the first two LF.
-use Prim.Native.Nat.{◌+◌}
+-- `stops_page::print_page` meets its contract: by the first two lines' ends.
+use mathlib.Core.Path.{refl}
 use native.Mathlib.Omega.{arith}
-use lib.ListN.{drop}
 use Rattle.octets.proofs.Limits.{most-text}
-use Rattle.octets.proofs.Positions.{from, upto}
 use Rattle.octets.proofs.Pen.{as-text}
 use Rattle.stops_page.proofs.InputLines.{too_long, one_line, two-lines, third-line}
 use Rattle.stops_page.proofs.print_page.Goals as goal
 
 pub returns-then-text-gt-MOST_TEXT : goal.returns-then-text-gt-MOST_TEXT
-returns-then-text-gt-MOST_TEXT c = let args = c.args in
-    as-text c.put_bad.ensures (too_long args.text.now (rw most-text (omega arith)))
+returns-then-text-gt-MOST_TEXT c = as-text c.put_bad.ensures (too_long c.args.text.now (rw most-text (omega arith)))
 
-pub returns-then-text-n : goal.returns-then-text-n
-returns-then-text-n c = let args = c.args in
-    let find = c.find-n in
-    let if2 = c.if-text-n in
-    as-text c.put_bad-then-text-n.ensures (one_line args.text.now (rw most-text (omega arith)) _ find.ensures if2.true)
+pub returns-in_default : goal.returns-in_default
+returns-in_default c = as-text c.put_bad-in_default.ensures (one_line c.args.text.now (rw most-text (omega arith)) _ refl c.in_default.ensures)
 
-pub returns-then-rest-m : goal.returns-then-rest-m
-returns-then-rest-m c = let args = c.args in
-    let find = c.find-n in
-    let find2 = c.find-m in
-    let if3 = c.if-rest-m in
-    let s = args.text.now in
-    let n = find.result in
-    as-text c.put_bad-then-rest-m.ensures (two-lines s (rw most-text (omega arith)) n find.ensures (omega arith) _ (rw (from s (n + 1)) at find2.ensures) (rw (from s (n + 1)) at if3.true))
+pub returns-in_default-first_line : goal.returns-in_default-first_line
+returns-in_default-first_line c =
+    let w = c.in-Some.ensures in
+    as-text c.put_bad-in_default-first_line.ensures
+    (two-lines c.args.text.now (rw most-text (omega arith)) _ refl w.2 _ refl (rw w.1 at c.in_default-first_line.ensures))
 
 pub returns : goal.returns
-returns c = let args = c.args in
-    let find = c.find-n in
-    let find2 = c.find-m in
-    let if3 = c.if-rest-m in
-    let s = args.text.now in
-    let n = find.result in
-    let m = find2.result in
+returns c =
+    let w = c.in-Some.ensures in
+    let v = rw w.1 at c.in-Some-first_line.ensures in
     as-text c.print_third.ensures
-    (rw (from s (n + 1), upto s n, upto (drop (n + 1) s) m, from (drop (n + 1) s) (m + 1))
-    (third-line s (rw most-text (omega arith)) n find.ensures (omega arith) m (rw (from s (n + 1)) at find2.ensures) (rw (from s (n + 1)) at if3.false)))
+    (rw (w.0, v.0, v.1) (third-line c.args.text.now (rw most-text (omega arith)) _ refl w.2 _ refl v.2))

@@ -1,27 +1,26 @@
--- `stops_page::print_third` meets its contract: by the place of LF.
+-- `stops_page::print_third` meets its contract: by the third line's end.
+use Prim.Native.Nat.{ℕ}
+use mathlib.Core.Path.{◌≡◌, refl, sym, ap}
 use native.Mathlib.Omega.{arith}
-use Rattle.octets.proofs.Positions.{upto}
+use borrow.Author.Tests.{eqb-true, eqb-false}
+use lib.ListN.{length, length-drop}
 use Rattle.octets.proofs.Pen.{as-text}
 use Rattle.stops_page.proofs.InputLines.{third-open, third-ended, third-more}
 use Rattle.stops_page.proofs.print_third.Goals as goal
 
-pub returns-then-s-n : goal.returns-then-s-n
-returns-then-s-n c = let chopped = c.chopped-start in
-    let chopped2 = c.chopped-rule in
-    let find = c.find-n in
-    let if1 = c.if-s-n in
-    as-text c.print_for.ensures (rw (chopped.ensures, chopped2.ensures) (third-open _ _ _ _ find.ensures if1.true))
+pub returns-in_default : goal.returns-in_default
+returns-in_default c = as-text c.print_for.ensures (rw (c.chopped-start.ensures, c.chopped-rule.ensures) (third-open _ _ _ _ refl c.in_default.ensures))
 
-pub returns-then-s-n-2 : goal.returns-then-s-n-2
-returns-then-s-n-2 c = let chopped = c.chopped-start in
-    let chopped2 = c.chopped-rule in
-    let chopped3 = c.chopped in
-    let args = c.args in
-    let find = c.find-n in
-    let if2 = c.if-s-n-2 in
-    as-text c.print_for-then-s-n-2.ensures (rw (chopped.ensures, chopped2.ensures, chopped3.ensures, upto args.s.now find.result) (third-ended _ _ _ _ find.ensures if2.true))
+pub returns-then-is_empty : goal.returns-then-is_empty
+returns-then-is_empty c =
+    let w = c.in-Some.ensures in
+    let z : length c.in-Some.rest.now ≡ 0 = eqb-true _ 0 (sym c.if-is_empty.ensures) in
+    as-text c.print_for-then-is_empty.ensures
+    (rw (c.chopped-start.ensures, c.chopped-rule.ensures, c.chopped.ensures, w.0)
+    (third-ended _ _ _ _ refl (let h = w.2 in omega (arith, ap length w.1, length-drop {A = ℕ}))))
 
 pub returns : goal.returns
-returns c = let find = c.find-n in
-    let if2 = c.if-s-n-2 in
-    as-text c.put_bad.ensures (third-more _ _ _ _ find.ensures (omega arith) if2.false)
+returns c =
+    let w = c.in-Some.ensures in
+    as-text c.put_bad.ensures
+    (third-more _ _ _ _ refl w.2 (λ k. eqb-false _ 0 (sym c.if-is_empty.ensures) (let h = w.2 in omega (arith, ap length w.1, length-drop {A = ℕ}))))

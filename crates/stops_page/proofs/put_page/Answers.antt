@@ -1,18 +1,19 @@
 -- `stops_page::put_page` meets its contract: the records up to the count are the definition's list.
 use native.Mathlib.Omega.{arith}
+use lib.ListN.{length-take}
+use Rattle.stop_list.specs.declared.Stop.{Stop}
 use Rattle.octets.proofs.Pen.{then, as-text}
 use Rattle.stops_page.proofs.Answers.{page-bound, page-stops, page-refusal}
 use Rattle.stops_page.proofs.put_page.Goals as goal
 
-pub put_list-requires : goal.put_list-requires
-put_list-requires c = let b = page-bound _ _ _ _ _ c.list_page-page.ensures _ c.in-Stops.is in
-    let m = c.requires in
-    omega arith
+pub slice_bounds-put_list-end : goal.slice_bounds-put_list-end
+slice_bounds-put_list-end c = page-bound _ _ _ _ _ c.in-Ok.ensures
 
-pub returns-in-Stops : goal.returns-in-Stops
-returns-in-Stops c = as-text (then c.put_head-at.ensures c.put_list.ensures)
-    (page-stops _ _ _ _ _ c.list_page-page.ensures _ c.in-Stops.is)
+pub slice_bounds-put_list-end-in-Ok : goal.slice_bounds-put_list-end-in-Ok
+slice_bounds-put_list-end-in-Ok c = omega (arith, length-take {A = Stop}, page-bound _ _ _ _ _ c.in-Ok.ensures)
 
-pub returns-in-Refused : goal.returns-in-Refused
-returns-in-Refused c = as-text c.put_head.ensures
-    (rw c.number.ensures (page-refusal _ _ _ _ _ c.list_page-page.ensures _ c.in-Refused.is))
+pub returns-in-Ok : goal.returns-in-Ok
+returns-in-Ok c = as-text (then c.put_head-at.ensures c.put_list.ensures) (page-stops _ _ _ _ _ c.in-Ok.ensures)
+
+pub returns-in-Err : goal.returns-in-Err
+returns-in-Err c = as-text c.put_head.ensures (rw c.number.ensures (page-refusal _ _ _ _ _ c.in-Err.ensures))

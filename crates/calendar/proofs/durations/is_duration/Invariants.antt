@@ -1,11 +1,6 @@
--- `calendar::durations::is_duration` meets its contract: what is left is the rest of a duration (`Spelled`). The measure is what is left of the text.
-use Prim.Native.Nat.{◌-◌}
-use lib.ListN.{length}
+-- `calendar::durations::is_duration` meets its contract: the letters so far are in order.
 use Rattle.calendar.proofs.Letters.{Spelled}
 use Rattle.calendar.proofs.durations.is_duration.Given as goal
 
-abbrev pub invariant-loop-i : goal.invariant-loop-i
-invariant-loop-i l = Spelled l.s l.letter l.last l.i
-
-abbrev pub decreases-loop-i : goal.decreases-loop-i
-decreases-loop-i l = length l.s - l.i
+abbrev pub invariant-loop-octet : goal.invariant-loop-octet
+invariant-loop-octet l = Spelled l.s l.unsigned l.letter l.last l.octet-index

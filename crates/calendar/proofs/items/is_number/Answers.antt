@@ -1,12 +1,11 @@
 -- `calendar::items::is_number` meets its contract.
 use mathlib.Core.Path.{sym, ◌∙◌}
-use borrow.Author.Tests.{not-true, not-false}
 use Rattle.calendar.proofs.ItemTests.{sign-wrong, figures-many, figures-judged}
 use Rattle.calendar.proofs.items.is_number.Goals as goal
 
 pub returns-then-not-sign_stands : goal.returns-then-not-sign_stands
 returns-then-not-sign_stands c = let b = c.args.b in
-    sym (sign-wrong b.signed b.most b.lo b.hi c.args.s.now (sym c.sign_stands.ensures ∙ not-true c.sign_stands.result c.if-not-sign_stands.true-raw))
+    sym (sign-wrong b.signed b.most b.lo b.hi c.args.s.now (sym c.sign_stands.ensures ∙ c.if-not-sign_stands.true))
 
 pub returns-then-figures-b : goal.returns-then-figures-b
 returns-then-figures-b c = let b = c.args.b in
@@ -14,4 +13,4 @@ returns-then-figures-b c = let b = c.args.b in
 
 pub returns : goal.returns
 returns c = let b = c.args.b in
-    c.is_within.ensures ∙ sym (figures-judged b.signed b.most b.lo b.hi c.args.s.now c.sign_length-from.result c.sign_length-from.ensures.1 (sym c.sign_stands.ensures ∙ not-false c.sign_stands.result c.if-not-sign_stands.false-raw) c.if-figures-b.false)
+    c.is_within.ensures ∙ sym (figures-judged b.signed b.most b.lo b.hi c.args.s.now c.sign_length-from.result c.sign_length-from.ensures.1 (sym c.sign_stands.ensures ∙ c.if-not-sign_stands.false) c.if-figures-b.false)

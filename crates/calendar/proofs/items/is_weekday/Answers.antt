@@ -1,10 +1,11 @@
--- `calendar::items::is_weekday` meets its contract: a weekday has two letters.
-use mathlib.Core.Path.{sym}
-use Rattle.calendar.proofs.ItemTests.{no-weekday, weekday-stands}
+-- `calendar::items::is_weekday` meets its contract.
+use mathlib.Core.Path.{sym, ap, ◌∙◌}
+use Rattle.octets.specs.Optional.{is_some}
+use Rattle.octets.proofs.Optional.{some-when}
+use Rattle.calendar.specs.Recurrence.{word_of}
+use Rattle.calendar.proofs.Options.{said-some}
 use Rattle.calendar.proofs.items.is_weekday.Goals as goal
 
-pub returns-then-s-ne2 : goal.returns-then-s-ne2
-returns-then-s-ne2 c = sym (no-weekday _ c.if-s-ne2.true)
-
 pub returns : goal.returns
-returns c = weekday-stands _ _ _ _ c.if-s-ne2.false c.upper_octet.ensures c.upper_octet-2.ensures c.are_weekday.ensures
+unfolding word_of
+returns c = c.is_some.ensures ∙ said-some _ ∙ ap is_some c.weekday_named.ensures ∙ some-when _ _ ∙ sym (some-when _ _)

@@ -1,45 +1,19 @@
--- `calendar::items::values_stand` meets its contract: the values that are passed stand.
-use mathlib.Core.Path.{refl, sym, ◌∙◌}
-use native.Mathlib.Omega.{arith}
-use borrow.Author.Tests.{not-true, not-false}
-use lib.ListN.{length-take, length-drop}
+-- `calendar::items::values_stand` meets its contract.
+use lib.Dec.{eqb}
+use Rattle.std.proofs.Common.{rules, tests}
+use Rattle.std.proofs.lemmas.Iterator.Search.{all_from_yields_List}
+use Rattle.std.proofs.lemmas.Iterator.Splits.{YieldsList-from_slice_split}
+use Rattle.octets.specs.Optional.{is_some}
+use Rattle.octets.specs.Classes.{upper}
+use Rattle.calendar.specs.Recurrence.{item_of}
 use Rattle.calendar.specs.Walk.{part_sort_said}
-use Rattle.calendar.proofs.Pieces.{scanned-le, scanned-in}
-use Rattle.calendar.proofs.PartValues.{item-wrong, item-last, item-alone, item_on}
+use Rattle.calendar.proofs.PartValues.{values-tested, may-be}
 use Rattle.calendar.proofs.items.values_stand.Goals as goal
 
-pub loop-rest-init : goal.loop-rest-init
-loop-rest-init c = (omega arith, refl)
+pub returns-then-alone : goal.returns-then-alone
+returns-then-alone c = rw (values-tested (part_sort_said c.args.sort) c.args.v.now, ← c.has_several.ensures, ← c.contains-alone.ensures.value, may-be _ _ c.if-alone.either)
+    (all_from_yields_List (λ l. is_some (item_of (part_sort_said c.args.sort) (upper l))) c.all.new.self _ _ c.all.ensures.ran
+    (YieldsList-from_slice_split _ (λ x. eqb x 44) c.args.v.now (cc) (cc) (cc) (λ x b q k. search (rules, tests))) (λ x b q k. search rules))
 
-pub slice_bounds-item_stands-end : goal.slice_bounds-item_stands-end
-slice_bounds-item_stands-end c = let e = scanned-le 44 c.args.v.now c.loop-rest.at c.find-e.result c.find-e.ensures in
-    rw (length-take, length-drop) (omega arith)
-
-pub returns-then-not-item_stands : goal.returns-then-not-item_stands
-returns-then-not-item_stands c = let t = part_sort_said c.args.sort in
-    sym (c.loop-rest.invariant.1 ∙ item-wrong t c.args.v.now c.loop-rest.at c.find-e.result c.item_stands.result c.find-e.ensures c.item_stands.ensures (not-true c.item_stands.result c.if-not-item_stands.true-raw))
-
-pub returns-then-e-rest : goal.returns-then-e-rest
-returns-then-e-rest c = let t = part_sort_said c.args.sort in
-    sym (c.loop-rest.invariant.1 ∙ item-last t c.args.v.now c.loop-rest.at c.find-e.result c.item_stands.result c.find-e.ensures c.item_stands.ensures (not-false c.item_stands.result c.if-not-item_stands.false-raw) c.if-e-rest.true)
-
-pub returns-then-not-many : goal.returns-then-not-many
-returns-then-not-many c = let t = part_sort_said c.args.sort in
-    sym (c.loop-rest.invariant.1 ∙ item-alone t c.args.v.now c.loop-rest.at c.find-e.result c.item_stands.result c.find-e.ensures c.item_stands.ensures c.if-e-rest.false (sym c.has_several-many.ensures ∙ not-true c.has_several-many.result c.if-not-many.true-raw))
-
-pub overflow_add-at : goal.overflow_add-at
-overflow_add-at c = let e = scanned-in 44 c.args.v.now c.loop-rest.at c.find-e.result c.find-e.ensures c.if-e-rest.false in
-    omega arith
-
-pub overflow_add-at-in-loop-rest : goal.overflow_add-at-in-loop-rest
-overflow_add-at-in-loop-rest c = let e = scanned-in 44 c.args.v.now c.loop-rest.at c.find-e.result c.find-e.ensures c.if-e-rest.false in
-    omega arith
-
-pub loop-rest-smaller : goal.loop-rest-smaller
-loop-rest-smaller c = let e = scanned-in 44 c.args.v.now c.loop-rest.at c.find-e.result c.find-e.ensures c.if-e-rest.false in
-    omega arith
-
-pub loop-rest-preserved : goal.loop-rest-preserved
-loop-rest-preserved c = let t = part_sort_said c.args.sort in
-    let e = scanned-in 44 c.args.v.now c.loop-rest.at c.find-e.result c.find-e.ensures c.if-e-rest.false in
-    (omega arith, c.loop-rest.invariant.1 ∙ item_on t c.args.v.now c.loop-rest.at c.find-e.result c.item_stands.result c.find-e.ensures c.item_stands.ensures (not-false c.item_stands.result c.if-not-item_stands.false-raw) c.if-e-rest.false (sym c.has_several-many.ensures ∙ not-false c.has_several-many.result c.if-not-many.false-raw))
+pub returns-else-alone : goal.returns-else-alone
+returns-else-alone c = rw (values-tested (part_sort_said c.args.sort) c.args.v.now, ← c.has_several.ensures, ← c.contains-alone.ensures.value, c.if-alone.false.0, c.if-alone.false.1) (search rules)

@@ -5,4 +5,4 @@ use Rattle.calendar.proofs.moments.moment_from.Goals as goal
 
 pub returns : goal.returns
 unfolding moment_from
-returns c = cc (c.year.ensures, c.pair.ensures.0, c.pair-2.ensures.0, c.pair-3.ensures.0, c.pair-4.ensures.0, c.pair-5.ensures.0, c.kind_of-kind.ensures ∙ sym c.requires)
+returns c = cc (c.year.ensures, c.pair.ensures.0, c.pair-2.ensures.0, c.pair-3.ensures.0, c.pair-4.ensures.0, c.pair-5.ensures.0, c.kind_of.ensures ∙ sym c.requires)

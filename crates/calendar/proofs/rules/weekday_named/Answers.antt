@@ -1,22 +1,9 @@
--- `calendar::rules::weekday_named` meets its contract: the second letters behind each first one.
-use borrow.Author.Tests.{ne_eqb}
-use Rattle.calendar.proofs.Choices.{day-s, day-m, day-t, day-w, day-f, day-other}
+-- `calendar::rules::weekday_named` meets its contract: a weekday has two letters.
+use Rattle.calendar.proofs.Choices.{day-missing, day-there}
 use Rattle.calendar.proofs.rules.weekday_named.Goals as goal
 
-pub returns-in-83 : goal.returns-in-83
-returns-in-83 c = rw (c.in-83.is, c.weekday_if.ensures) (day-s _)
+pub returns-then-s-ne2 : goal.returns-then-s-ne2
+returns-then-s-ne2 c = day-missing _ c.if-s-ne2.true
 
-pub returns-in-77 : goal.returns-in-77
-returns-in-77 c = rw (c.in-77.is, c.weekday_if-in-77.ensures) (day-m _)
-
-pub returns-in-84 : goal.returns-in-84
-returns-in-84 c = rw (c.in-84.is, c.weekday_if-in-84.ensures, c.weekday_if-thursday.ensures) (day-t _)
-
-pub returns-in-87 : goal.returns-in-87
-returns-in-87 c = rw (c.in-87.is, c.weekday_if-in-87.ensures) (day-w _)
-
-pub returns-in-70 : goal.returns-in-70
-returns-in-70 c = rw (c.in-70.is, c.weekday_if-in-70.ensures) (day-f _)
-
-pub returns-in_default : goal.returns-in_default
-returns-in_default c = day-other _ _ (ne_eqb _ 83 c.in_default.in_default-own.rest.0.0.0.0.1) (ne_eqb _ 77 c.in_default.in_default-own.rest.0.0.0.1) (ne_eqb _ 84 c.in_default.in_default-own.rest.0.0.1) (ne_eqb _ 87 c.in_default.in_default-own.rest.0.1) (ne_eqb _ 70 c.in_default.in_default-own.rest.1)
+pub returns : goal.returns
+returns c = day-there _ _ _ _ c.if-s-ne2.false c.upper_octet.ensures c.upper_octet-2.ensures c.weekday_lettered.ensures

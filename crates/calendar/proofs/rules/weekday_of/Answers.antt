@@ -1,9 +1,7 @@
--- `calendar::rules::weekday_of` meets its contract: a weekday has two letters.
-use Rattle.calendar.proofs.Choices.{day-missing, day-there}
+-- `calendar::rules::weekday_of` meets its contract.
+use mathlib.Core.Path.{◌∙◌}
+use Rattle.calendar.proofs.Choices.{weekday-or}
 use Rattle.calendar.proofs.rules.weekday_of.Goals as goal
 
-pub returns-then-s-ne2 : goal.returns-then-s-ne2
-returns-then-s-ne2 c = day-missing _ c.if-s-ne2.true
-
 pub returns : goal.returns
-returns c = day-there _ _ _ _ c.if-s-ne2.false c.upper_octet.ensures c.upper_octet-2.ensures c.weekday_named.ensures
+returns c = c.unwrap_or.ensures ∙ weekday-or _ _ c.weekday_named.ensures

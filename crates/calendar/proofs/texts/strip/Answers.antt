@@ -1,23 +1,19 @@
--- `calendar::texts::strip` meets its contract: the loop keeps the octets of the basic text (`Writing`). The measure is what is left of the form.
+-- `calendar::texts::strip` meets its contract: the loop keeps the octets of the basic text (`Writing`).
 use native.Mathlib.Omega.{arith}
-use mathlib.Core.Path.{refl, sym, ◌∙◌}
-use Rattle.calendar.proofs.Slots.{writes, skips, keeps-one, text-ends, form-ends}
+use mathlib.Core.Path.{sym, ◌∙◌}
+use Rattle.std.proofs.lemmas.Slice.Zip.{either_empty_from_Zip}
+use Rattle.calendar.proofs.Slots.{has-room, skips, keeps-one, one-ends}
 use Rattle.calendar.proofs.texts.strip.Goals as goal
 
-pub loop-k-init : goal.loop-k-init
-loop-k-init c = writes _ _ _ refl
+pub bounds-octets-len : goal.bounds-octets-len
+bounds-octets-len c = let w = has-room _ _ _ _ _ _ c.loop-f.invariant _ _ _ _ c.in-Some.ensures.steps.0 c.in-Some.ensures.steps.1 in omega arith
 
-pub returns-then-t-k : goal.returns-then-t-k
-returns-then-t-k c = record { octets = text-ends _ _ _ _ _ c.loop-k.invariant c.if-t-k.true; room = omega (arith, c.loop-k.invariant.wide, c.loop-k.invariant.kept, c.loop-k.invariant.upto, c.requires) }
+pub loop-f-preserved-then-not-is_added : goal.loop-f-preserved-then-not-is_added
+loop-f-preserved-then-not-is_added c =
+    keeps-one _ _ _ _ _ _ c.loop-f.invariant _ _ _ _ c.in-Some.ensures.steps.0 c.in-Some.ensures.steps.1 _ (sym c.is_added.ensures ∙ c.if-not-is_added.true) c.upper_octet.ensures
 
-pub loop-k-preserved-then-is_added : goal.loop-k-preserved-then-is_added
-loop-k-preserved-then-is_added c = skips _ _ _ _ _ c.loop-k.invariant c.loop-k-test.true c.if-t-k.false (sym c.is_added.ensures ∙ c.if-is_added.true)
-
-pub bounds-o-n : goal.bounds-o-n
-bounds-o-n c = omega arith
-
-pub loop-k-preserved : goal.loop-k-preserved
-loop-k-preserved c = keeps-one _ _ _ _ _ c.loop-k.invariant _ c.loop-k-test.true (omega arith) c.if-t-k.false (sym c.is_added.ensures ∙ c.if-is_added.false) c.upper_octet.ensures
+pub loop-f-preserved : goal.loop-f-preserved
+loop-f-preserved c = skips _ _ _ _ _ _ c.loop-f.invariant _ _ _ _ c.in-Some.ensures.steps.0 c.in-Some.ensures.steps.1 (sym c.is_added.ensures ∙ c.if-not-is_added.false)
 
 pub returns : goal.returns
-returns c = record { octets = form-ends _ _ _ _ _ c.loop-k.invariant c.loop-k-test.false; room = omega (arith, c.loop-k.invariant.wide, c.loop-k.invariant.kept, c.loop-k.invariant.upto, c.requires) }
+returns c = one-ends _ _ _ _ _ _ c.loop-f.invariant (either_empty_from_Zip c.loop-f.f-iterator c.next.new.self c.next.result c.in-None.is c.next.ensures.steps)

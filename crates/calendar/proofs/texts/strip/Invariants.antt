@@ -1,11 +1,6 @@
--- `calendar::texts::strip` meets its contract: the loop keeps the octets of the basic text (`Writing`). The measure is what is left of the form.
-use Prim.Native.Nat.{◌-◌}
-use lib.ListN.{length}
+-- `calendar::texts::strip` meets its contract: the loop keeps the octets of the basic text (`Writing`).
 use Rattle.calendar.proofs.Slots.{Writing}
 use Rattle.calendar.proofs.texts.strip.Given as goal
 
-abbrev pub invariant-loop-k : goal.invariant-loop-k
-invariant-loop-k l = Writing l.form l.t l.o l.n l.k
-
-abbrev pub decreases-loop-k : goal.decreases-loop-k
-decreases-loop-k l = length l.form - l.k
+abbrev pub invariant-loop-f : goal.invariant-loop-f
+invariant-loop-f l = Writing l.form l.t l.octets l.len l.f-iterator.a.rest.now l.f-iterator.b.rest.now

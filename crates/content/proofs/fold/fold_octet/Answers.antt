@@ -6,10 +6,10 @@ use Rattle.content.proofs.Folding.{one-broken, one_plain}
 use Rattle.content.proofs.fold.fold_octet.Goals as goal
 
 pub returns-then-breaks : goal.returns-then-breaks
-returns-then-breaks c = one-broken (sym c.breaks.ensures ∙ c.if-breaks.true) c.put_all-to.ensures c.put-end.ensures
+returns-then-breaks c = one-broken (sym c.breaks.ensures ∙ c.if-breaks.true) c.put_all-to.ensures c.put-at.ensures
 
-pub returns-then-column-lt-MOST_COLUMNS : goal.returns-then-column-lt-MOST_COLUMNS
-returns-then-column-lt-MOST_COLUMNS c = one_plain (sym c.breaks.ensures ∙ c.if-breaks.false) (omega (arith, most-columns)) c.put-end-2.ensures
+pub returns-then-p-lt-MOST_COLUMNS : goal.returns-then-p-lt-MOST_COLUMNS
+returns-then-p-lt-MOST_COLUMNS c = one_plain (sym c.breaks.ensures ∙ c.if-breaks.false) (omega (arith, most-columns)) c.put-at-2.ensures
 
-pub returns : goal.returns
-returns c = one_plain (sym c.breaks.ensures ∙ c.if-breaks.false) (omega (arith, most-columns)) c.put-end-2.ensures
+pub returns-else-p-lt-MOST_COLUMNS : goal.returns-else-p-lt-MOST_COLUMNS
+returns-else-p-lt-MOST_COLUMNS c = one_plain (sym c.breaks.ensures ∙ c.if-breaks.false) (omega (arith, most-columns)) c.put-at-2.ensures

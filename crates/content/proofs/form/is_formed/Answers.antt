@@ -1,6 +1,8 @@
 -- `content::form::is_formed` meets its contract.
 use native.Mathlib.Omega.{arith}
-use mathlib.Core.Path.{sym, ◌∙◌}
+use mathlib.Core.Path.{sym, ap, ◌∙◌}
+use Rattle.octets.proofs.Positions.{from}
+use Rattle.content.specs.LinePlaces.{unquoted, place_after, is_value}
 use Rattle.content.proofs.PlaceSpans.{off_name, nonzero, line-none, line-comma, line-tail}
 use Rattle.octets.proofs.Search.{scan-high}
 use Rattle.content.proofs.form.is_formed.Goals as goal
@@ -11,8 +13,13 @@ returns-then-n-eq0 c = sym (line-none c.args.line.now c.run_end-n.result c.run_e
 pub returns-then-peek-eq44 : goal.returns-then-peek-eq44
 returns-then-peek-eq44 c = sym (line-comma c.args.line.now c.run_end-n.result c.run_end-n.ensures (nonzero _ c.if-n-eq0.false) (sym c.peek.ensures ∙ c.if-peek-eq44.true))
 
-pub tail_formed-requires : goal.tail_formed-requires
-tail_formed-requires c = scan-high off_name c.args.line.now 0 c.run_end-n.result c.run_end-n.ensures (omega arith)
+pub slice_bounds-tail_formed-count : goal.slice_bounds-tail_formed-count
+slice_bounds-tail_formed-count c = scan-high off_name c.args.line.now 0 c.run_end-n.result c.run_end-n.ensures (omega arith)
+
+pub slice_bounds-tail_formed-start : goal.slice_bounds-tail_formed-start
+slice_bounds-tail_formed-start c = scan-high off_name c.args.line.now 0 c.run_end-n.result c.run_end-n.ensures (omega arith)
 
 pub returns : goal.returns
-returns c = c.tail_formed.ensures ∙ sym (line-tail c.args.line.now c.run_end-n.result c.run_end-n.ensures (nonzero _ c.if-n-eq0.false) (λ e. c.if-peek-eq44.false (c.peek.ensures ∙ e)))
+returns c = c.tail_formed.ensures
+    ∙ ap (λ r. is_value (place_after unquoted r)) (from c.args.line.now c.run_end-n.result)
+    ∙ sym (line-tail c.args.line.now c.run_end-n.result c.run_end-n.ensures (nonzero _ c.if-n-eq0.false) (λ e. c.if-peek-eq44.false (c.peek.ensures ∙ e)))

@@ -1,23 +1,23 @@
 -- `content::form::tail_formed` meets its contract.
-use native.Mathlib.Omega.{arith}
 use mathlib.Core.Path.{refl, sym, ◌∙◌}
+use native.Mathlib.Omega.{arith}
 use Rattle.content.proofs.PlaceSpans.{tail-end, tail-colon, tail-comma, tail-semicolon, tail-lost}
 use Rattle.content.proofs.form.tail_formed.Goals as goal
 
-pub loop-i-init : goal.loop-i-init
-loop-i-init c = (omega arith, refl)
+pub loop-rest-init : goal.loop-rest-init
+loop-rest-init c = refl
 
 pub returns-in-58 : goal.returns-in-58
-returns-in-58 c = sym (c.loop-i.invariant.1 ∙ tail-colon c.args.s.now c.loop-i.i c.loop-i-test.true c.in-58.is)
+returns-in-58 c = sym (c.loop-rest.invariant ∙ tail-colon c.loop-rest.rest.now 0 (omega arith) (omega arith))
 
-pub loop-i-preserved-in-44 : goal.loop-i-preserved-in-44
-loop-i-preserved-in-44 c = (c.value_end-i.ensures.high, c.loop-i.invariant.1 ∙ tail-comma c.args.s.now c.loop-i.i c.loop-i-test.true c.value_end-i.result c.in-44.is c.value_end-i.ensures)
+pub loop-rest-preserved-in-44 : goal.loop-rest-preserved-in-44
+loop-rest-preserved-in-44 c = c.loop-rest.invariant ∙ tail-comma c.loop-rest.rest.now (omega arith) (omega arith) _ c.value_end.ensures
 
-pub loop-i-preserved : goal.loop-i-preserved
-loop-i-preserved c = (c.param_end-i.ensures.high, c.loop-i.invariant.1 ∙ tail-semicolon c.args.s.now c.loop-i.i c.loop-i-test.true c.param_end-i.result c.in-59.is c.param_end-i.ensures)
+pub loop-rest-preserved : goal.loop-rest-preserved
+loop-rest-preserved c = c.loop-rest.invariant ∙ tail-semicolon c.loop-rest.rest.now (omega arith) (omega arith) _ c.param_end.ensures
 
-pub returns-in_default : goal.returns-in_default
-returns-in_default c = sym (c.loop-i.invariant.1 ∙ tail-lost c.args.s.now c.loop-i.i c.loop-i-test.true c.in_default.in_default-own.rest.0.1 c.in_default.in_default-own.rest.1 c.in_default.in_default-own.rest.0.0.1)
+pub returns-in_default-c : goal.returns-in_default-c
+returns-in_default-c c = sym (c.loop-rest.invariant ∙ tail-lost c.loop-rest.rest.now 0 (omega arith) (λ e. omega arith) (λ e. omega arith) (λ e. omega arith))
 
 pub returns : goal.returns
-returns c = sym (c.loop-i.invariant.1 ∙ tail-end c.args.s.now c.loop-i.i c.loop-i-test.false)
+returns c = sym (c.loop-rest.invariant ∙ tail-end c.loop-rest.rest.now 0 (omega arith))

@@ -1,4 +1,5 @@
 -- `content::object::taken` meets its contract.
+use native.Mathlib.Omega.{arith}
 use borrow.Author.Tests.{ne_eqb}
 use Rattle.content.specs.Object.{octets_read}
 use Rattle.content.proofs.object.taken.Goals as goal
@@ -21,4 +22,4 @@ returns-in-39 c = rw (c.if-c-ne94.false, c.in-39.is)
 
 pub returns-in_default : goal.returns-in_default
 unfolding octets_read
-returns-in_default c = rw (c.if-c-ne94.false, ne_eqb c.args.d 110 c.in_default.in_default-own.rest.0.0.1, ne_eqb c.args.d 94 c.in_default.in_default-own.rest.0.1, ne_eqb c.args.d 39 c.in_default.in_default-own.rest.1)
+returns-in_default c = rw (c.if-c-ne94.false, ne_eqb c.args.d 110 (λ h. omega (arith, h)), ne_eqb c.args.d 94 (λ h. omega (arith, h)), ne_eqb c.args.d 39 (λ h. omega (arith, h)))

@@ -1,17 +1,18 @@
 -- `content::params::value_type` meets its contract.
-use mathlib.Core.Path.{sym, ◌∙◌}
-use Rattle.content.proofs.ParamPlaces.{passing-start}
-use Rattle.content.proofs.ParamAnswers.{tells, type-none, type-here, type-on}
+use mathlib.Core.Path.{refl, sym, ◌∙◌}
+use Rattle.content.specs.Kinds.{value_type_said}
+use Rattle.content.proofs.ParamAnswers.{type-none, type-here, type-on}
 use Rattle.content.proofs.params.value_type.Goals as goal
 
-pub loop-e-init : goal.loop-e-init
-loop-e-init c = passing-start _ _ _ c.next_bare-e.ensures
+pub loop-p-init : goal.loop-p-init
+loop-p-init c = refl
 
 pub returns-then-same_name : goal.returns-then-same_name
-returns-then-same_name c = tells (type-here c.loop-e.invariant c.loop-e-test.true c.param_at-p.ensures (sym c.same_name.ensures ∙ c.if-same_name.true)) c.type_at.ensures
+returns-then-same_name c = c.type_named.ensures ∙ sym (c.loop-p.invariant ∙ type-here _ _ _ _ c.in-Some.ensures.1 (sym c.same_name.ensures ∙ c.if-same_name.true))
 
-pub loop-e-preserved : goal.loop-e-preserved
-loop-e-preserved c = type-on c.loop-e.invariant c.loop-e-test.true c.param_at-p.ensures (sym c.same_name.ensures ∙ c.if-same_name.false)
+pub loop-p-preserved : goal.loop-p-preserved
+loop-p-preserved c = c.loop-p.invariant ∙ type-on _ _ _ _ c.in-Some.ensures.1 (sym c.same_name.ensures ∙ c.if-same_name.false)
 
 pub returns : goal.returns
-returns c = type-none c.loop-e.invariant c.loop-e-test.false
+unfolding value_type_said
+returns c = type-none _ c.in_default.ensures ∙ sym c.loop-p.invariant

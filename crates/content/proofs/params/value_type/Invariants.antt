@@ -1,12 +1,12 @@
 -- `content::params::value_type` meets its contract.
+use mathlib.Core.Path.{◌≡◌}
 use lib.ListN.{length}
-use Prim.Native.Nat.{◌-◌}
+use Rattle.content.specs.Parts.{params_in}
 use Rattle.content.specs.Parameters.{value_type}
-use Rattle.content.proofs.ParamPlaces.{Passing}
 use Rattle.content.proofs.params.value_type.Given as goal
 
-abbrev pub invariant-loop-e : goal.invariant-loop-e
-invariant-loop-e l = Passing value_type l.s 0 l.e
+abbrev pub invariant-loop-p : goal.invariant-loop-p
+invariant-loop-p l = value_type (params_in l.s) ≡ value_type (params_in l.rest)
 
-abbrev pub decreases-loop-e : goal.decreases-loop-e
-decreases-loop-e l = length l.s - l.e
+abbrev pub decreases-loop-p : goal.decreases-loop-p
+decreases-loop-p l = length l.rest

@@ -5,7 +5,7 @@ use Rattle.content.proofs.Tables.{walk_start, walk_end, walk-twice, walk-seen, w
 use Rattle.content.proofs.twice.twice_by.Goals as goal
 
 pub loop-e-init : goal.loop-e-init
-loop-e-init c = (refl, walk_start _ _ _ _ c.requires c.next_bare-e.ensures)
+loop-e-init c = (refl, walk_start _ _ _ c.requires c.next_bare-e.ensures)
 
 pub returns-in-Seen : goal.returns-in-Seen
 returns-in-Seen c = sym (walk-seen c.loop-e.invariant.1 c.loop-e-test.true c.param_at-p.ensures (rw c.in-Seen.is at c.enter.ensures))

@@ -1,4 +1,5 @@
 -- `content::write::fold_encoded_octet` meets its contract.
+use native.Mathlib.Omega.{arith}
 use borrow.Author.Tests.{ne_eqb}
 use Rattle.content.specs.Carets.{encoded_octet}
 use Rattle.content.proofs.write.fold_encoded_octet.Goals as goal
@@ -18,4 +19,4 @@ returns-in-10 c = rw c.in-10.is c.fold_all-in-10.ensures
 pub returns-in_default : goal.returns-in_default
 unfolding encoded_octet
 returns-in_default c = let b = c.args.c in
-    rw (ne_eqb b 94 c.in_default.in_default-own.rest.0.0.1, ne_eqb b 34 c.in_default.in_default-own.rest.0.1, ne_eqb b 10 c.in_default.in_default-own.rest.1) c.fold_octet.ensures
+    rw (ne_eqb b 94 (λ h. omega (arith, h)), ne_eqb b 34 (λ h. omega (arith, h)), ne_eqb b 10 (λ h. omega (arith, h))) c.fold_octet.ensures

@@ -2,41 +2,36 @@
 use Prim.Native.Nat.{◌-◌}
 use mathlib.Core.Path.{refl, sym, ap, ◌∙◌}
 use native.Mathlib.Omega.{arith}
-use Rattle.octets.proofs.Pen.{nothing, then, kept, front-behind, leads-start, leads-on, leads-end, as-text}
+use Rattle.std.proofs.lemmas.Result.{err_from_is_err_and}
+use Rattle.octets.proofs.Pen.{nothing, then, front-behind, leads-start, leads-on, leads-end, as-text}
 use Rattle.content.specs.Fold.{text_of}
 use Rattle.content.proofs.Folding.{lines_then}
 use Rattle.conversion_theory.specs.Skeleton.{is_component}
 use Rattle.ical.proofs.Arrays.{walking_start, walking_here, walking-next, walking-end}
 use Rattle.ical.proofs.ComponentParts.{composed, subs-end, subs-on, subs-off, properties-there, component-refused, subs-there, component-end, component-checked}
-use Rattle.ical.proofs.PropertyTests.{passes, refuses}
 use Rattle.ical.proofs.LineTexts.{sub-lines-end, sub-lines-on, component-lines}
 use Rattle.ical.proofs.components.+convert_component.Goals as goal
 
 pub write_mark-begun-requires : goal.write_mark-begun-requires
 write_mark-begun-requires t c = (c.text_at-name.ensures.order, c.text_at-name.ensures.within)
 
-pub convert_properties-p-requires : goal.convert_properties-p-requires
-convert_properties-p-requires t c = (properties-there _ c.requires.0 c.after-a.ensures c.text_at-name.ensures.behind, c.requires.1)
+pub convert_properties-requires : goal.convert_properties-requires
+convert_properties-requires t c = (properties-there _ c.requires.0 c.after-a.ensures c.text_at-name.ensures.behind, c.requires.1)
 
-pub returns-in_default : goal.returns-in_default
-returns-in_default t c = let r = refuses _ _ _ _ _ _ _ _ c.convert_properties-p.ensures c.in_default.is in
-    rw c.in_default.is (component-refused _ c.requires.0 c.after-a.ensures c.text_at-name.ensures.behind _ r.0, front-behind c.write_mark-begun.ensures r.1)
+pub returns-in_err-c : goal.returns-in_err-c
+returns-in_err-c t c = let r = c.in_err-c.ensures in
+    let p = err_from_is_err_and c.from_residual.result c.from_residual.ensures.1 in
+    rw (p.1, p.2) (component-refused _ c.requires.0 c.after-a.ensures c.text_at-name.ensures.behind _ r.0, front-behind c.write_mark-begun.ensures r.1)
 
 pub loop-e-init : goal.loop-e-init
-loop-e-init t c = let z = passes _ _ _ _ _ _ _ _ c.convert_properties-p.ensures c.in-Passed.is in
+loop-e-init t c = let z = c.in_ok-c.ensures in
     ((_, nothing), refl, walking_start (is_component (c.args.left - 1)) (subs-there _ c.requires.0 c.after-a.ensures c.text_at-name.ensures.behind z.behind) c.after-i.ensures, refl, leads-start)
 
 pub write_mark-ended-requires : goal.write_mark-ended-requires
 write_mark-ended-requires t c = (c.text_at-name.ensures.order, c.text_at-name.ensures.within)
 
-pub shape_of-out-then-tag : goal.shape_of-out-then-tag
-shape_of-out-then-tag t c = omega (arith, kept c.loop-e.invariant.0.1)
-
-pub shape_of-rule-then-tag : goal.shape_of-rule-then-tag
-shape_of-rule-then-tag t c = omega (arith, c.loop-e.invariant.1)
-
 pub returns-then-tag : goal.returns-then-tag
-returns-then-tag t c = let z = passes _ _ _ _ _ _ _ _ c.convert_properties-p.ensures c.in-Passed.is in
+returns-then-tag t c = let z = c.in_ok-c.ensures in
     record {
       faultless = component-checked _ c.requires.0 c.after-a.ensures c.text_at-name.ensures.behind z.behind _ c.after-i.ensures z.faultless ∙ sym c.loop-e.invariant.3 ∙ subs-end _ _ _ _ (sym c.tag.ensures ∙ c.if-tag.true);
       behind = component-end _ c.requires.0 c.after-a.ensures c.text_at-name.ensures.behind z.behind
@@ -48,26 +43,21 @@ returns-then-tag t c = let z = passes _ _ _ _ _ _ _ _ c.convert_properties-p.ens
 pub overflow_sub-left : goal.overflow_sub-left
 overflow_sub-left t c = omega (arith, (composed _ _ c.requires.0).levels)
 
-pub convert_component-s-requires : goal.convert_component-s-requires
-convert_component-s-requires t c = (omega (arith, (composed _ _ c.requires.0).levels, c.decreases), (walking_here c.loop-e.invariant.2 (λ e. c.if-tag.false (c.tag.ensures ∙ e)), omega (arith, c.loop-e.invariant.1, c.requires.1)))
+pub convert_component-requires : goal.convert_component-requires
+convert_component-requires t c = (omega (arith, (composed _ _ c.requires.0).levels, c.decreases), (walking_here c.loop-e.invariant.2 (λ e. c.if-tag.false (c.tag.ensures ∙ e)), omega (arith, c.loop-e.invariant.1, c.requires.1)))
 
-pub shape_of-out-in_default-s : goal.shape_of-out-in_default-s
-shape_of-out-in_default-s t c = c.convert_component-s.auto.out ∙ kept c.loop-e.invariant.0.1 ∙ c.convert_properties-p.auto.out ∙ c.write_mark-begun.auto.out
-
-pub shape_of-rule-in_default-s : goal.shape_of-rule-in_default-s
-shape_of-rule-in_default-s t c = omega (arith, c.loop-e.invariant.1)
-
-pub returns-in_default-s : goal.returns-in_default-s
-returns-in_default-s t c = let z = passes _ _ _ _ _ _ _ _ c.convert_properties-p.ensures c.in-Passed.is in
-    let r = refuses _ _ _ _ _ _ _ _ c.convert_component-s.ensures c.in_default-s.is in
-    rw c.in_default-s.is (component-checked _ c.requires.0 c.after-a.ensures c.text_at-name.ensures.behind z.behind _ c.after-i.ensures z.faultless ∙ sym c.loop-e.invariant.3 ∙ subs-off _ _ _ _ (λ e. c.if-tag.false (c.tag.ensures ∙ e)) r.0, front-behind c.write_mark-begun.ensures (front-behind z.wrote (front-behind c.loop-e.invariant.0.1 r.1)))
+pub returns-in_err-e : goal.returns-in_err-e
+returns-in_err-e t c = let z = c.in_ok-c.ensures in
+    let r = c.in_err-e.ensures in
+    let p = err_from_is_err_and c.from_residual-in_err-e.result c.from_residual-in_err-e.ensures.1 in
+    rw (p.1, p.2) (component-checked _ c.requires.0 c.after-a.ensures c.text_at-name.ensures.behind z.behind _ c.after-i.ensures z.faultless ∙ sym c.loop-e.invariant.3 ∙ subs-off _ _ _ _ (λ e. c.if-tag.false (c.tag.ensures ∙ e)) r.0, front-behind c.write_mark-begun.ensures (front-behind z.wrote (front-behind c.loop-e.invariant.0.1 r.1)))
 
 pub loop-e-smaller : goal.loop-e-smaller
-loop-e-smaller t c = let y = (passes _ _ _ _ _ _ _ _ c.convert_component-s.ensures c.in-Passed-s.is).behind in
+loop-e-smaller t c = let y = c.in_ok-e.ensures.behind in
     omega (arith, y.more (λ e. c.if-tag.false (c.tag.ensures ∙ e)), y.high)
 
 pub loop-e-preserved : goal.loop-e-preserved
-loop-e-preserved t c = let y = passes _ _ _ _ _ _ _ _ c.convert_component-s.ensures c.in-Passed-s.is in (
+loop-e-preserved t c = let y = c.in_ok-e.ensures in (
   (_, then c.loop-e.invariant.0.1 y.wrote),
   omega (arith, c.loop-e.invariant.1),
   walking-next c.loop-e.invariant.2 (λ e. c.if-tag.false (c.tag.ensures ∙ e)) y.behind,

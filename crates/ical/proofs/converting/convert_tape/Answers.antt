@@ -2,16 +2,15 @@
 use mathlib.Core.Path.{sym, ap, ◌∙◌}
 use Rattle.octets.specs.Answers.{answer}
 use Rattle.octets.proofs.Answers.{finished-answer, refused-alike}
-use Rattle.ical.proofs.PropertyTests.{passes, refuses}
 use Rattle.ical.proofs.Stages.{text-refused, text-accepted}
 use Rattle.ical.proofs.converting.convert_tape.Goals as goal
 
-pub convert_sound-c-requires : goal.convert_sound-c-requires
-convert_sound-c-requires c = c.requires
+pub convert_sound-requires : goal.convert_sound-requires
+convert_sound-requires c = c.requires
 
-pub returns-in-Refused : goal.returns-in-Refused
-returns-in-Refused c = c.refuse.ensures ∙ refused-alike _ _ _ c.convert_sound-c.auto.out ∙ ap (λ a. answer a c.args.out.now) (sym (text-refused _ _ (refuses _ _ _ _ _ _ _ _ c.convert_sound-c.ensures c.in-Refused.is).0))
+pub returns-in-Err : goal.returns-in-Err
+returns-in-Err c = c.refuse.ensures ∙ refused-alike _ _ _ c.convert_sound.auto.out ∙ ap (λ a. answer a c.args.out.now) (sym (text-refused _ _ (rw c.in-Err.is at c.convert_sound.ensures).0))
 
-pub returns-in-Passed : goal.returns-in-Passed
-returns-in-Passed c = let y = passes _ _ _ _ _ _ _ _ c.convert_sound-c.ensures c.in-Passed.is in
+pub returns-in-Ok : goal.returns-in-Ok
+returns-in-Ok c = let y = rw c.in-Ok.is at c.convert_sound.ensures in
     c.finish.ensures ∙ finished-answer _ _ _ _ y.wrote ∙ ap (λ a. answer a c.args.out.now) (sym (text-accepted _ _ y.faultless))

@@ -1,12 +1,11 @@
 -- `ical::lines::write_kind` meets its contract.
 use mathlib.Core.Path.{sym}
-use borrow.Author.Tests.{not-true, not-false}
 use Rattle.content.proofs.Folding.{none, then, as-folded}
 use Rattle.ical.proofs.LineTexts.{hidden-kind, shown-kind}
 use Rattle.ical.proofs.lines.write_kind.Goals as goal
 
 pub returns-then-not-shown : goal.returns-then-not-shown
-returns-then-not-shown c = rw (not-true c.args.shown c.if-not-shown.true-raw) (as-folded none (sym (hidden-kind _)))
+returns-then-not-shown c = rw c.if-not-shown.true (as-folded none (sym (hidden-kind _)))
 
 pub returns : goal.returns
-returns c = rw (not-false c.args.shown c.if-not-shown.false-raw) (as-folded (then c.begin_param-q.ensures c.fold_upper.ensures) (sym (shown-kind _ c.requires)))
+returns c = rw c.if-not-shown.false (as-folded (then c.begin_param-q.ensures c.fold_upper.ensures) (sym (shown-kind _ c.requires)))

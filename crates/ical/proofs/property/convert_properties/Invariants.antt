@@ -13,10 +13,10 @@ use Rattle.conversion_theory.specs.ToIcal.{checked_all, property_line}
 use Rattle.ical.proofs.Arrays.{Walking}
 use Rattle.ical.proofs.property.convert_properties.Given as goal
 
-abbrev pub invariant-loop-e : goal.invariant-loop-e
-invariant-loop-e l = ((xs : List ℕ) × Wrote (pen l.initial.out l.initial.q) xs (pen l.out l.q)) × (length l.rule ≡ length l.initial.rule) × Walking is_property l.t l.initial.i l.i
+abbrev pub invariant-loop-at : goal.invariant-loop-at
+invariant-loop-at l = ((xs : List ℕ) × Wrote (pen l.initial.out l.initial.q) xs (pen l.out l.q)) × (length l.rule ≡ length l.initial.rule) × Walking is_property l.t l.initial.i l.i
     × (checked_all (table_in l.rows) (map property_from (list_at l.t l.i)) ≡ checked_all (table_in l.rows) (map property_from (list_at l.t l.initial.i)))
     × Leads (pen l.initial.out l.initial.q) (text_of (map (property_line (table_in l.rows)) (map property_from (list_at l.t l.initial.i)))) (pen l.out l.q) (text_of (map (property_line (table_in l.rows)) (map property_from (list_at l.t l.i))))
 
-abbrev pub decreases-loop-e : goal.decreases-loop-e
-decreases-loop-e l = length l.t - l.i
+abbrev pub decreases-loop-at : goal.decreases-loop-at
+decreases-loop-at l = length l.t - l.i

@@ -3,8 +3,8 @@ use mathlib.Core.Path.{refl}
 use Rattle.ical_properties.proofs.RowAnswers.{listed, unlisted, stated-listed, stated-unlisted}
 use Rattle.ical_properties.proofs.rulings.stated_ruling.Goals as goal
 
-pub returns-in-Listed : goal.returns-in-Listed
-returns-in-Listed c = stated-listed _ _ c.requires c.code_named-c.ensures c.sort_of-s.ensures (listed c.in-Listed.is c.find-f.ensures) refl
+pub returns-in-Some : goal.returns-in-Some
+returns-in-Some c = stated-listed _ _ c.requires c.code_named-c.ensures c.sort_of-s.ensures (listed c.in-Some.is c.find-f.ensures) refl
 
-pub returns-in-Unlisted : goal.returns-in-Unlisted
-returns-in-Unlisted c = stated-unlisted _ _ c.requires c.code_named-c.ensures c.sort_of-s.ensures (unlisted c.in-Unlisted.is c.find-f.ensures)
+pub returns-in-None : goal.returns-in-None
+returns-in-None c = stated-unlisted _ _ c.requires c.code_named-c.ensures c.sort_of-s.ensures (unlisted c.in-None.is c.find-f.ensures)

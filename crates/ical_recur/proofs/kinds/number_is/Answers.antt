@@ -1,31 +1,10 @@
 -- `ical_recur::kinds::number_is` meets its contract.
-use Rattle.octets.specs.Optional.{holds}
-use Rattle.calendar.specs.Walk.{part_sort_said}
-use Rattle.json_text.specs.Tree.{string?, number?}
-use Rattle.values.specs.Recur.{is_word, is_integer, is_until}
-use Rattle.ical_recur.specs.Kinds.{item_is}
+use mathlib.Core.Path.{◌∙◌}
+use Rattle.ical_recur.proofs.CodedSorts.{number-sort, number-other}
 use Rattle.ical_recur.proofs.kinds.number_is.Goals as goal
 
-pub returns-in-Frequency : goal.returns-in-Frequency
-unfolding part_sort_said item_is is_word holds string?
-returns-in-Frequency c = rw c.in-Frequency.is
-
-pub returns-in-Moment : goal.returns-in-Moment
-unfolding part_sort_said item_is is_until holds string?
-returns-in-Moment c = rw c.in-Moment.is
-
 pub returns-in-Count : goal.returns-in-Count
-unfolding part_sort_said item_is is_integer holds number?
-returns-in-Count c = rw c.in-Count.is c.is_integer.ensures
+returns-in-Count c = c.is_integer.ensures ∙ number-sort c.args.sort _ c.in-Count.is
 
-pub returns-in-Weekday : goal.returns-in-Weekday
-unfolding part_sort_said item_is is_word holds string?
-returns-in-Weekday c = rw c.in-Weekday.is
-
-pub returns-in-Ordinal : goal.returns-in-Ordinal
-unfolding part_sort_said item_is is_word holds string?
-returns-in-Ordinal c = rw c.in-Ordinal.is
-
-pub returns-in-Numbers : goal.returns-in-Numbers
-unfolding part_sort_said item_is is_integer holds number?
-returns-in-Numbers c = rw c.in-Numbers.is c.is_integer-in-Numbers.ensures
+pub returns-in_default : goal.returns-in_default
+returns-in_default c = number-other c.args.sort _ c.in_default.not-Count c.in_default.not-Numbers

@@ -1,6 +1,5 @@
 -- `ical_recur::rules::write_rule` meets its contract.
 use mathlib.Core.Path.{sym, ◌∙◌}
-use borrow.Author.Tests.{not-true, not-false}
 use Rattle.octets.proofs.Pen.{front_same}
 use Rattle.content.proofs.Folding.{as-folded}
 use Rattle.ical_recur.proofs.Room.{too_short, long-enough}
@@ -14,25 +13,25 @@ pub returns-then-tag-ne-OBJECT : goal.returns-then-tag-ne-OBJECT
 returns-then-tag-ne-OBJECT c = (long-enough _ _ _ c.if-rule-t.false ∙ no-object-rule _ _ (λ z. c.if-tag-ne-OBJECT.true (c.tag.ensures ∙ z)), front_same)
 
 pub slice_bounds-is_rule-end : goal.slice_bounds-is_rule-end
-slice_bounds-is_rule-end c = let one = rw c.in-To.is at c.lay_members.ensures in
+slice_bounds-is_rule-end c = let one = c.in_ok-n.ensures in
     laid-within (sym c.tag.ensures ∙ c.if-tag-ne-OBJECT.false) c.after-i.ensures c.if-rule-t.false one.1
 
 pub returns-then-not-is_rule : goal.returns-then-not-is_rule
-returns-then-not-is_rule c = let one = rw c.in-To.is at c.lay_members.ensures in
-    (long-enough _ _ _ c.if-rule-t.false ∙ rule-stands (sym c.tag.ensures ∙ c.if-tag-ne-OBJECT.false) c.after-i.ensures c.if-rule-t.false one.1 one.0 ∙ sym c.is_rule.ensures ∙ not-true _ c.if-not-is_rule.true-raw, front_same)
+returns-then-not-is_rule c = let one = c.in_ok-n.ensures in
+    (long-enough _ _ _ c.if-rule-t.false ∙ rule-stands (sym c.tag.ensures ∙ c.if-tag-ne-OBJECT.false) c.after-i.ensures c.if-rule-t.false one.1 one.0 ∙ sym c.is_rule.ensures ∙ c.if-not-is_rule.true, front_same)
 
 pub slice_bounds-fold_rule-end : goal.slice_bounds-fold_rule-end
-slice_bounds-fold_rule-end c = let one = rw c.in-To.is at c.lay_members.ensures in
+slice_bounds-fold_rule-end c = let one = c.in_ok-n.ensures in
     laid-within (sym c.tag.ensures ∙ c.if-tag-ne-OBJECT.false) c.after-i.ensures c.if-rule-t.false one.1
 
-pub returns-in-Invalid : goal.returns-in-Invalid
-returns-in-Invalid c = let one = rw c.in-Invalid.is at c.lay_members.ensures in
-    (long-enough _ _ _ c.if-rule-t.false ∙ other-members (sym c.tag.ensures ∙ c.if-tag-ne-OBJECT.false) c.after-i.ensures one.0, front_same)
+pub returns-in_err-n : goal.returns-in_err-n
+returns-in_err-n c = let one = c.in_err-n.ensures in
+    rw c.from_residual.ensures (long-enough _ _ _ c.if-rule-t.false ∙ other-members (sym c.tag.ensures ∙ c.if-tag-ne-OBJECT.false) c.after-i.ensures one.0, front_same)
 
-pub returns-else-not-is_rule : goal.returns-else-not-is_rule
-returns-else-not-is_rule c = let o = sym c.tag.ensures ∙ c.if-tag-ne-OBJECT.false in
+pub returns : goal.returns
+returns c = let o = sym c.tag.ensures ∙ c.if-tag-ne-OBJECT.false in
     let x = c.after-i.ensures in
     let h = c.if-rule-t.false in
-    let one = rw c.in-To.is at c.lay_members.ensures in
-    let e = sym c.is_rule.ensures ∙ not-false _ c.if-not-is_rule.false-raw in
+    let one = c.in_ok-n.ensures in
+    let e = sym c.is_rule.ensures ∙ c.if-not-is_rule.false in
     (long-enough _ _ _ h ∙ rule-stands o x h one.1 one.0 ∙ e, as-folded c.fold_rule.ensures (normal-text o x h one.1 e))

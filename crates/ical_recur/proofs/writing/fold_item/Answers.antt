@@ -1,27 +1,15 @@
 -- `ical_recur::writing::fold_item` meets its contract.
-use Rattle.calendar.specs.Walk.{part_sort_said, item_shown}
+use Rattle.calendar.specs.Walk.{part_sort_said}
+use Rattle.content.proofs.Folding.{as-folded}
+use Rattle.ical_recur.proofs.CodedSorts.{plain-sort, integer-sort}
 use Rattle.ical_recur.proofs.writing.fold_item.Goals as goal
 
 pub returns-in-Frequency : goal.returns-in-Frequency
-unfolding part_sort_said item_shown
-returns-in-Frequency c = rw c.in-Frequency.is c.fold_upper.ensures
-
-pub returns-in-Moment : goal.returns-in-Moment
-unfolding part_sort_said item_shown
-returns-in-Moment c = rw c.in-Moment.is c.fold_upper-in-Moment.ensures
+returns-in-Frequency c = as-folded c.fold_upper.ensures (plain-sort c.args.sort _ c.in-Frequency.is)
 
 pub returns-in-Count : goal.returns-in-Count
-unfolding part_sort_said item_shown
-returns-in-Count c = rw c.in-Count.is c.fold_integer.ensures
-
-pub returns-in-Weekday : goal.returns-in-Weekday
-unfolding part_sort_said item_shown
-returns-in-Weekday c = rw c.in-Weekday.is c.fold_upper-in-Weekday.ensures
+returns-in-Count c = as-folded c.fold_integer.ensures (integer-sort c.args.sort _ c.in-Count.is)
 
 pub returns-in-Ordinal : goal.returns-in-Ordinal
-unfolding part_sort_said item_shown
+unfolding part_sort_said
 returns-in-Ordinal c = rw c.in-Ordinal.is c.fold_ordinal.ensures
-
-pub returns-in-Numbers : goal.returns-in-Numbers
-unfolding part_sort_said item_shown
-returns-in-Numbers c = rw c.in-Numbers.is c.fold_integer-in-Numbers.ensures

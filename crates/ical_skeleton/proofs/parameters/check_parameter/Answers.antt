@@ -4,7 +4,7 @@ use Rattle.ical_skeleton.proofs.Names.{parameter-string, parameter-empty, parame
 use Rattle.ical_skeleton.proofs.parameters.check_parameter.Goals as goal
 
 pub returns-then-tag-eq-STRING : goal.returns-then-tag-eq-STRING
-returns-then-tag-eq-STRING c = (parameter-string _ _ (sym c.tag.ensures ∙ c.if-tag-eq-STRING.true), c.behind-e.ensures)
+returns-then-tag-eq-STRING c = (parameter-string _ _ (sym c.tag.ensures ∙ c.if-tag-eq-STRING.true), c.behind.ensures)
 
 pub returns-then-tag : goal.returns-then-tag
 returns-then-tag c = parameter-empty _ _ (λ e. c.if-tag-eq-STRING.false (c.tag.ensures ∙ e)) c.after-a.ensures (sym c.tag-2.ensures ∙ c.if-tag.true)

@@ -4,8 +4,8 @@ use lib.ListN.{length}
 use Rattle.ical_skeleton.proofs.Names.{Naming}
 use Rattle.ical_skeleton.proofs.parameters.check_parameters.Given as goal
 
-abbrev pub invariant-loop-e : goal.invariant-loop-e
-invariant-loop-e l = Naming l.t l.initial.i l.i
+abbrev pub invariant-loop-at : goal.invariant-loop-at
+invariant-loop-at l = Naming l.t l.initial.i l.i
 
-abbrev pub decreases-loop-e : goal.decreases-loop-e
-decreases-loop-e l = length l.t - l.i
+abbrev pub decreases-loop-at : goal.decreases-loop-at
+decreases-loop-at l = length l.t - l.i

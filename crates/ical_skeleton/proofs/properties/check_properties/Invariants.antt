@@ -5,8 +5,8 @@ use Rattle.conversion_theory.specs.Skeleton.{is_property}
 use Rattle.ical_skeleton.proofs.Lists.{Passing}
 use Rattle.ical_skeleton.proofs.properties.check_properties.Given as goal
 
-abbrev pub invariant-loop-e : goal.invariant-loop-e
-invariant-loop-e l = Passing is_property l.t l.initial.i l.i
+abbrev pub invariant-loop-at : goal.invariant-loop-at
+invariant-loop-at l = Passing is_property l.t l.initial.i l.i
 
-abbrev pub decreases-loop-e : goal.decreases-loop-e
-decreases-loop-e l = length l.t - l.i
+abbrev pub decreases-loop-at : goal.decreases-loop-at
+decreases-loop-at l = length l.t - l.i

@@ -6,12 +6,11 @@ use Rattle.octets.proofs.Pen.{front_same}
 use Rattle.octets.specs.Optional.{holds, given}
 use Rattle.json_text.specs.Tree.{string?, number?, octets_of}
 use mathlib.Core.Path.{sym, ◌∙◌}
-use borrow.Author.Tests.{not-true, not-false}
 use Rattle.ical_values.proofs.leaves.write_string.Goals as goal
 
 pub returns-then-not-is_duration : goal.returns-then-not-is_duration
 unfolding sort_said value_is is_lettered holds string?
-returns-then-not-is_duration c = rw c.in-Duration.is (sym c.is_duration.ensures ∙ not-true _ c.if-not-is_duration.true-raw, front_same)
+returns-then-not-is_duration c = rw c.in-Duration.is (sym c.is_duration.ensures ∙ c.if-not-is_duration.true, front_same)
 
 pub returns-in-Plain : goal.returns-in-Plain
 unfolding sort_said value_is value_text is_string is_lettered holds string? number? octets_of given
@@ -31,7 +30,7 @@ returns-in-DateTime c = rw c.in-DateTime.is c.write_form-in-DateTime.ensures
 
 pub returns-else-not-is_duration : goal.returns-else-not-is_duration
 unfolding sort_said value_is value_text is_string is_lettered holds string? number? octets_of given
-returns-else-not-is_duration c = rw c.in-Duration.is (sym c.is_duration.ensures ∙ not-false _ c.if-not-is_duration.false-raw, c.fold_upper.ensures)
+returns-else-not-is_duration c = rw c.in-Duration.is (sym c.is_duration.ensures ∙ c.if-not-is_duration.false, c.fold_upper.ensures)
 
 pub returns-in-Text : goal.returns-in-Text
 unfolding sort_said value_is value_text is_string is_lettered holds string? number? octets_of given

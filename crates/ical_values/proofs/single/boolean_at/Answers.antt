@@ -2,6 +2,7 @@
 use Rattle.ical_values.proofs.Places.{false-value, true-value, no-boolean-value}
 use Rattle.octets.proofs.Pen.{front_same}
 use Rattle.content.proofs.Folding.{as-folded}
+use native.Mathlib.Omega.{arith}
 use mathlib.Core.Path.{sym, ◌∙◌}
 use Rattle.ical_values.proofs.single.boolean_at.Goals as goal
 
@@ -14,4 +15,4 @@ returns-in-2 c = let v = true-value _ _ (sym c.tag.ensures ∙ c.in-2.is) in
     (v.0, as-folded c.fold_all-in-2.ensures v.1, c.behind-e.ensures)
 
 pub returns-in_default : goal.returns-in_default
-returns-in_default c = (no-boolean-value _ _ (λ z. c.in_default.in_default-own.rest.0.1 (c.tag.ensures ∙ z)) (λ z. c.in_default.in_default-own.rest.1 (c.tag.ensures ∙ z)), front_same)
+returns-in_default c = (no-boolean-value _ _ (λ z. omega arith) (λ z. omega arith), front_same)

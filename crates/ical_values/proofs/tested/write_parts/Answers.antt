@@ -17,18 +17,18 @@ returns-then-n-lt2 c = (alone-stop _ _ _ (too_few _ _ _ _ c.after-a.ensures (sym
 pub returns-then-n-limit : goal.returns-then-n-limit
 returns-then-n-limit c = (alone-stop _ _ _ (too-full _ _ _ _ c.after-a.ensures (sym c.tag.ensures ∙ c.if-tag-ne-ARRAY.false) _ c.count-n.ensures c.if-n-limit.true), front_same)
 
-pub write_some-v-requires : goal.write_some-v-requires
-write_some-v-requires c = (parts-there _ _ _ _ c.count-n.ensures c.if-n-lt2.false, c.requires)
+pub write_some-requires : goal.write_some-requires
+write_some-requires c = (parts-there _ _ _ _ c.count-n.ensures c.if-n-lt2.false, c.requires)
 
-pub returns-in_default : goal.returns-in_default
-returns-in_default c = let w = rw c.in_default.is at c.write_some-v.ensures in
-    (alone-stop _ _ _ (parts-taken _ _ _ _ c.after-a.ensures (sym c.tag.ensures ∙ c.if-tag-ne-ARRAY.false) _ c.count-n.ensures c.if-n-lt2.false c.if-n-limit.false ∙ w.0), w.1)
+pub returns-in_err-e : goal.returns-in_err-e
+returns-in_err-e c = let w = c.in_err-e.ensures in
+    rw c.from_residual.ensures (alone-stop _ _ _ (parts-taken _ _ _ _ c.after-a.ensures (sym c.tag.ensures ∙ c.if-tag-ne-ARRAY.false) _ c.count-n.ensures c.if-n-lt2.false c.if-n-limit.false ∙ w.0), w.1)
 
 pub returns-then-tag : goal.returns-then-tag
-returns-then-tag c = let w = rw c.in-Written.is at c.write_some-v.ensures in
+returns-then-tag c = let w = c.in_ok-e.ensures in
     (alone-more _ _ _ (next-inside c.after-a.ensures (inl (sym c.tag.ensures ∙ c.if-tag-ne-ARRAY.false)) w.2) (λ z. c.if-tag.true (c.tag-2.ensures ∙ z)), front-wrote w.1.wrote)
 
 pub returns : goal.returns
-returns c = let w = rw c.in-Written.is at c.write_some-v.ensures in
+returns c = let w = c.in_ok-e.ensures in
     let q = sym c.tag.ensures ∙ c.if-tag-ne-ARRAY.false in
     alone _ _ _ (next-inside c.after-a.ensures (inl q) w.2) _ (no-null _ _) (parts-taken _ _ _ _ c.after-a.ensures q _ c.count-n.ensures c.if-n-lt2.false c.if-n-limit.false ∙ w.0) (as-folded w.1 (parts-text _ _ _ c.after-a.ensures q)) (sym c.tag-2.ensures ∙ c.if-tag.false) c.after.ensures

@@ -16,14 +16,14 @@ pub returns-then-tag : goal.returns-then-tag
 unfolding sort_said
 returns-then-tag c = rw (room _ _ c.if-rule-t.false, c.in-Recur.is) (rule-more _ _ _ c.behind-e.ensures (λ z. c.if-tag.true (c.tag.ensures ∙ z)), front_same)
 
-pub returns-in-Written : goal.returns-in-Written
+pub returns : goal.returns
 unfolding sort_said
-returns-in-Written c = let w = rw c.in-Written.is at c.write_rule-w.ensures in
+returns c = let w = c.in_ok-q.ensures in
     let h = c.if-rule-t.false in
-    rw (room _ _ h, c.in-Recur.is) (rule-alone _ _ _ c.behind-e.ensures (sym (long-enough _ _ _ h) ∙ w.0) w.1 (sym c.tag.ensures ∙ c.if-tag.false) c.after-n.ensures)
+    rw (room _ _ h, c.in-Recur.is) (rule-alone _ _ _ c.behind-e.ensures (sym (long-enough _ _ _ h) ∙ w.0) w.1 (sym c.tag.ensures ∙ c.if-tag.false) c.after.ensures)
 
-pub returns-in-NoRule : goal.returns-in-NoRule
+pub returns-in_err-q : goal.returns-in_err-q
 unfolding sort_said
-returns-in-NoRule c = let w = rw c.in-NoRule.is at c.write_rule-w.ensures in
+returns-in_err-q c = let w = c.in_err-q.ensures in
     let h = c.if-rule-t.false in
-    rw (room _ _ h, c.in-Recur.is) (rule-stop _ _ _ (sym (long-enough _ _ _ h) ∙ w.0), w.1)
+    rw (room _ _ h, c.in-Recur.is) (rw c.from_residual.ensures (rule-stop _ _ _ (sym (long-enough _ _ _ h) ∙ w.0), w.1))

@@ -12,7 +12,7 @@ abbrev pub decreases-place_component : goal.decreases-place_component
 decreases-place_component l = l.left
 
 abbrev pub invariant-loop-next : goal.invariant-loop-next
-invariant-loop-next l = (length l.out ≡ length l.initial.out) × Going (read_property (table_in l.rows)) l.buf (l.e + 1) l.in_order (events_in (drop (l.e + 1) l.buf)) l.initial.next l.initial.out l.left l.first l.out l.next
+invariant-loop-next l = (length l.out ≡ length l.initial.out) × Going (read_property (table_in l.calendar.rows.now)) l.calendar.lines.now (l.e + 1) l.calendar.in_order (events_in (drop (l.e + 1) l.calendar.lines.now)) l.initial.next l.initial.out l.left l.first l.out l.next
 
 abbrev pub decreases-loop-next : goal.decreases-loop-next
-decreases-loop-next l = behind_it l.buf l.next
+decreases-loop-next l = behind_it l.calendar.lines.now l.next

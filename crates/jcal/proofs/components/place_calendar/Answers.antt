@@ -9,21 +9,21 @@ use Rattle.jcal.proofs.Stages.{some-line, calendar-few, calendar-ready, calendar
 use Rattle.jcal.proofs.components.place_calendar.Goals as goal
 
 pub end_at-e-requires : goal.end_at-e-requires
-end_at-e-requires c = some-line _ c.requires.lines_value
+end_at-e-requires c = some-line _ c.args.calendar.paired
 
 pub outermost_name-name-requires : goal.outermost_name-name-requires
-outermost_name-name-requires c = record { line_at = c.end_at-e.ensures; lines_value = c.requires.lines_value }
+outermost_name-name-requires c = c.end_at-e.ensures
 
 pub place_component-requires : goal.place_component-requires
 place_component-requires c = let told = c.outermost_name-name.ensures in
-    let f = read_property (table_in c.args.rows.now) in
-    record { buf_len_bound = c.requires.lines_len_bound; named = told.names; buf_value = calendar-ready f _ _ c.end_at-e.ensures c.requires.lines_value _ told _ c.requires.lines_value_2; buf_bound = omega (arith, most-levels, calendar-few f _ _ c.end_at-e.ensures c.requires.lines_value _ told) }
+    let f = read_property (table_in c.args.calendar.rows.now) in
+    record { named = told.names; lines_value = calendar-ready f _ _ c.end_at-e.ensures c.args.calendar.paired _ told _ c.requires; lines_bound = omega (arith, most-levels, calendar-few f _ _ c.end_at-e.ensures c.args.calendar.paired _ told) }
 
-pub returns-in-Sub : goal.returns-in-Sub
-returns-in-Sub c = c.finish.ensures ∙ calendar-placed _ _ _ c.end_at-e.ensures c.requires.lines_value _ c.outermost_name-name.ensures _ _ (Sub _ _ _) (rw c.in-Sub.is at c.place_component.ensures)
+pub returns-in-Ok-Sub : goal.returns-in-Ok-Sub
+returns-in-Ok-Sub c = c.finish.ensures ∙ calendar-placed _ _ _ c.end_at-e.ensures c.args.calendar.paired _ c.outermost_name-name.ensures _ _ (Sub _ _ _) (rw c.in-Ok-Sub.field-0-is at c.in-Ok-Sub.ensures)
 
-pub returns-in-Close : goal.returns-in-Close
-returns-in-Close c = c.finish-in-Close.ensures ∙ calendar-placed _ _ _ c.end_at-e.ensures c.requires.lines_value _ c.outermost_name-name.ensures _ _ (Close _ _) (rw c.in-Close.is at c.place_component.ensures)
+pub returns-in-Ok-Close : goal.returns-in-Ok-Close
+returns-in-Ok-Close c = c.finish-in-Ok-Close.ensures ∙ calendar-placed _ _ _ c.end_at-e.ensures c.args.calendar.paired _ c.outermost_name-name.ensures _ _ (Close _ _) (rw c.in-Ok-Close.field-0-is at c.in-Ok-Close.ensures)
 
-pub returns-in-Refused : goal.returns-in-Refused
-returns-in-Refused c = c.refuse.ensures ∙ calendar-refused _ _ _ c.end_at-e.ensures c.requires.lines_value _ c.outermost_name-name.ensures _ (rw c.in-Refused.is at c.place_component.ensures) c.args.out.now _ (omega (arith, c.place_component.auto.out))
+pub returns-in-Err : goal.returns-in-Err
+returns-in-Err c = c.refuse.ensures ∙ calendar-refused _ _ _ c.end_at-e.ensures c.args.calendar.paired _ c.outermost_name-name.ensures _ c.in-Err.ensures c.args.out.now _ (omega (arith, c.place_component.auto.out))

@@ -9,8 +9,8 @@ use Rattle.jcal.specs.Events.{events_in}
 use Rattle.jcal.proofs.Properties.{Held}
 use Rattle.jcal.proofs.components.place_properties.Given as goal
 
-abbrev pub invariant-loop-i : goal.invariant-loop-i
-invariant-loop-i l = (length l.out ≡ length l.initial.out) × (l.from ≤ l.i) × Held (read_property (table_in l.rows)) l.in_order (events_in (drop l.from l.buf)) (pen l.initial.out l.initial.to) (events_in (drop l.i l.buf)) l.first (pen l.out l.to)
+abbrev pub invariant-loop-line : goal.invariant-loop-line
+invariant-loop-line l = (l.lines.buf.now ≡ l.calendar.lines.now) × (length l.out ≡ length l.initial.out) × (l.from ≤ l.lines.at) × Held (read_property (table_in l.calendar.rows.now)) l.calendar.in_order (events_in (drop l.from l.calendar.lines.now)) (pen l.initial.out l.initial.to) (events_in (drop l.lines.at l.calendar.lines.now)) l.first (pen l.out l.to)
 
-abbrev pub decreases-loop-i : goal.decreases-loop-i
-decreases-loop-i l = length l.buf - l.i
+abbrev pub decreases-loop-line : goal.decreases-loop-line
+decreases-loop-line l = length l.calendar.lines.now - l.lines.at

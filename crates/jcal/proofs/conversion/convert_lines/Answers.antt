@@ -6,12 +6,12 @@ use Rattle.octets.specs.Answers.{Answer, answer}
 use Rattle.jcal.proofs.Stages.{structure-failed, structure-passed, pairs}
 use Rattle.jcal.proofs.conversion.convert_lines.Goals as goal
 
-pub convert_paired-requires : goal.convert_paired-requires
-convert_paired-requires c = let p = structure-passed _ c.test_structure.ensures c.in-Paired.is in
-    record { lines_len_bound = c.requires; lines_value = p.0; in_order_value = p.1 }
+pub invariant_of-calendar : goal.invariant_of-calendar
+invariant_of-calendar c = let p = structure-passed _ c.test_structure.ensures c.in-Ok.is in
+    record { few = c.requires; paired = p.0; order = p.1 }
 
-pub returns-in-Paired : goal.returns-in-Paired
-returns-in-Paired c = c.convert_paired.ensures ∙ ap (λ (a : Answer (List ℕ)). answer a c.args.out.now) (pairs _ _ (structure-passed _ c.test_structure.ensures c.in-Paired.is).0)
+pub returns-in-Ok : goal.returns-in-Ok
+returns-in-Ok c = c.convert_paired.ensures ∙ ap (λ (a : Answer (List ℕ)). answer a c.args.out.now) (pairs _ _ (structure-passed _ c.test_structure.ensures c.in-Ok.is).0)
 
-pub returns-in-Failed : goal.returns-in-Failed
-returns-in-Failed c = c.refuse.ensures ∙ ap (λ (a : Answer (List ℕ)). answer a c.args.out.now) (structure-failed _ _ c.test_structure.ensures c.in-Failed.is)
+pub returns-in-Err : goal.returns-in-Err
+returns-in-Err c = c.refuse.ensures ∙ ap (λ (a : Answer (List ℕ)). answer a c.args.out.now) (structure-failed _ _ c.test_structure.ensures c.in-Err.is)

@@ -4,19 +4,14 @@ use mathlib.Core.List.{List}
 use mathlib.Core.Path.{ap, ◌∙◌}
 use Rattle.octets.specs.Answers.{Answer, answer}
 use Rattle.jcal.proofs.Stages.{properties-failed, ready-tested, ready-ordered}
-use Rattle.jcal.proofs.PropertyTests.{passed-as, failed-as}
-use Rattle.jcal.proofs.conversion.convert_paired.Goals.{then-not-in_order+in_default, else-not-in_order}
+use Rattle.jcal.proofs.conversion.convert_paired.Goals.{then-not-calendar+in_default, else-not-calendar}
 use Rattle.jcal.proofs.conversion.convert_paired.Goals as goal
 
-pub returns-in-Failed : goal.returns-in-Failed
-returns-in-Failed c = c.refuse.ensures ∙ ap (λ (a : Answer (List ℕ)). answer a c.args.out.now) (properties-failed _ _ _ (failed-as c.test_properties.ensures c.in-Failed.is))
+pub returns-in-Err : goal.returns-in-Err
+returns-in-Err c = c.refuse.ensures ∙ ap (λ (a : Answer (List ℕ)). answer a c.args.out.now) (properties-failed _ _ _ c.in-Err.ensures)
 
 pub place_calendar-requires : goal.place_calendar-requires
-place_calendar-requires c = record {
-  lines_len_bound = c.requires.lines_len_bound;
-  lines_value = c.requires.lines_value;
-  lines_value_2 = elim c.if-not-in_order.branch [
-    | then-not-in_order+in_default w ↦ ready-tested _ _ _ w.if-not-in_order.true (passed-as w.test_properties.ensures w.in_default.is)
-    | else-not-in_order w ↦ ready-ordered _ _ _ w.if-not-in_order.false c.requires.in_order_value
-  ];
-}
+place_calendar-requires c = elim c.if-not-calendar.branch [
+  | then-not-calendar+in_default w ↦ ready-tested _ _ _ w.if-not-calendar.true w.in_default.ensures
+  | else-not-calendar w ↦ ready-ordered _ _ _ w.if-not-calendar.false c.args.calendar.order
+]

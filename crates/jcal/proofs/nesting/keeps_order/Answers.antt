@@ -1,6 +1,6 @@
 -- `jcal::nesting::keeps_order` meets its contract.
 use mathlib.Core.Path.{sym}
-use Rattle.octets.proofs.Cases.{and-true-right, and-false-right}
+use Rattle.octets.proofs.Cases.{and-true-right}
 use Rattle.jcal.specs.Order.{may_stand}
 use Rattle.jcal.specs.Events.{line_told}
 use Rattle.jcal.proofs.nesting.keeps_order.Goals as goal
@@ -11,11 +11,8 @@ returns-in-Opens c = unfold line_told may_stand in λ s i. rw c.in-Opens.is (sym
 pub returns-in-Closes : goal.returns-in-Closes
 returns-in-Closes c = unfold line_told may_stand in λ s i. rw c.in-Closes.is (sym (and-true-right c.args.in_order))
 
-pub returns-then-behind : goal.returns-then-behind
-returns-then-behind c = unfold line_told may_stand in λ s i. rw (c.in-Plain.is, c.if-behind.true) (sym (and-false-right c.args.in_order))
-
-pub returns-else-behind : goal.returns-else-behind
-returns-else-behind c = unfold line_told may_stand in λ s i. rw (c.in-Plain.is, c.if-behind.false) (sym (and-true-right c.args.in_order))
+pub returns-then-in_order : goal.returns-then-in_order
+returns-then-in_order c = unfold line_told may_stand in λ s i. rw (c.in-Plain.is, c.if-in_order.true)
 
 pub returns-in-Broken : goal.returns-in-Broken
 returns-in-Broken c = unfold line_told may_stand in λ s i. rw c.in-Broken.is (sym (and-true-right c.args.in_order))

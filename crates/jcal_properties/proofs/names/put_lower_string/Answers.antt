@@ -6,10 +6,10 @@ use Rattle.json_text.specs.Print.{print_string}
 use Rattle.jcal_texts.proofs.Strings.{mapped-on, mapped_end}
 use Rattle.jcal_properties.proofs.names.put_lower_string.Goals as goal
 
-pub loop-i-preserved : goal.loop-i-preserved
+pub loop-c-preserved : goal.loop-c-preserved
 unfolding lower
-loop-i-preserved c = (omega arith, leads-on c.loop-i.invariant.1 (rw c.lower_octet.ensures at c.put_escaped-to.ensures) (mapped-on lower_octet c.args.name.now c.loop-i.i c.loop-i-test.true))
+loop-c-preserved c = (omega arith, leads-on c.loop-c.invariant.1 (rw c.lower_octet.ensures at c.put_escaped-to.ensures) (mapped-on lower_octet c.args.name.now c.loop-c.c-index c.loop-c-test.true))
 
 pub returns : goal.returns
 unfolding print_string lower
-returns c = then c.put-to.ensures (leads-last c.loop-i.invariant.1 c.put.ensures (mapped_end lower_octet c.args.name.now c.loop-i.i c.loop-i-test.false))
+returns c = then c.put-to.ensures (leads-last c.loop-c.invariant.1 c.put.ensures (mapped_end lower_octet c.args.name.now c.loop-c.c-index c.loop-c-test.false))

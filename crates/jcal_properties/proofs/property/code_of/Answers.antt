@@ -1,26 +1,16 @@
 -- `jcal_properties::property::code_of` meets its contract.
-use mathlib.Core.Path.{◌∙◌}
-use lib.ListN.{length}
-use Rattle.content.specs.Kinds.{value_type_said}
+use mathlib.Core.Path.{ap, ◌∙◌}
+use Rattle.types.specs.Laid.{row_found}
 use Rattle.conversion_theory.specs.Property.{type_of, code_of}
-use Rattle.jcal_properties.specs.Shown.{named_type}
-use Rattle.jcal_properties.proofs.PropertyParts.{bounded-as}
+use Rattle.jcal_properties.proofs.PropertyParts.{kind-none, kind-some, kind-fault}
 use Rattle.jcal_properties.proofs.property.code_of.Goals as goal
 
-pub slice_bounds-code_named-count : goal.slice_bounds-code_named-count
-slice_bounds-code_named-count c = (bounded-as (length c.args.params.now) _ c.requires c.in-Stated.is).0
+pub returns-in-Ok-None : goal.returns-in-Ok-None
+returns-in-Ok-None c = c.default_code.ensures ∙ ap (code_of (row_found c.args.found)) (kind-none _ _ c.in-Ok-None.is (rw c.in-Ok-None.is at c.in-Ok-None.field-0-is))
 
-pub slice_bounds-code_named-start : goal.slice_bounds-code_named-start
-slice_bounds-code_named-start c = (bounded-as (length c.args.params.now) _ c.requires c.in-Stated.is).0
+pub returns-in-Ok-Some : goal.returns-in-Ok-Some
+unfolding code_of type_of
+returns-in-Ok-Some c = c.code_named.ensures ∙ ap (code_of (row_found c.args.found)) (kind-some _ _ c.in-Ok-Some.is (rw c.in-Ok-Some.is at c.in-Ok-Some.field-0-is))
 
-pub slice_bounds-code_named-end : goal.slice_bounds-code_named-end
-slice_bounds-code_named-end c = (bounded-as (length c.args.params.now) _ c.requires c.in-Stated.is).1
-
-pub returns-in-Absent : goal.returns-in-Absent
-returns-in-Absent c = unfold value_type_said named_type in c.default_code.ensures ∙ rw c.in-Absent.is
-
-pub returns-in-Stated : goal.returns-in-Stated
-returns-in-Stated c = unfold value_type_said named_type code_of type_of in c.code_named.ensures ∙ rw c.in-Stated.is
-
-pub returns-in-Faulty : goal.returns-in-Faulty
-returns-in-Faulty c = unfold value_type_said named_type in c.default_code-in-Faulty.ensures ∙ rw c.in-Faulty.is
+pub returns-in-Err : goal.returns-in-Err
+returns-in-Err c = c.default_code-in-Err.ensures ∙ ap (code_of (row_found c.args.found)) (kind-fault _ _ c.in-Err.is)

@@ -3,8 +3,8 @@ use Rattle.types.specs.Laid.{row_found}
 use Rattle.conversion_theory.specs.Property.{many_of}
 use Rattle.jcal_properties.proofs.property.is_many.Goals as goal
 
-pub returns-in-Listed : goal.returns-in-Listed
-returns-in-Listed c = unfold many_of row_found in rw c.in-Listed.is
+pub returns-in-Some : goal.returns-in-Some
+returns-in-Some c = unfold many_of row_found in rw c.in-Some.is
 
-pub returns-in-Unlisted : goal.returns-in-Unlisted
-returns-in-Unlisted c = unfold many_of row_found in rw c.in-Unlisted.is
+pub returns-in-None : goal.returns-in-None
+returns-in-None c = unfold many_of row_found in rw c.in-None.is

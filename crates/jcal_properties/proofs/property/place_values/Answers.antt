@@ -5,11 +5,11 @@ use Rattle.conversion_theory.specs.Property.{values_sent}
 use Rattle.jcal_properties.proofs.PropertyParts.{values-wrote}
 use Rattle.jcal_properties.proofs.property.place_values.Goals as goal
 
-pub returns-in-Written : goal.returns-in-Written
+pub returns-in-Some : goal.returns-in-Some
 unfolding values_sent values_of
-returns-in-Written c = values-wrote _ _ _ (rw (c.sort_of-sort.ensures, c.in-Written.is) at c.put_sent.ensures) c.put.ensures
+returns-in-Some c = values-wrote _ _ _ (rw (c.sort_of-sort.ensures, c.in-Some.is) at c.put_sent.ensures) c.put.ensures
 
-pub returns-in-Invalid : goal.returns-in-Invalid
+pub returns-in-None : goal.returns-in-None
 unfolding values_sent values_of
-returns-in-Invalid c = let t = rw (c.sort_of-sort.ensures, c.in-Invalid.is) at c.put_sent.ensures in
+returns-in-None c = let t = rw (c.sort_of-sort.ensures, c.in-None.is) at c.put_sent.ensures in
     (t.0, refl, t.1)

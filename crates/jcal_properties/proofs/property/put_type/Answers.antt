@@ -1,25 +1,18 @@
 -- `jcal_properties::property::put_type` meets its contract.
-use lib.ListN.{length}
-use Rattle.content.specs.Kinds.{value_type_said}
+use mathlib.Core.Path.{ap}
+use Rattle.octets.proofs.Pen.{as-text}
+use Rattle.json_text.specs.Print.{print_string}
+use Rattle.types.specs.Laid.{row_found}
 use Rattle.conversion_theory.specs.Property.{type_of}
-use Rattle.jcal_properties.specs.Shown.{named_type}
-use Rattle.jcal_properties.proofs.PropertyParts.{bounded-as}
+use Rattle.jcal_properties.proofs.PropertyParts.{kind-none, kind-some, kind-fault}
 use Rattle.jcal_properties.proofs.property.put_type.Goals as goal
 
-pub slice_bounds-put_name-count : goal.slice_bounds-put_name-count
-slice_bounds-put_name-count c = (bounded-as (length c.args.params.now) _ c.requires c.in-Stated.is).0
+pub returns-in-Ok-None : goal.returns-in-Ok-None
+returns-in-Ok-None c = as-text c.put_default.ensures (ap (λ t. print_string (type_of (row_found c.args.found) t)) (kind-none _ _ c.in-Ok-None.is (rw c.in-Ok-None.is at c.in-Ok-None.field-0-is)))
 
-pub slice_bounds-put_name-start : goal.slice_bounds-put_name-start
-slice_bounds-put_name-start c = (bounded-as (length c.args.params.now) _ c.requires c.in-Stated.is).0
+pub returns-in-Ok-Some : goal.returns-in-Ok-Some
+unfolding type_of
+returns-in-Ok-Some c = as-text c.put_name.ensures (ap (λ t. print_string (type_of (row_found c.args.found) t)) (kind-some _ _ c.in-Ok-Some.is (rw c.in-Ok-Some.is at c.in-Ok-Some.field-0-is)))
 
-pub slice_bounds-put_name-end : goal.slice_bounds-put_name-end
-slice_bounds-put_name-end c = (bounded-as (length c.args.params.now) _ c.requires c.in-Stated.is).1
-
-pub returns-in-Absent : goal.returns-in-Absent
-returns-in-Absent c = unfold value_type_said named_type in rw c.in-Absent.is c.put_default.ensures
-
-pub returns-in-Stated : goal.returns-in-Stated
-returns-in-Stated c = unfold value_type_said named_type type_of in rw c.in-Stated.is c.put_name.ensures
-
-pub returns-in-Faulty : goal.returns-in-Faulty
-returns-in-Faulty c = unfold value_type_said named_type in rw c.in-Faulty.is c.put_default-in-Faulty.ensures
+pub returns-in-Err : goal.returns-in-Err
+returns-in-Err c = as-text c.put_default-in-Err.ensures (ap (λ t. print_string (type_of (row_found c.args.found) t)) (kind-fault _ _ c.in-Err.is))

@@ -4,8 +4,7 @@ use borrow.Author.Tests.{le-leb}
 use Rattle.octets.specs.Optional.{then?}
 use Rattle.octets.proofs.Limits.{most-text}
 use Rattle.octets.proofs.Pen.{front_same}
-use Rattle.octets.proofs.Positions.{upto}
-use Rattle.values.proofs.Decoded.{told-octets, told-invalid}
+use Rattle.octets.proofs.Optional.{none_is}
 use Rattle.jcal_values.proofs.decoded.+put_decoded_in.Goals as goal
 
 pub put_decoded_in-requires : goal.put_decoded_in-requires
@@ -15,12 +14,12 @@ pub returns-then-work-raw : goal.returns-then-work-raw
 returns-then-work-raw t c = c.put_decoded_in.ensures
 
 pub slice_bounds-put_tested-end : goal.slice_bounds-put_tested-end
-slice_bounds-put_tested-end t c = omega (arith, (told-octets _ _ _ _ c.decode.ensures _ c.in-Octets.is).0)
+slice_bounds-put_tested-end t c = let d = c.in_ok-n.ensures in omega (arith, d.1.0)
 
-pub returns-in-Octets : goal.returns-in-Octets
+pub returns : goal.returns
 unfolding then?
-returns-in-Octets t c = rw (told-octets _ _ _ _ c.decode.ensures _ c.in-Octets.is).1 (rw (upto _ c.in-Octets.n) at c.put_tested.ensures)
+returns t c = let d = c.in_ok-n.ensures in rw d.1.1 c.put_tested.ensures
 
-pub returns-in-Invalid : goal.returns-in-Invalid
+pub returns-in_err-n : goal.returns-in_err-n
 unfolding then?
-returns-in-Invalid t c = (rw (told-invalid _ _ _ _ c.decode.ensures (le-leb _ _ c.if-work-raw.false) c.in-Invalid.is), front_same)
+returns-in_err-n t c = rw c.from_residual.ensures (rw (none_is _ (rw (le-leb _ _ c.if-work-raw.false) at c.in_err-n.ensures)), front_same)

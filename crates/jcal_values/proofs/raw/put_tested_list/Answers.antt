@@ -1,57 +1,42 @@
 -- `jcal_values::raw::put_tested_list` meets its contract.
-use Prim.Native.Nat.{◌-◌, ◌<◌}
-use mathlib.Core.Path.{refl}
+use mathlib.Core.Path.{refl, ◌∙◌}
 use native.Mathlib.Omega.{arith}
-use lib.ListN.{length, take, drop}
-use Rattle.octets.specs.Pen.{pen}
+use lib.Dec.{eqb}
+use Rattle.std.proofs.Common.{rules, tests}
+use Rattle.std.proofs.lemmas.List.{length_push}
+use Rattle.std.proofs.lemmas.Iterator.Consumers.{YieldsList-turn, YieldsList-end, YieldsList-from_enumerate}
+use Rattle.std.proofs.lemmas.Iterator.Splits.{YieldsList-from_slice_split}
+use Rattle.octets.specs.Basics.{◌and◌}
 use Rattle.octets.proofs.Pen.{then}
-use Rattle.json_text.specs.Print.{print}
+use Rattle.values.specs.Sorts.{sort_splits}
 use Rattle.values.specs.Coded.{sort_said}
 use Rattle.jcal_values.specs.Parts.{read_alone}
-use Rattle.jcal_texts.specs.Trying.{Tried}
-use Rattle.jcal_texts.specs.declared.Attempt.TheVariants.{Written}
-use Rattle.jcal_values.proofs.ValueLists.{within, inside, listed_start, value-wrong, value-last, value-alone, value_on}
-use Rattle.jcal_values.proofs.raw.put_tested_list.Tie as tie
-use Rattle.jcal_values.proofs.raw.put_tested_list.Lts as lts
-use Rattle.jcal_values.proofs.raw.put_tested_list.Reads as reads
+use Rattle.jcal_values.proofs.ValueLists.{listed_start, listed_end, value-alone, value-wrong, value_on}
 use Rattle.jcal_values.proofs.raw.put_tested_list.Goals as goal
 
--- the value at i stands and is written
-tried : (c : lts.Past-After-known_told tie.the-claims reads.Pre reads.Post goal.the-invariant-loop-q goal.the-decreases-loop-q)
-    → let value = take (c.value_end-e.result - 0) (drop 0 (take (length c.args.raw.now - c.loop-q.i) (drop c.loop-q.i c.args.raw.now))) in
-    Tried (read_alone (sort_said c.args.sort) value) print (pen c.put-first.new.out c.put-first.result) c.put_tested_one.new.out (Written c.in-Written.q)
-tried c = rw c.in-Written.is at c.put_tested_one.ensures
-
--- a separator stands ahead
-ahead : (c : lts.Else2 tie.the-claims reads.Pre reads.Post goal.the-invariant-loop-q goal.the-decreases-loop-q) → c.value_end-e.result < length c.args.raw.now - c.loop-q.i
-ahead c = inside c.args.raw.now c.loop-q.i c.value_end-e.result c.if-e-rest.false
-
-pub loop-q-init : goal.loop-q-init
-loop-q-init c = (omega arith, refl, listed_start _ _ _ _)
-
-pub slice_bounds-put_tested_one-end : goal.slice_bounds-put_tested_one-end
-slice_bounds-put_tested_one-end c = within c.args.raw.now c.loop-q.i c.value_end-e.result _ c.value_end-e.ensures
-
-pub returns-in-Invalid : goal.returns-in-Invalid
-returns-in-Invalid c = value-wrong _ _ _ _ c.loop-q.invariant.2 _ c.value_end-e.ensures _ c.put-first.ensures (rw c.in-Invalid.is at c.put_tested_one.ensures)
-
-pub returns-then-e-rest : goal.returns-then-e-rest
-returns-then-e-rest c = let t = tried c.before.before in
-    value-last _ _ _ _ c.loop-q.invariant.2 _ c.value_end-e.ensures t.0 t.1 (then c.put-first.ensures t.2) c.if-e-rest.true
+pub loop-n-init : goal.loop-n-init
+loop-n-init c = (refl, listed_start _ _ _ _)
 
 pub returns-then-not-many : goal.returns-then-not-many
-returns-then-not-many c = let t = tried c.before.before.before in
-    value-alone _ _ _ _ c.loop-q.invariant.2 _ c.value_end-e.ensures t.0 t.1 (then c.put-first.ensures t.2) c.if-e-rest.false c.if-not-many.true
+returns-then-not-many c =
+    let t = YieldsList-turn (YieldsList-from_enumerate (YieldsList-from_slice_split _ (λ x. c.splits-splits.result and eqb x 44) c.args.raw.now (cc) (cc) ((cc) ∙ c.split.ensures.closure) (λ x b q k. search (rules, tests))) (cc)) c.loop-n.yielded _ c.loop-n.yielded_by _ _ (c.in-Some.n, c.in-Some.value) c.in-Some.is c.next.ensures.steps in
+    value-alone (read_alone (sort_said c.args.sort)) c.args.many (sort_splits (sort_said c.args.sort)) c.args.raw.now c.loop-n.invariant.1 (c.in-Some.n, c.in-Some.value.now) (rw c.splits-splits.ensures at t) c.if-n-gt0.true c.if-not-many.true
 
-pub overflow_add-i : goal.overflow_add-i
-overflow_add-i c = omega (arith, ahead c.before)
+pub returns-in_err-p : goal.returns-in_err-p
+returns-in_err-p c =
+    let t = YieldsList-turn (YieldsList-from_enumerate (YieldsList-from_slice_split _ (λ x. c.splits-splits.result and eqb x 44) c.args.raw.now (cc) (cc) ((cc) ∙ c.split.ensures.closure) (λ x b q k. search (rules, tests))) (cc)) c.loop-n.yielded _ c.loop-n.yielded_by _ _ (c.in-Some.n, c.in-Some.value) c.in-Some.is c.next.ensures.steps in
+    rw c.from_residual.ensures (value-wrong (read_alone (sort_said c.args.sort)) c.args.many (sort_splits (sort_said c.args.sort)) c.args.raw.now c.loop-n.invariant.1 (c.in-Some.n, c.in-Some.value.now) (rw c.splits-splits.ensures at t) _ c.put-first.ensures c.in_err-p.ensures)
 
-pub overflow_add-i-in-Written : goal.overflow_add-i-in-Written
-overflow_add-i-in-Written c = omega (arith, ahead c.before)
+pub loop-n-preserved : goal.loop-n-preserved
+loop-n-preserved c =
+    let t = YieldsList-turn (YieldsList-from_enumerate (YieldsList-from_slice_split _ (λ x. c.splits-splits.result and eqb x 44) c.args.raw.now (cc) (cc) ((cc) ∙ c.split.ensures.closure) (λ x b q k. search (rules, tests))) (cc)) c.loop-n.yielded _ c.loop-n.yielded_by _ _ (c.in-Some.n, c.in-Some.value) c.in-Some.is c.next.ensures.steps in
+    let w = c.in_ok-p.ensures in
+    rw (length_push c.loop-n.yielded (c.in-Some.n, c.in-Some.value)) (
+      omega (arith, c.loop-n.invariant.0),
+      value_on (read_alone (sort_said c.args.sort)) c.args.many (sort_splits (sort_said c.args.sort)) c.args.raw.now c.loop-n.invariant.1 (c.in-Some.n, c.in-Some.value.now) (rw c.splits-splits.ensures at t) w.0 w.1 (then c.put-first.ensures w.2) c.else-n-gt0.either,
+    )
 
-pub loop-q-smaller : goal.loop-q-smaller
-loop-q-smaller c = omega (arith, ahead c.before)
-
-pub loop-q-preserved : goal.loop-q-preserved
-loop-q-preserved c = let t = tried c.before.before.before in
-    (omega (arith, ahead c.before), omega arith, value_on _ _ _ _ c.loop-q.invariant.2 _ c.value_end-e.ensures t.0 t.1 (then c.put-first.ensures t.2) c.if-e-rest.false c.if-not-many.false)
+pub returns : goal.returns
+returns c =
+    let t = YieldsList-end (YieldsList-from_enumerate (YieldsList-from_slice_split _ (λ x. c.splits-splits.result and eqb x 44) c.args.raw.now (cc) (cc) ((cc) ∙ c.split.ensures.closure) (λ x b q k. search (rules, tests))) (cc)) c.loop-n.yielded _ c.loop-n.yielded_by _ _ c.in-None.is c.next.ensures.steps in
+    listed_end (read_alone (sort_said c.args.sort)) c.args.many (sort_splits (sort_said c.args.sort)) c.args.raw.now c.loop-n.invariant.1 (rw c.splits-splits.ensures at t.1)

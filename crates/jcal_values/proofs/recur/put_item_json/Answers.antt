@@ -1,9 +1,8 @@
 -- `jcal_values::recur::put_item_json` meets its contract.
-use mathlib.Core.Path.{◌∙◌}
+use mathlib.Core.Path.{ap, ◌∙◌}
 use Rattle.octets.proofs.Pen.{as-text}
 use Rattle.calendar.specs.Walk.{part_sort_said}
-use Rattle.values.specs.Shown.{item_json_shown}
-use Rattle.jcal_values.proofs.Quoting.{short-shown}
+use Rattle.values.specs.Shown.{string_shown, item_json_shown}
 use Rattle.jcal_values.proofs.recur.put_item_json.Goals as goal
 
 pub returns-in-Frequency : goal.returns-in-Frequency
@@ -11,7 +10,7 @@ returns-in-Frequency c = unfold part_sort_said item_json_shown in as-text c.put_
 
 pub returns-in-Moment : goal.returns-in-Moment
 unfolding part_sort_said item_json_shown
-returns-in-Moment c = as-text c.put_short.ensures (short-shown _ _ c.extended_moment.ensures ∙ rw c.in-Moment.is)
+returns-in-Moment c = as-text c.put_short.ensures (ap string_shown c.extended_moment.ensures ∙ rw c.in-Moment.is)
 
 pub returns-in-Count : goal.returns-in-Count
 returns-in-Count c = unfold part_sort_said item_json_shown in as-text c.put_item.ensures (rw c.in-Count.is)

@@ -8,4 +8,4 @@ pub returns-then-find-v : goal.returns-then-find-v
 returns-then-find-v c = as-text c.put_item_json.ensures (items-plain _ _ _ c.find.ensures c.if-find-v.true)
 
 pub returns : goal.returns
-returns c = as-text (wrapped _ _ c.put-first.ensures c.put_item_list-close.ensures c.put.ensures) (items-array _ _ _ c.find.ensures c.if-find-v.false)
+returns c = as-text (wrapped _ _ c.put-first.ensures c.put_pieces-close.ensures c.put.ensures) (items-array _ _ _ c.find.ensures c.if-find-v.false)

@@ -1,5 +1,5 @@
 -- `jcal_values::recur::put_part` meets its contract.
-use Rattle.calendar.specs.Walk.{part_sort_said}
+use Rattle.calendar.specs.Walk.{part_said, part_sort_said}
 use Rattle.calendar.proofs.WrittenItems.{part-places}
 use Rattle.jcal_values.proofs.RecurParts.{part-wrote}
 use Rattle.jcal_values.proofs.recur.put_part.Goals as goal
@@ -18,5 +18,4 @@ slice_bounds-put_items-end c = (part-places _ _ c.first_part-part.ensures).2
 
 pub returns : goal.returns
 returns c = let first_part = c.first_part-part in
-    let sort-of = c.sort_of in
-    part-wrote c.args.s.now first_part.result (part_sort_said sort-of.result) first_part.ensures sort-of.ensures c.put_key-behind.ensures c.put_items.ensures
+    part-wrote c.args.s.now (part_said first_part.result) (part_sort_said c.sort_of.result) first_part.ensures c.sort_of.ensures c.put_key-behind.ensures c.put_items.ensures

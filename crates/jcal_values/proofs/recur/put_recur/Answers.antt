@@ -5,4 +5,4 @@ use Rattle.jcal_values.proofs.recur.put_recur.Goals as goal
 
 pub returns : goal.returns
 unfolding recur_shown
-returns c = wrapped _ _ c.put-first.ensures c.put_parts-close.ensures c.put.ensures
+returns c = wrapped _ _ c.put-first.ensures c.put_pieces-close.ensures c.put.ensures

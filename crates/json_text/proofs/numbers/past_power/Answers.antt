@@ -1,27 +1,15 @@
 -- `json_text::numbers::past_power` meets its contract.
-use mathlib.Core.Path.{sym, ◌∙◌}
+use mathlib.Core.Path.{sym, ap, ◌∙◌}
 use native.Mathlib.Omega.{arith}
+use Rattle.octets.proofs.Positions.{from}
 use Rattle.octets.proofs.Runs.{inside_is}
-use Rattle.json_text.proofs.NumberLaws.{power-plus, power-minus, power-bare, found-by}
+use Rattle.json_text.specs.Numbers.{scan, sign}
+use Rattle.json_text.proofs.NumberLaws.{power-sign, power-bare, behind-by}
 use Rattle.json_text.proofs.numbers.past_power.Goals as goal
-
-pub overflow_add-at : goal.overflow_add-at
-overflow_add-at c = omega (arith, inside_is c.args.text.now _ 43 (sym c.peek.ensures ∙ c.in-43.is) (omega arith))
-
-pub past_last_digits-requires : goal.past_last_digits-requires
-past_last_digits-requires c = omega (arith, inside_is c.args.text.now _ 43 (sym c.peek.ensures ∙ c.in-43.is) (omega arith))
-
-pub overflow_add-at-in-45 : goal.overflow_add-at-in-45
-overflow_add-at-in-45 c = omega (arith, inside_is c.args.text.now _ 45 (sym c.peek.ensures ∙ c.in-45.is) (omega arith))
-
-pub past_last_digits-requires-in-45 : goal.past_last_digits-requires-in-45
-past_last_digits-requires-in-45 c = omega (arith, inside_is c.args.text.now _ 45 (sym c.peek.ensures ∙ c.in-45.is) (omega arith))
+use Rattle.json_text.proofs.numbers.past_power.Goals.{in_default-via-then-text-lt1, in_default-via-else-text-lt1+in_default-1}
 
 pub returns-in-43 : goal.returns-in-43
-returns-in-43 c = found-by (power-plus c.args.text.now _ (sym c.peek.ensures ∙ c.in-43.is)) (omega arith) c.past_last_digits.ensures
-
-pub returns-in-45 : goal.returns-in-45
-returns-in-45 c = found-by (power-minus c.args.text.now _ (sym c.peek.ensures ∙ c.in-45.is)) (omega arith) c.past_last_digits-in-45.ensures
+returns-in-43 c = behind-by (power-sign c.args.text.now 0 (λ n. grind (arith, n, c.in-43)) ∙ ap (scan sign) (sym (from c.args.text.now 1))) c.past_sign.ensures
 
 pub returns-in_default : goal.returns-in_default
-returns-in_default c = found-by (power-bare c.args.text.now _ (λ h. c.in_default.in_default-own.rest.0.1 (c.peek.ensures ∙ h)) (λ h. c.in_default.in_default-own.rest.1 (c.peek.ensures ∙ h))) (omega arith) c.past_last_digits-in_default.ensures
+returns-in_default c = behind-by (power-bare c.args.text.now 0 (λ h. elim c.in_default.branch [ in_default-via-then-text-lt1 w ↦ grind (arith, inside_is c.args.text.now 0 43 h (omega arith), w) | in_default-via-else-text-lt1+in_default-1 w ↦ grind (arith, h, w) ]) (λ h. elim c.in_default.branch [ in_default-via-then-text-lt1 w ↦ grind (arith, inside_is c.args.text.now 0 45 h (omega arith), w) | in_default-via-else-text-lt1+in_default-1 w ↦ grind (arith, h, w) ])) c.past_sign-in_default.ensures

@@ -1,22 +1,19 @@
 -- `json_text::numbers::past_unsigned` meets its contract.
-use mathlib.Core.Path.{sym, ◌∙◌}
+use mathlib.Core.Path.{refl, sym, ap, ◌∙◌}
 use native.Mathlib.Omega.{arith}
-use Rattle.json_text.specs.Promise.{missing}
+use Rattle.octets.proofs.Positions.{from}
 use Rattle.octets.proofs.Runs.{inside_is}
-use Rattle.json_text.proofs.NumberLaws.{unsigned-zero, unsigned-none, unsigned-some, found-by}
+use Rattle.json_text.specs.Numbers.{scan, zero}
+use Rattle.json_text.specs.Promise.{nothing}
+use Rattle.json_text.proofs.NumberLaws.{unsigned-zero, unsigned-none, behind-by, no-digit, unsigned-behind}
 use Rattle.json_text.proofs.numbers.past_unsigned.Goals as goal
+use Rattle.json_text.proofs.numbers.past_unsigned.Goals.{in_default-via-then-text-lt1, in_default-via-else-text-lt1+in_default-1}
 
-pub overflow_add-at : goal.overflow_add-at
-overflow_add-at c = omega (arith, inside_is c.args.text.now _ 48 (sym c.peek.ensures ∙ c.if-peek-eq48.true) (omega arith))
+pub returns-in-48 : goal.returns-in-48
+returns-in-48 c = behind-by (unsigned-zero c.args.text.now 0 (omega arith) ∙ ap (scan zero) (sym (from c.args.text.now 1))) c.past_whole.ensures
 
-pub past_whole-requires : goal.past_whole-requires
-past_whole-requires c = omega (arith, inside_is c.args.text.now _ 48 (sym c.peek.ensures ∙ c.if-peek-eq48.true) (omega arith))
+pub returns-in_err-past_digits-in_default : goal.returns-in_err-past_digits-in_default
+returns-in_err-past_digits-in_default c = rw c.from_residual.ensures (nothing (unsigned-none c.args.text.now (no-digit c.past_digits.ensures c.in_err-past_digits-in_default.was) (λ h. elim c.in_default.branch [ in_default-via-then-text-lt1 w ↦ grind (arith, inside_is c.args.text.now 0 48 h (omega arith), w) | in_default-via-else-text-lt1+in_default-1 w ↦ grind (arith, h, w) ]) refl))
 
-pub returns-then-peek-eq48 : goal.returns-then-peek-eq48
-returns-then-peek-eq48 c = found-by (unsigned-zero c.args.text.now _ (sym c.peek.ensures ∙ c.if-peek-eq48.true)) (omega arith) c.past_whole.ensures
-
-pub returns-then-i-at : goal.returns-then-i-at
-returns-then-i-at c = missing (unsigned-none c.args.text.now c.past_digits-i.ensures (λ h. c.if-peek-eq48.false (c.peek.ensures ∙ h)) c.if-i-at.true)
-
-pub returns : goal.returns
-returns c = found-by (unsigned-some c.args.text.now c.past_digits-i.ensures (λ h. c.if-peek-eq48.false (c.peek.ensures ∙ h)) c.if-i-at.false) (omega arith) c.past_whole-2.ensures
+pub returns-in_ok-past_digits-in_default : goal.returns-in_ok-past_digits-in_default
+returns-in_ok-past_digits-in_default c = unsigned-behind (λ h. elim c.in_default.branch [ in_default-via-then-text-lt1 w ↦ grind (arith, inside_is c.args.text.now 0 48 h (omega arith), w) | in_default-via-else-text-lt1+in_default-1 w ↦ grind (arith, h, w) ]) c.past_digits.ensures c.in_ok-past_digits-in_default.was c.past_whole-in_default.ensures

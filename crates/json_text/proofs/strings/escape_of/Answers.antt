@@ -1,33 +1,40 @@
 -- `json_text::strings::escape_of` meets its contract.
-use borrow.Author.Tests.{ne_eqb}
+use mathlib.Core.Path.{◌≡◌}
+use native.Mathlib.Omega.{arith}
+use borrow.Author.Tests.{eqb-true, eqb-false}
+use lib.Dec.{eqb}
+use Rattle.octets.proofs.Cases.{cases}
 use Rattle.json_text.specs.Strings.{escape_of}
+use Rattle.json_text.specs.Promise.{unless_zero}
+use Rattle.json_text.proofs.StringLaws.{none-is}
 use Rattle.json_text.proofs.strings.escape_of.Goals as goal
+use borrow.Author.Tests.{ne_eqb}
 
 pub returns-in-34 : goal.returns-in-34
-returns-in-34 c = unfold escape_of in rw c.in-34.is
-
-pub returns-in-92 : goal.returns-in-92
-returns-in-92 c = unfold escape_of in rw c.in-92.is
-
-pub returns-in-47 : goal.returns-in-47
-returns-in-47 c = unfold escape_of in rw c.in-47.is
+unfolding unless_zero escape_of
+returns-in-34 c = cases (eqb c.args.b 34) (λ y. rw (eqb-true _ 34 y))
+    (λ n. cases (eqb c.args.b 92) (λ y. rw (eqb-true _ 92 y)) (λ m. let e : c.args.b ≡ 47 = grind (arith, eqb-false _ 34 n, eqb-false _ 92 m, c.in-34) in rw e))
 
 pub returns-in-98 : goal.returns-in-98
-returns-in-98 c = unfold escape_of in rw c.in-98.is
+unfolding unless_zero escape_of
+returns-in-98 c = rw c.in-98.is
 
 pub returns-in-102 : goal.returns-in-102
-returns-in-102 c = unfold escape_of in rw c.in-102.is
+unfolding unless_zero escape_of
+returns-in-102 c = rw c.in-102.is
 
 pub returns-in-110 : goal.returns-in-110
-returns-in-110 c = unfold escape_of in rw c.in-110.is
+unfolding unless_zero escape_of
+returns-in-110 c = rw c.in-110.is
 
 pub returns-in-114 : goal.returns-in-114
-returns-in-114 c = unfold escape_of in rw c.in-114.is
+unfolding unless_zero escape_of
+returns-in-114 c = rw c.in-114.is
 
 pub returns-in-116 : goal.returns-in-116
-returns-in-116 c = unfold escape_of in rw c.in-116.is
+unfolding unless_zero escape_of
+returns-in-116 c = rw c.in-116.is
 
 pub returns-in_default : goal.returns-in_default
 unfolding escape_of
-returns-in_default c = let r = c.in_default.in_default-own.rest in
-    simp (ne_eqb _ _ r.0.0.0.0.0.0.0.1, ne_eqb _ _ r.0.0.0.0.0.0.1, ne_eqb _ _ r.0.0.0.0.0.1, ne_eqb _ _ r.0.0.0.0.1, ne_eqb _ _ r.0.0.0.1, ne_eqb _ _ r.0.0.1, ne_eqb _ _ r.0.1, ne_eqb _ _ r.1)
+returns-in_default c = none-is _ (rw (ne_eqb c.args.b 34 (λ h. grind (arith, h, c.in_default)), ne_eqb c.args.b 92 (λ h. grind (arith, h, c.in_default)), ne_eqb c.args.b 47 (λ h. grind (arith, h, c.in_default)), ne_eqb c.args.b 98 (λ h. grind (arith, h, c.in_default)), ne_eqb c.args.b 102 (λ h. grind (arith, h, c.in_default)), ne_eqb c.args.b 110 (λ h. grind (arith, h, c.in_default)), ne_eqb c.args.b 114 (λ h. grind (arith, h, c.in_default)), ne_eqb c.args.b 116 (λ h. grind (arith, h, c.in_default))))

@@ -1,20 +1,23 @@
 -- `json_text::strings::hex4` meets its contract.
 use mathlib.Core.Path.{sym, ◌∙◌}
-use borrow.Author.Tests.{le-ltb}
-use Rattle.json_text.proofs.StringLaws.{small, hex4-at}
+use Rattle.octets.proofs.Optional.{when-is, when-none}
+use Rattle.json_text.proofs.StringLaws.{hex4-at, hex4-short}
 use Rattle.json_text.proofs.strings.hex4.Goals as goal
 
-pub returns-then-a-gt15 : goal.returns-then-a-gt15
-returns-then-a-gt15 c = sym (hex4-at c.args.text.now c.args.at ∙ rw (← c.digit-a.ensures, le-ltb _ 16 c.if-a-gt15.true))
+pub returns-in_default : goal.returns-in_default
+returns-in_default c = sym (hex4-short _ c.in_default.len_below)
 
-pub returns-then-b-gt15 : goal.returns-then-b-gt15
-returns-then-b-gt15 c = sym (hex4-at c.args.text.now c.args.at ∙ rw (← c.digit-a.ensures, small _ c.if-a-gt15.false, ← c.digit-b.ensures, le-ltb _ 16 c.if-b-gt15.true))
+pub returns-in_err-a : goal.returns-in_err-a
+returns-in_err-a c = rw c.from_residual.ensures (sym (hex4-at c.args.text.now 0 ∙ rw (when-none _ _ (sym c.in_err-a.ensures.value))))
 
-pub returns-then-c-gt15 : goal.returns-then-c-gt15
-returns-then-c-gt15 c = sym (hex4-at c.args.text.now c.args.at ∙ rw (← c.digit-a.ensures, small _ c.if-a-gt15.false, ← c.digit-b.ensures, small _ c.if-b-gt15.false, ← c.digit-c.ensures, le-ltb _ 16 c.if-c-gt15.true))
+pub returns-in_err-b : goal.returns-in_err-b
+returns-in_err-b c = let xa = when-is _ _ _ (sym c.in_ok-a.ensures.value) in rw c.from_residual-in_err-b.ensures (sym (hex4-at c.args.text.now 0 ∙ rw (xa.0, when-none _ _ (sym c.in_err-b.ensures.value))))
 
-pub returns-then-d-gt15 : goal.returns-then-d-gt15
-returns-then-d-gt15 c = sym (hex4-at c.args.text.now c.args.at ∙ rw (← c.digit-a.ensures, small _ c.if-a-gt15.false, ← c.digit-b.ensures, small _ c.if-b-gt15.false, ← c.digit-c.ensures, small _ c.if-c-gt15.false, ← c.digit-d.ensures, le-ltb _ 16 c.if-d-gt15.true))
+pub returns-in_err-c : goal.returns-in_err-c
+returns-in_err-c c = let xa = when-is _ _ _ (sym c.in_ok-a.ensures.value) in let xb = when-is _ _ _ (sym c.in_ok-b.ensures.value) in rw c.from_residual-in_err-c.ensures (sym (hex4-at c.args.text.now 0 ∙ rw (xa.0, xb.0, when-none _ _ (sym c.in_err-c.ensures.value))))
+
+pub returns-in_err-d : goal.returns-in_err-d
+returns-in_err-d c = let xa = when-is _ _ _ (sym c.in_ok-a.ensures.value) in let xb = when-is _ _ _ (sym c.in_ok-b.ensures.value) in let xc = when-is _ _ _ (sym c.in_ok-c.ensures.value) in rw c.from_residual-in_err-d.ensures (sym (hex4-at c.args.text.now 0 ∙ rw (xa.0, xb.0, xc.0, when-none _ _ (sym c.in_err-d.ensures.value))))
 
 pub returns : goal.returns
-returns c = sym (hex4-at c.args.text.now c.args.at ∙ rw (← c.digit-a.ensures, small _ c.if-a-gt15.false, ← c.digit-b.ensures, small _ c.if-b-gt15.false, ← c.digit-c.ensures, small _ c.if-c-gt15.false, ← c.digit-d.ensures, small _ c.if-d-gt15.false))
+returns c = let xa = when-is _ _ _ (sym c.in_ok-a.ensures.value) in let xb = when-is _ _ _ (sym c.in_ok-b.ensures.value) in let xc = when-is _ _ _ (sym c.in_ok-c.ensures.value) in let xd = when-is _ _ _ (sym c.in_ok-d.ensures.value) in rw (sym xa.1, sym xb.1, sym xc.1, sym xd.1) (sym (hex4-at c.args.text.now 0 ∙ rw (xa.0, xb.0, xc.0, xd.0)))

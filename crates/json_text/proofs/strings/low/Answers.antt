@@ -1,26 +1,32 @@
 -- `json_text::strings::low` meets its contract.
-use mathlib.Core.Path.{sym, ◌∙◌}
+use mathlib.Core.Path.{◌≡◌, sym, ◌∙◌}
 use native.Mathlib.Omega.{arith}
-use borrow.Author.Tests.{ne_eqb, eq-eqb}
 use Rattle.octets.proofs.Classes.{within-between, below-between, above-between}
-use Rattle.octets.proofs.Runs.{inside_is}
-use Rattle.json_text.proofs.StringLaws.{low-at, low-of}
+use Rattle.octets.proofs.Positions.{from}
+use Rattle.json_text.specs.Strings.{low_surrogate}
+use Rattle.json_text.proofs.StringLaws.{none-is, some-is, low-short, low-first, low-second, low-both, low-some, low-none}
 use Rattle.json_text.proofs.strings.low.Goals as goal
+use Rattle.json_text.proofs.strings.low.Goals.{else-l-ge56320-via-then-l-ge56320+else-l-le57343, else-l-ge56320-via-else-l-ge56320}
 
-pub returns-then-peek-ne92 : goal.returns-then-peek-ne92
-returns-then-peek-ne92 c = sym (low-at c.args.text.now c.args.at ∙ rw (← c.peek.ensures, ne_eqb _ 92 c.if-peek-ne92.true))
+pub returns-in_default : goal.returns-in_default
+returns-in_default c = none-is _ (low-short c.args.text.now c.in_default.len_below)
 
-pub returns-then-peek-ne117 : goal.returns-then-peek-ne117
-returns-then-peek-ne117 c = sym (low-at c.args.text.now c.args.at ∙ rw (← c.peek.ensures, eq-eqb _ 92 c.if-peek-ne92.false, ← c.peek-2.ensures, ne_eqb _ 117 c.if-peek-ne117.true))
+pub returns-in_default-2 : goal.returns-in_default-2
+returns-in_default-2 c = none-is _ (low-second c.args.text.now (λ h. omega (arith, h)))
 
-pub hex4-l-requires : goal.hex4-l-requires
-hex4-l-requires c = omega (arith, inside_is c.args.text.now _ 117 (sym c.peek-2.ensures ∙ c.if-peek-ne117.false) (omega arith))
+pub returns-in_default-3 : goal.returns-in_default-3
+returns-in_default-3 c = none-is _ (low-first c.args.text.now (λ h. omega (arith, h)))
 
-pub returns-then-l-lt56320 : goal.returns-then-l-lt56320
-returns-then-l-lt56320 c = sym (low-at c.args.text.now c.args.at ∙ rw (← c.peek.ensures, eq-eqb _ 92 c.if-peek-ne92.false, ← c.peek-2.ensures, eq-eqb _ 117 c.if-peek-ne117.false, low-of, ← c.hex4-l.ensures, below-between 56320 57343 _ c.if-l-lt56320.true))
+pub returns-in_err-l : goal.returns-in_err-l
+returns-in_err-l c = rw c.from_residual.ensures (none-is _ (low-both c.args.text.now (omega arith) (omega arith) ∙ low-none _ (sym (rw (from c.args.text.now 2) at c.hex4.ensures) ∙ c.in_err-l.was)))
 
-pub returns-then-l-gt57343 : goal.returns-then-l-gt57343
-returns-then-l-gt57343 c = sym (low-at c.args.text.now c.args.at ∙ rw (← c.peek.ensures, eq-eqb _ 92 c.if-peek-ne92.false, ← c.peek-2.ensures, eq-eqb _ 117 c.if-peek-ne117.false, low-of, ← c.hex4-l.ensures, above-between 56320 57343 _ c.if-l-gt57343.true))
+pub returns-then-l-le57343 : goal.returns-then-l-le57343
+returns-then-l-le57343 c =
+    let e : low_surrogate c.args.text.now ≡ c.in_ok-l.l = low-both c.args.text.now (omega arith) (omega arith) ∙ low-some _ (sym (rw (from c.args.text.now 2) at c.hex4.ensures) ∙ c.in_ok-l.was) ∙ rw (within-between 56320 57343 c.in_ok-l.l c.if-l-ge56320.true c.if-l-le57343.true) in
+    rw e (some-is c.in_ok-l.l (λ z. omega (arith, c.if-l-ge56320.true)))
 
 pub returns : goal.returns
-returns c = sym (low-at c.args.text.now c.args.at ∙ rw (← c.peek.ensures, eq-eqb _ 92 c.if-peek-ne92.false, ← c.peek-2.ensures, eq-eqb _ 117 c.if-peek-ne117.false, low-of, ← c.hex4-l.ensures, within-between 56320 57343 _ c.if-l-lt56320.false c.if-l-gt57343.false))
+returns c = none-is _ (low-both c.args.text.now (omega arith) (omega arith) ∙ low-some _ (sym (rw (from c.args.text.now 2) at c.hex4.ensures) ∙ c.in_ok-l.was) ∙ elim c.else-l-ge56320.branch [
+  | else-l-ge56320-via-then-l-ge56320+else-l-le57343 w ↦ rw (above-between 56320 57343 c.in_ok-l.l (omega (arith, w.if-l-le57343.false)))
+  | else-l-ge56320-via-else-l-ge56320 w ↦ rw (below-between 56320 57343 c.in_ok-l.l (omega (arith, w.if-l-ge56320.false)))
+])

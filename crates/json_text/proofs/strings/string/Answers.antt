@@ -1,51 +1,34 @@
 -- `json_text::strings::string` meets its contract.
-use Prim.Native.Nat.{◌+◌}
-use mathlib.Core.Path.{refl, sym, ◌∙◌}
+use mathlib.Core.Path.{refl, ap, ◌∙◌}
 use native.Mathlib.Omega.{arith}
-use lib.ListN.{drop}
-use Rattle.octets.specs.Pen.{pen}
+use lib.ListN.{length, get_or}
 use Rattle.octets.specs.Groups.{json_unescaped}
-use Rattle.json_text.specs.Strings.{escape as escape_text, string as string_of}
-use Rattle.json_text.specs.Tape.{ser_text}
-use Rattle.octets.proofs.Runs.{run-next, inside_is}
-use Rattle.json_text.proofs.Agreements.{HasRead, was_read, agrees-behind, Going, going_start}
-use Rattle.json_text.proofs.Texts.{text-run, text-close, text-none, text-fails, text-escape}
-use Rattle.json_text.proofs.strings.string.Tie as tie
-use Rattle.json_text.proofs.strings.string.Lts as lts
-use Rattle.json_text.proofs.strings.string.Reads as reads
+use Rattle.std.proofs.lemmas.Result.{err_from_is_err_and}
+use Rattle.octets.proofs.Positions.{first_of}
+use Rattle.octets.proofs.Runs.{run-found, run-next, inside_is}
+use Rattle.json_text.proofs.Agreements.{begins, was_read, agrees-behind, going_start}
+use Rattle.json_text.proofs.Texts.{text-run, text-close, text-none, text-fails, text-escape, escape-less}
 use Rattle.json_text.proofs.strings.string.Goals as goal
+use Rattle.json_text.proofs.strings.string.Goals.{in_default-via-then-ended-lt1, in_default-via-else-ended-lt1+in_default-1}
 
-going : (c : lts.After-peek tie.the-claims reads.Pre reads.Post goal.the-invariant-loop-tape goal.the-decreases-loop-tape) → Going ser_text string_of c.args.text.now c.args.at (pen c.put-p.new.out c.put-p.result) c.args.at (pen c.put_all-q.new.out c.put_all-q.result) c.past_unescaped-e.result
-going c = text-run c.loop-tape.invariant.3 c.past_unescaped-e.ensures c.put_all-q.ensures
+pub split_at-requires : goal.split_at-requires
+split_at-requires c = let w = (run-found {class = json_unescaped} c.loop-ended.left.now 0 c.long_run_end-n.result (omega arith) c.long_run_end-n.ensures) in w.below
 
-escaped : (c : lts.Past-After-known_told tie.the-claims reads.Pre reads.Post goal.the-invariant-loop-tape goal.the-decreases-loop-tape) → HasRead (λ xs. xs) c.args.text.now (c.past_unescaped-e.result + 1) (pen c.put_all-q.new.out c.put_all-q.result) c.escape-v.new.tape (escape_text (drop (c.past_unescaped-e.result + 1) c.args.text.now)) c.in-Read.n c.in-Read.m
-escaped c = was_read c.escape-v.ensures c.in-Read.is
+pub loop-ended-init : goal.loop-ended-init
+loop-ended-init c = (refl, going_start)
 
-pub loop-tape-init : goal.loop-tape-init
-loop-tape-init c = (omega arith, omega arith, refl, going_start)
+pub returns-in-34 : goal.returns-in-34
+returns-in-34 c = agrees-behind c.put-p.ensures (text-close (text-run c.loop-ended.invariant.1 (run-found {class = json_unescaped} c.loop-ended.left.now 0 c.long_run_end-n.result (omega arith) c.long_run_end-n.ensures) (rw c.split_at.ensures.front at c.put_all-q.ensures) c.split_at.ensures.back) (begins c.split_at.result.1.now 34 (omega arith) (omega arith)) c.put.ensures)
 
-pub overflow_add-result : goal.overflow_add-result
-overflow_add-result c = omega (arith, inside_is c.args.text.now _ 34 (sym c.peek-b.ensures ∙ c.if-b-eq34.true) (omega arith))
+pub returns-in_err-behind-in-92 : goal.returns-in_err-behind-in-92
+returns-in_err-behind-in-92 c = let p = err_from_is_err_and c.from_residual.result c.from_residual.ensures.1 in rw (p.1, p.2) (agrees-behind c.put-p.ensures (text-fails (text-run c.loop-ended.invariant.1 (run-found {class = json_unescaped} c.loop-ended.left.now 0 c.long_run_end-n.result (omega arith) c.long_run_end-n.ensures) (rw c.split_at.ensures.front at c.put_all-q.ensures) c.split_at.ensures.back) (begins c.split_at.result.1.now 92 (omega arith) (omega arith)) (rw c.in_err-behind-in-92.was at c.escape.ensures)))
 
-pub returns-then-b-eq34 : goal.returns-then-b-eq34
-returns-then-b-eq34 c = agrees-behind c.put-p.ensures (text-close (going c.before.before.before.before.before.before) (sym c.peek-b.ensures ∙ c.if-b-eq34.true) (omega arith) c.put.ensures)
+pub loop-ended-smaller : goal.loop-ended-smaller
+loop-ended-smaller c = let x = was_read c.escape.ensures c.in_ok-behind-in-92.was in omega (arith, escape-less _ x.is, ap length (begins c.split_at.result.1.now 92 (omega arith) (omega arith)), c.split_at.ensures.back_len)
 
-pub returns-then-b-ne92 : goal.returns-then-b-ne92
-unfolding json_unescaped
-returns-then-b-ne92 c = agrees-behind c.put-p.ensures (text-none (going c.before.before.before) (run-next refl c.past_unescaped-e.ensures) (λ h. c.if-b-eq34.false (c.peek-b.ensures ∙ h)) (λ h. c.if-b-ne92.true (c.peek-b.ensures ∙ h)))
-
-pub overflow_add-e : goal.overflow_add-e
-overflow_add-e c = omega (arith, inside_is c.args.text.now _ 92 (sym c.peek-b.ensures ∙ c.if-b-ne92.false) (omega arith))
-
-pub escape-v-requires : goal.escape-v-requires
-escape-v-requires c = omega (arith, inside_is c.args.text.now _ 92 (sym c.peek-b.ensures ∙ c.if-b-ne92.false) (omega arith))
+pub loop-ended-preserved : goal.loop-ended-preserved
+loop-ended-preserved c = (omega arith, text-escape (text-run c.loop-ended.invariant.1 (run-found {class = json_unescaped} c.loop-ended.left.now 0 c.long_run_end-n.result (omega arith) c.long_run_end-n.ensures) (rw c.split_at.ensures.front at c.put_all-q.ensures) c.split_at.ensures.back) (begins c.split_at.result.1.now 92 (omega arith) (omega arith)) (was_read c.escape.ensures c.in_ok-behind-in-92.was))
 
 pub returns-in_default : goal.returns-in_default
-returns-in_default c = agrees-behind c.put-p.ensures (text-fails (going c.before.before.before.before.before.before.before.before) (sym c.peek-b.ensures ∙ c.if-b-ne92.false) c.in_default.not-Read c.escape-v.ensures)
-
-pub loop-tape-smaller : goal.loop-tape-smaller
-loop-tape-smaller c = omega (arith, (escaped c.before).above, (escaped c.before).below)
-
-pub loop-tape-preserved : goal.loop-tape-preserved
-loop-tape-preserved c = let x = escaped c.before in
-    (omega arith, x.below, omega arith, text-escape (going c.before.before.before.before.before.before.before.before) (sym c.peek-b.ensures ∙ c.if-b-ne92.false) x)
+unfolding json_unescaped
+returns-in_default c = agrees-behind c.put-p.ensures (text-none (text-run c.loop-ended.invariant.1 (run-found {class = json_unescaped} c.loop-ended.left.now 0 c.long_run_end-n.result (omega arith) c.long_run_end-n.ensures) (rw c.split_at.ensures.front at c.put_all-q.ensures) c.split_at.ensures.back) (ap json_unescaped (ap (λ l. get_or l 0 0) c.split_at.ensures.back ∙ first_of c.loop-ended.left.now c.long_run_end-n.result) ∙ run-next refl (run-found {class = json_unescaped} c.loop-ended.left.now 0 c.long_run_end-n.result (omega arith) c.long_run_end-n.ensures)) (λ h. elim c.in_default.branch [ in_default-via-then-ended-lt1 w ↦ grind (arith, inside_is c.split_at.result.1.now 0 34 h (omega arith), w) | in_default-via-else-ended-lt1+in_default-1 w ↦ grind (arith, h, w) ]) (λ h. elim c.in_default.branch [ in_default-via-then-ended-lt1 w ↦ grind (arith, inside_is c.split_at.result.1.now 0 92 h (omega arith), w) | in_default-via-else-ended-lt1+in_default-1 w ↦ grind (arith, h, w) ]))

@@ -11,25 +11,25 @@ use Rattle.json_text.proofs.Elements.{several}
 use Rattle.json_text.proofs.values.+array_element_object_value.Given as goal
 
 abbrev pub decreases-array : goal.decreases-array
-decreases-array l = 3 * (length l.text.now - l.at)
+decreases-array l = 3 * length l.text.now + 2
 
 abbrev pub decreases-object : goal.decreases-object
-decreases-object l = 3 * (length l.text.now - l.at)
+decreases-object l = 3 * length l.text.now + 2
 
 abbrev pub decreases-value : goal.decreases-value
-decreases-value l = 3 * (length l.text.now - l.at) + 1
+decreases-value l = 3 * length l.text.now
 
 abbrev pub decreases-element : goal.decreases-element
-decreases-element l = 3 * (length l.text.now - l.at) + 2
+decreases-element l = 3 * length l.text.now + 1
 
-abbrev pub invariant-array-loop-e : goal.invariant-array-loop-e
-invariant-array-loop-e l = (l.initial.i ≤ l.i) × (l.i ≤ length l.text) × (length l.tape ≡ length l.initial.tape) × Going (ser_list ser) (several 93 (value_within (l.left - 1))) l.text (l.at + 1) (pen l.initial.tape l.initial.p) l.initial.i (pen l.tape l.p) l.i
+abbrev pub invariant-array-loop-behind : goal.invariant-array-loop-behind
+invariant-array-loop-behind l = (length l.rest ≤ length l.text) × (length l.tape ≡ length l.initial.tape) × Going (ser_list ser) (several 93 (value_within (l.left - 1))) (pen l.initial.tape l.initial.p) l.initial.rest (pen l.tape l.p) l.rest
 
-abbrev pub decreases-array-loop-e : goal.decreases-array-loop-e
-decreases-array-loop-e l = length l.text - l.i
+abbrev pub decreases-array-loop-behind : goal.decreases-array-loop-behind
+decreases-array-loop-behind l = length l.rest
 
-abbrev pub invariant-object-loop-a : goal.invariant-object-loop-a
-invariant-object-loop-a l = (l.initial.i ≤ l.i) × (l.i ≤ length l.text) × (length l.tape ≡ length l.initial.tape) × Going (ser_list ser_pair) (several 125 (pair (value_within (l.left - 1)))) l.text (l.at + 1) (pen l.initial.tape l.initial.p) l.initial.i (pen l.tape l.p) l.i
+abbrev pub invariant-object-loop-next : goal.invariant-object-loop-next
+invariant-object-loop-next l = (length l.rest ≤ length l.text) × (length l.tape ≡ length l.initial.tape) × Going (ser_list ser_pair) (several 125 (pair (value_within (l.left - 1)))) (pen l.initial.tape l.initial.p) l.initial.rest (pen l.tape l.p) l.rest
 
-abbrev pub decreases-object-loop-a : goal.decreases-object-loop-a
-decreases-object-loop-a l = length l.text - l.i
+abbrev pub decreases-object-loop-next : goal.decreases-object-loop-next
+decreases-object-loop-next l = length l.rest

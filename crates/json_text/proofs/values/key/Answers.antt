@@ -1,51 +1,23 @@
 -- `json_text::values::key` meets its contract.
-use Prim.Native.Nat.{◌+◌, ◌<◌}
-use mathlib.Core.Path.{sym, ◌∙◌}
-use native.Mathlib.Nat.{le_refl}
 use native.Mathlib.Omega.{arith}
-use lib.ListN.{length, drop}
-use Rattle.octets.specs.Pen.{pen}
-use Rattle.json_text.specs.Strings.{string as string_of}
-use Rattle.json_text.specs.Tape.{ser_string}
-use Rattle.json_text.specs.Promise.{read, not-json}
+use Rattle.std.proofs.lemmas.Result.{err_from_is_err_and}
 use Rattle.octets.proofs.Runs.{inside_is}
-use Rattle.json_text.proofs.Agreements.{HasRead, was_read, agrees-by, agrees-fails}
+use Rattle.json_text.proofs.Agreements.{begins, was_read, agrees-by, agrees-fails}
 use Rattle.json_text.proofs.ValueLaws.{key-none, key-quote, key-bare, key-read}
-use Rattle.json_text.proofs.values.key.Tie as tie
-use Rattle.json_text.proofs.values.key.Lts as lts
-use Rattle.json_text.proofs.values.key.Reads as reads
+use Rattle.json_text.specs.Promise.{read, not-json}
 use Rattle.json_text.proofs.values.key.Goals as goal
-
-quote : (c : lts.Else1 tie.the-claims reads.Pre reads.Post) → c.args.at < length c.args.text.now
-quote c = inside_is c.args.text.now _ 34 (sym c.peek.ensures ∙ c.if-peek-ne34.false) (omega arith)
-
-named : (c : lts.Past-After-known_told tie.the-claims reads.Pre reads.Post) → HasRead ser_string c.args.text.now (c.args.at + 1) (pen c.args.tape.now c.args.to) c.string-v.new.tape (string_of (drop (c.args.at + 1) c.args.text.now)) c.in-Read.e c.in-Read.q
-named c = was_read c.string-v.ensures c.in-Read.is
-
-pub returns-then-peek-ne34 : goal.returns-then-peek-ne34
-returns-then-peek-ne34 c = not-json (key-none c.args.text.now _ (λ h. c.if-peek-ne34.true (c.peek.ensures ∙ h)))
-
-pub overflow_add-at : goal.overflow_add-at
-overflow_add-at c = omega (arith, quote c.before)
-
-pub string-v-requires : goal.string-v-requires
-string-v-requires c = omega (arith, quote c.before.before)
+use Rattle.json_text.proofs.values.key.Goals.{in_default-via-then-text-lt1, in_default-via-else-text-lt1+in_default-1, in_default-past_space-via-then-past_space-lt1, in_default-past_space-via-else-past_space-lt1+in_default-1}
 
 pub returns-in_default : goal.returns-in_default
-returns-in_default c = agrees-by (key-quote c.args.text.now c.args.at (sym c.peek.ensures ∙ c.if-peek-ne34.false)) (le_refl _) (agrees-fails _ c.in_default.not-Read c.string-v.ensures)
+returns-in_default c = not-json (key-none c.args.text.now (λ h. elim c.in_default.branch [ in_default-via-then-text-lt1 w ↦ grind (arith, inside_is c.args.text.now 0 34 h (omega arith), w) | in_default-via-else-text-lt1+in_default-1 w ↦ grind (arith, h, w) ]))
 
-pub past_space-n-requires : goal.past_space-n-requires
-past_space-n-requires c = (named c.before).below
+pub returns-in_err-behind : goal.returns-in_err-behind
+returns-in_err-behind c = let p = err_from_is_err_and c.from_residual.result c.from_residual.ensures.1 in rw (p.1, p.2) (agrees-by (key-quote (begins c.args.text.now 34 (omega arith) (omega arith))) (agrees-fails _ (rw c.in_err-behind.was at c.string.ensures)))
 
-pub returns-then-peek-ne58 : goal.returns-then-peek-ne58
-returns-then-peek-ne58 c = not-json (key-bare c.args.text.now c.args.at (sym c.peek.ensures ∙ c.if-peek-ne34.false) (named c.before.before.before.before) c.past_space-n.ensures (λ h. c.if-peek-ne58.true (c.peek-2.ensures ∙ h)))
-
-pub overflow_add-n : goal.overflow_add-n
-overflow_add-n c = omega (arith, inside_is c.args.text.now _ 58 (sym c.peek-2.ensures ∙ c.if-peek-ne58.false) (omega arith))
-
-pub past_space-requires : goal.past_space-requires
-past_space-requires c = omega (arith, inside_is c.args.text.now _ 58 (sym c.peek-2.ensures ∙ c.if-peek-ne58.false) (omega arith))
+pub returns-in_default-past_space : goal.returns-in_default-past_space
+returns-in_default-past_space c = not-json (key-bare (begins c.args.text.now 34 (omega arith) (omega arith)) (was_read c.string.ensures c.in_ok-behind.was) c.past_space.ensures
+    (λ h. elim c.in_default-past_space.branch [ in_default-past_space-via-then-past_space-lt1 w ↦ grind (arith, inside_is c.past_space.result.now 0 58 h (omega arith), w) | in_default-past_space-via-else-past_space-lt1+in_default-1 w ↦ grind (arith, h, w) ]))
 
 pub returns : goal.returns
-returns c = let x = named c.before.before.before.before.before in
-    read {e = c.past_space.result} x.it (key-read c.args.text.now c.args.at (sym c.peek.ensures ∙ c.if-peek-ne34.false) x c.past_space-n.ensures (sym c.peek-2.ensures ∙ c.if-peek-ne58.false) c.past_space.ensures) (omega (arith, x.above)) c.past_space.ensures.below x.wrote
+returns c = let x = was_read c.string.ensures c.in_ok-behind.was in
+    read x.it (key-read (begins c.args.text.now 34 (omega arith) (omega arith)) x c.past_space.ensures (begins _ 58 (omega arith) (omega arith)) c.past_space-2.ensures) x.wrote

@@ -1,11 +1,10 @@
 -- `json_text::values::literal` meets its contract.
 use Rattle.json_text.specs.Promise.{read, not-json}
-use Rattle.json_text.proofs.Agreements.{was-found, was-missing}
+use Rattle.json_text.proofs.NumberLaws.{was-behind, was-nothing}
 use Rattle.json_text.proofs.values.literal.Goals as goal
 
-pub returns-in-At : goal.returns-in-At
-returns-in-At c = let x = was-found c.past_word-f.ensures c.in-At.is in
-    read tt x.is x.above x.below c.put.ensures
+pub returns-in_default : goal.returns-in_default
+returns-in_default c = not-json (was-nothing c.past_word.ensures c.in_default.is)
 
-pub returns-in-Nothing : goal.returns-in-Nothing
-returns-in-Nothing c = not-json (was-missing c.past_word-f.ensures c.in-Nothing.is)
+pub returns : goal.returns
+returns c = read tt (was-behind c.past_word.ensures c.in-Some.is) c.put.ensures

@@ -1,9 +1,9 @@
 -- Each turn takes at least one octet.
-use Rattle.std.proofs.Common.{◌≡◌, ◌-◌, length}
+use Rattle.std.proofs.Common.{◌≡◌, length}
 use Rattle.layer_cases.proofs.content_cases.unescape.Given as goal
 
-abbrev pub invariant-loop-i : goal.invariant-loop-i
-invariant-loop-i l = length l.out ≡ length l.initial.out
+abbrev pub invariant-loop-left : goal.invariant-loop-left
+invariant-loop-left l = length l.out ≡ length l.initial.out
 
-abbrev pub decreases-loop-i : goal.decreases-loop-i
-decreases-loop-i l = length l.s - l.i
+abbrev pub decreases-loop-left : goal.decreases-loop-left
+decreases-loop-left l = length l.left

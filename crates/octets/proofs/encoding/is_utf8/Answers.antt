@@ -5,4 +5,4 @@ use Rattle.octets.proofs.encoding.is_utf8.Goals as goal
 
 pub returns-then-all_ascii : goal.returns-then-all_ascii
 unfolding ascii
-returns-then-all_ascii c = sym (ascii-utf8 _ (sym c.all_ascii.ensures ∙ c.if-all_ascii.true))
+returns-then-all_ascii c = c.if-all_ascii.true ∙ sym (ascii-utf8 _ (sym c.all_ascii.ensures ∙ c.if-all_ascii.true))

@@ -1,12 +1,13 @@
 -- `octets::is_text_octet` meets its contract.
-use mathlib.Core.Path.{sym, ◌∙◌}
+use native.Mathlib.Omega.{arith}
+use Rattle.std.proofs.lemmas.Grind.{common_steps}
 use Rattle.octets.specs.Classes.{text_octet}
 use Rattle.octets.proofs.names.is_text_octet.Goals as goal
 
 pub returns-then-is_plain_octet : goal.returns-then-is_plain_octet
 unfolding text_octet
-returns-then-is_plain_octet c = rw (sym c.is_plain_octet.ensures ∙ c.if-is_plain_octet.true)
+returns-then-is_plain_octet c = grind (arith, common_steps)
 
-pub returns : goal.returns
+pub returns-else-is_plain_octet : goal.returns-else-is_plain_octet
 unfolding text_octet
-returns c = rw (sym c.is_plain_octet.ensures ∙ c.if-is_plain_octet.false)
+returns-else-is_plain_octet c = grind (arith, common_steps)

@@ -1,4 +1,4 @@
--- `octets::names::same_name` meets its contract.
+-- `octets::same_name` meets its contract.
 use Rattle.octets.specs.Classes.{upper, same_name}
 use Rattle.octets.proofs.names.same_name.Goals as goal
 

@@ -5,10 +5,10 @@ use Rattle.octets.proofs.Decimal.{capped-zero}
 use Rattle.octets.proofs.Positions.{from}
 use Rattle.octets.proofs.numbers.is_negative.Goals as goal
 
-pub returns-then-peek-ne45 : goal.returns-then-peek-ne45
+pub returns-then-peek-eq45 : goal.returns-then-peek-eq45
 unfolding minus
-returns-then-peek-ne45 c = rw (← c.peek.ensures, ne_eqb _ _ c.if-peek-ne45.true)
+returns-then-peek-eq45 c = rw (← c.peek.ensures, eq-eqb _ _ c.if-peek-eq45.true, c.value_of.ensures, capped-zero, from c.args.s.now c.sign_length.result, c.sign_length.ensures.1)
 
-pub returns : goal.returns
+pub returns-else-peek-eq45 : goal.returns-else-peek-eq45
 unfolding minus
-returns c = rw (← c.peek.ensures, eq-eqb _ _ c.if-peek-ne45.false, c.value_of.ensures, capped-zero, from c.args.s.now c.sign_length-sign.result, c.sign_length-sign.ensures.1)
+returns-else-peek-eq45 c = rw (← c.peek.ensures, ne_eqb _ _ c.if-peek-eq45.false)

@@ -1,23 +1,24 @@
 -- `octets::leading_zeros` meets its contract.
-use Prim.Native.Nat.{◌-◌}
-use mathlib.Core.Path.{refl, sym, ap, ◌∙◌}
+use mathlib.Core.Path.{◌≡◌, sym, ap, ◌∙◌}
 use native.Mathlib.Omega.{arith}
-use borrow.Author.Tests.{not-true, not-false}
+use lib.ListN.{length}
 use Rattle.octets.specs.Classes.{is_digit}
 use Rattle.octets.proofs.Decimal.{trim-on, trim-other, trim-last, trim_end}
 use Rattle.octets.proofs.numbers.leading_zeros.Goals as goal
+use Rattle.octets.proofs.numbers.leading_zeros.Goals.{then-c-ne48-via-then-c-ne48, then-c-ne48-via-else-c-ne48+then-not-is_digit}
 
-pub loop-i-init : goal.loop-i-init
-loop-i-init c = (omega arith, refl)
-
-pub returns-then-s-i-ne48 : goal.returns-then-s-i-ne48
-returns-then-s-i-ne48 c = (omega arith, c.loop-i.invariant.1 ∙ trim-other _ _ c.loop-i-test.true c.if-s-i-ne48.true)
-
-pub returns-then-not-is_digit : goal.returns-then-not-is_digit
-returns-then-not-is_digit c = (omega arith, c.loop-i.invariant.1 ∙ trim-last _ _ c.loop-i-test.true (ap is_digit (sym c.peek.ensures) ∙ sym c.is_digit.ensures ∙ not-true _ c.if-not-is_digit.true-raw))
+pub returns-then-c-ne48 : goal.returns-then-c-ne48
+returns-then-c-ne48 c = let i = c.loop-i in (
+  omega arith,
+  i.invariant ∙ elim c.then-c-ne48.branch [
+    | then-c-ne48-via-then-c-ne48 w ↦ trim-other c.args.s.now i.i c.loop-i-test.true w.if-c-ne48.true
+    | then-c-ne48-via-else-c-ne48+then-not-is_digit w ↦ trim-last c.args.s.now i.i c.loop-i-test.true (ap is_digit (sym w.peek.ensures) ∙ sym w.is_digit.ensures ∙ w.if-not-is_digit.true)
+  ],
+)
 
 pub loop-i-preserved : goal.loop-i-preserved
-loop-i-preserved c = (omega arith, c.loop-i.invariant.1 ∙ trim-on _ _ c.loop-i-test.true c.if-s-i-ne48.false (ap is_digit (sym c.peek.ensures) ∙ sym c.is_digit.ensures ∙ not-false _ c.if-not-is_digit.false-raw))
+loop-i-preserved c = c.loop-i.invariant ∙ trim-on c.args.s.now c.loop-i.i c.loop-i-test.true c.if-c-ne48.false (ap is_digit (sym c.peek.ensures) ∙ sym c.is_digit.ensures ∙ c.if-not-is_digit.false)
 
 pub returns : goal.returns
-returns c = (omega arith, c.loop-i.invariant.1 ∙ trim_end _ _ c.loop-i-test.false)
+returns c = let e : c.loop-i.i ≡ length c.args.s.now = omega arith in
+    (omega arith, rw (← e) (c.loop-i.invariant ∙ trim_end c.args.s.now c.loop-i.i c.loop-i-test.false))

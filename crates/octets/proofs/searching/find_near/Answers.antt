@@ -1,27 +1,15 @@
--- `octets::searching::find_near` meets its contract.
-use native.Mathlib.Omega.{arith}
-use mathlib.Core.Path.{◌∙◌}
+-- `octets::find_near` meets its contract.
+use Prim.Native.Nat.{◌+◌}
+use mathlib.Core.Path.{ap, ◌∙◌}
+use lib.ListN.{drop}
+use Rattle.octets.proofs.Search.{passed_by, near-place, far-place}
 use Rattle.octets.proofs.searching.find_near.Goals as goal
 
-pub returns-then-n-at : goal.returns-then-n-at
-returns-then-n-at c = c.find_last.ensures
+pub returns-then-s-at : goal.returns-then-s-at
+returns-then-s-at c = c.run_end.ensures ∙ ap (λ n. c.args.at + n) (passed_by c.args.b (drop c.args.at c.args.s.now))
 
-pub returns-then-n-at-lt-BLOCK : goal.returns-then-n-at-lt-BLOCK
-returns-then-n-at-lt-BLOCK c = c.find_last-then-n-at-lt-BLOCK.ensures
+pub returns-then-e-far : goal.returns-then-e-far
+returns-then-e-far c = near-place c.args.b c.args.s.now c.args.at 16 c.run_end-e.ensures c.if-e-far.true
 
-pub returns-then-e-at : goal.returns-then-e-at
-returns-then-e-at c = let f = c.in_eight-e.ensures in omega (arith, f.is, f.ends c.if-e-at.true)
-
-pub in_eight-f-requires : goal.in_eight-f-requires
-in_eight-f-requires c = omega (arith, c.in_eight-e.ensures.high)
-
-pub overflow_add-e : goal.overflow_add-e
-overflow_add-e c = omega (arith, c.in_eight-e.ensures.high)
-
-pub returns-then-f-e : goal.returns-then-f-e
-returns-then-f-e c = let e = c.in_eight-e.ensures in
-    let f = c.in_eight-f.ensures in
-    omega (arith, e.is, f.is, f.ends c.if-f-e.true)
-
-pub returns : goal.returns
-returns c = c.find.ensures ∙ c.in_eight-f.ensures.is ∙ c.in_eight-e.ensures.is
+pub returns-else-e-far : goal.returns-else-e-far
+returns-else-e-far c = c.find.ensures ∙ far-place c.args.b c.args.s.now c.args.at 16 c.run_end-e.ensures c.if-e-far.false

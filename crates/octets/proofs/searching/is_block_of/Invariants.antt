@@ -1,14 +1,11 @@
--- `octets::searching::is_block_of` meets its contract.
-use Prim.Native.Nat.{◌≤◌, ◌-◌}
+-- The octets so far are counted, and those from here on are not yet.
+use Prim.Native.Nat.{◌≤◌}
 use mathlib.Core.Path.{◌≡◌}
 use lib.Dec.{eqb}
-use lib.ListN.{length, drop}
-use Rattle.octets.specs.Groups.{belongs}
+use lib.ListN.{drop}
 use Rattle.octets.specs.Basics.{◌and◌, all}
+use Rattle.octets.specs.Groups.{belongs}
 use Rattle.octets.proofs.searching.is_block_of.Given as goal
 
-abbrev pub invariant-loop-i : goal.invariant-loop-i
-invariant-loop-i l = (l.i ≤ length l.s) × (l.n ≤ l.i) × ((eqb l.n l.i and all (belongs l.class) (drop l.i l.s)) ≡ all (belongs l.class) l.s)
-
-abbrev pub decreases-loop-i : goal.decreases-loop-i
-decreases-loop-i l = length l.s - l.i
+abbrev pub invariant-loop-c : goal.invariant-loop-c
+invariant-loop-c l = (l.n ≤ l.c-index) × ((eqb l.n l.c-index and all (belongs l.class) (drop l.c-index l.s)) ≡ all (belongs l.class) l.s)

@@ -1,5 +1,5 @@
--- `octets::searching::run_end` meets its contract.
-use Prim.Native.Nat.{ℕ, ◌+◌, ◌-◌}
+-- What is passed up to here is passed in all.
+use Prim.Native.Nat.{ℕ, ◌+◌}
 use mathlib.Core.Path.{◌≡◌}
 use mathlib.Core.Bool.{Bool, not}
 use lib.ListN.{length, drop}
@@ -13,6 +13,3 @@ off class c = not (belongs class c)
 
 abbrev pub invariant-loop-i : goal.invariant-loop-i
 invariant-loop-i l = l.i + length (until (off l.class) (drop l.i l.s)) ≡ l.at + length (until (off l.class) (drop l.at l.s))
-
-abbrev pub decreases-loop-i : goal.decreases-loop-i
-decreases-loop-i l = length l.s - l.i

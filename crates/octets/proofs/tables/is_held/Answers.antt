@@ -12,4 +12,4 @@ pub returns : goal.returns
 unfolding name_in
 returns c = let a = c.args in
     c.same_in.ensures
-    ∙ ap (λ (x : List ℕ). same (map (cased a.case) a.name.now) (map (cased a.case) x)) (cut-to _ _ _ _ _ c.at_most-end.ensures c.at_most-from.ensures)
+    ∙ ap (λ (x : List ℕ). same (map (cased a.case) a.name.now) (map (cased a.case) x)) (cut-to _ _ _ _ _ c.min-end.ensures c.min-from.ensures)

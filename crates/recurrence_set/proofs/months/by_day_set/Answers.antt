@@ -3,4 +3,4 @@ use Rattle.recurrence_set.proofs.DaySets.{by-days}
 use Rattle.recurrence_set.proofs.months.by_day_set.Goals as goal
 
 pub returns : goal.returns
-returns c = by-days _ _ _ c.requires.0 c.requires.1 _ _ _ c.each_week.ensures c.turned-front.ensures c.turned-back.ensures
+returns c = by-days _ _ _ c.args.month.few c.args.month.week _ _ _ c.each_week.ensures c.turned-front.ensures c.turned-back.ensures

@@ -8,4 +8,4 @@ pub overflow_cast-result : goal.overflow_cast-result
 overflow_cast-result c = omega (arith, trailing_le 64 c.args.set)
 
 pub returns : goal.returns
-returns c = least-of _
+returns c = (least-of _, c.if-set-eq0.false)

@@ -1,19 +1,19 @@
--- `stop_list::runs::advance` meets its contract: the run goes on from the next place; there is room for a stop, and its place is within the series.
+-- `stop_list::runs::advance` meets its contract: by what the search finds, and by the room.
+use mathlib.Core.Path.{refl}
 use native.Mathlib.Omega.{arith}
-use Rattle.stop_list.proofs.RunStops.{advances}
+use Rattle.stop_list.proofs.RunStops.{no_room, none_there, some_there, behind_it, on_live}
 use Rattle.stop_list.proofs.runs.advance.Goals as goal
 
-pub overflow_add-run : goal.overflow_add-run
-overflow_add-run c = omega arith
+pub returns-then-run-eq0 : goal.returns-then-run-eq0
+returns-then-run-eq0 c v = let e = no_room c.args.run.now c.if-run-eq0.true in (v, e, e)
 
-pub overflow_add-run-then-run-series : goal.overflow_add-run-then-run-series
-overflow_add-run-then-run-series c = omega arith
+pub returns-in_err-here : goal.returns-in_err-here
+returns-in_err-here c = rw c.from_residual.ensures (λ v. let e = none_there c.args.run.now (c.in_err-here.ensures v.founded v.from) in (v, e, e))
 
-pub returns-then-run-series : goal.returns-then-run-series
-returns-then-run-series c = λ v. advances _ _ _ v c.run_from.ensures
-
-pub returns-else-run-series : goal.returns-else-run-series
-returns-else-run-series c = λ v. absurd (let w = v.within in omega (arith, c.if-run-series.false))
-
-pub returns-else-run : goal.returns-else-run
-returns-else-run c = λ v. absurd (let w = v.fits in omega (arith, c.if-run.false))
+pub returns : goal.returns
+returns c v =
+    let q = c.args.run.now in
+    let w = c.in_ok-here.ensures v.founded v.from in
+    let p = v.founded.places in
+    let b = behind_it q _ _ v w.1 c.saturating_add-run.ensures in
+    (on_live q _ _ v w.0 refl b, some_there q _ _ _ w.0 w.1 (c.moment_at.ensures (let h = w.1 in omega arith)) refl b (omega arith), refl, omega arith)

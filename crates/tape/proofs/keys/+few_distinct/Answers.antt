@@ -35,7 +35,7 @@ pub few_distinct-requires : goal.few_distinct-requires
 few_distinct-requires t c = (omega arith, tt)
 
 pub returns-then-few_distinct : goal.returns-then-few_distinct
-returns-then-few_distinct t c = ap not c.has_key.ensures ∙ sym (key-new (keyed t c.before.before.before.before.before) (sym c.few_distinct.ensures ∙ c.if-few_distinct.true))
+returns-then-few_distinct t c = ap not c.has_key.ensures ∙ sym (key-new (keyed t c.before.before.before.before.before.before) (sym c.few_distinct.ensures ∙ c.if-few_distinct.true))
 
-pub returns : goal.returns
-returns t c = sym (keys-twice (keyed t c.before.before.before) (sym c.few_distinct.ensures ∙ c.if-few_distinct.false))
+pub returns-else-few_distinct : goal.returns-else-few_distinct
+returns-else-few_distinct t c = c.if-few_distinct.false ∙ sym (keys-twice (keyed t c.before.before.before) (sym c.few_distinct.ensures ∙ c.if-few_distinct.false))

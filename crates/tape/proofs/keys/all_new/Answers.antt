@@ -35,10 +35,10 @@ pub loop-at-preserved-in-Stored : goal.loop-at-preserved-in-Stored
 loop-at-preserved-in-Stored c = (omega arith, telling-stored c.loop-at.invariant.1 (keyed c.before.before.before.before.before.before) (rw c.in-Stored.is at c.enter.ensures))
 
 pub returns-then-has_key : goal.returns-then-has_key
-returns-then-has_key c = sym (telling-twice c.loop-at.invariant.1 (keyed c.before.before.before.before.before.before.before.before.before) (sym c.has_key.ensures ∙ c.if-has_key.true))
+returns-then-has_key c = sym (telling-twice c.loop-at.invariant.1 (keyed c.before.before.before.before.before.before.before.before.before.before) (sym c.has_key.ensures ∙ c.if-has_key.true))
 
 pub loop-at-smaller : goal.loop-at-smaller
-loop-at-smaller c = onward c.before.before.before.before.before.before.before.before.before
+loop-at-smaller c = onward c.before.before.before.before.before.before.before.before.before.before
 
 pub loop-at-preserved : goal.loop-at-preserved
-loop-at-preserved c = (omega arith, telling-full c.loop-at.invariant.1 (keyed c.before.before.before.before.before.before.before.before.before) (rw c.in-Full.is at c.enter.ensures) (sym c.has_key.ensures ∙ c.if-has_key.false))
+loop-at-preserved c = (omega arith, telling-full c.loop-at.invariant.1 (keyed c.before.before.before.before.before.before.before.before.before.before) (rw c.in-Full.is at c.enter.ensures) (sym c.has_key.ensures ∙ c.if-has_key.false))

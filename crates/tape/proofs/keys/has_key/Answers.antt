@@ -19,10 +19,10 @@ pub returns-then-tag : goal.returns-then-tag
 returns-then-tag c = sym (key-end _ _ (sym c.tag.ensures ∙ c.if-tag.true) _) ∙ c.loop-at.invariant
 
 pub returns-then-same : goal.returns-then-same
-returns-then-same c = sym (key_here (keyed c.before.before.before.before) _ (sym c.same.ensures ∙ c.if-same.true)) ∙ c.loop-at.invariant
+returns-then-same c = sym (key_here (keyed c.before.before.before.before.before) _ (sym c.same.ensures ∙ c.if-same.true)) ∙ c.loop-at.invariant
 
 pub loop-at-smaller : goal.loop-at-smaller
-loop-at-smaller c = omega (arith, member-on (keyed c.before.before.before.before), c.behind-e.ensures.high)
+loop-at-smaller c = omega (arith, member-on (keyed c.before.before.before.before.before), c.behind-e.ensures.high)
 
 pub loop-at-preserved : goal.loop-at-preserved
-loop-at-preserved c = sym (key-next (keyed c.before.before.before.before) _ (sym c.same.ensures ∙ c.if-same.false)) ∙ c.loop-at.invariant
+loop-at-preserved c = sym (key-next (keyed c.before.before.before.before.before) _ (sym c.same.ensures ∙ c.if-same.false)) ∙ c.loop-at.invariant

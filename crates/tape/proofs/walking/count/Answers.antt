@@ -1,5 +1,6 @@
 -- `tape::walking::count` meets its contract.
 use mathlib.Core.Path.{sym, ◌∙◌}
+use native.Mathlib.Omega.{arith}
 use Rattle.tape.proofs.Walks.{counting-start, counting-next, counting-end, counting-full}
 use Rattle.tape.proofs.walking.count.Goals as goal
 
@@ -13,4 +14,4 @@ pub loop-n-preserved : goal.loop-n-preserved
 loop-n-preserved c = counting-next c.loop-n.invariant (λ e. c.if-tag.false (c.tag.ensures ∙ e)) c.behind-i.ensures c.loop-n-test.true
 
 pub returns : goal.returns
-returns c = counting-full c.loop-n.invariant c.loop-n-test.false
+returns c = let q = counting-full c.loop-n.invariant c.loop-n-test.false in omega (arith, q)

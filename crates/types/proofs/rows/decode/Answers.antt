@@ -1,35 +1,35 @@
 -- `types::rows::decode` meets its contract.
+use mathlib.Core.Path.{sym, ◌∙◌}
 use native.Mathlib.Omega.{arith}
+use borrow.Author.Tests.{eqb-true, eqb-false}
 use lib.ListN.{length-set}
-use Rattle.types.proofs.Frames.{octet-is, high-bad, low-bad, decoded-none, decoded-more, odd-digits, bad-digits, whole-frame, long-line}
+use Rattle.types.proofs.Frames.{octet-is, no-high, no-low, part-size, some-left, no-digits, decoded-none, decoded-more, odd-digits, bad-digits, whole-frame, long-line}
 use Rattle.types.proofs.rows.decode.Goals as goal
 
-pub returns-then-line-gt-MOST_DIGITS : goal.returns-then-line-gt-MOST_DIGITS
-returns-then-line-gt-MOST_DIGITS c = (omega arith, long-line _ c.if-line-gt-MOST_DIGITS.true)
+pub returns-then-line-gt-MOST_DIGITS-clause-row : goal.returns-then-line-gt-MOST_DIGITS-clause-row
+returns-then-line-gt-MOST_DIGITS-clause-row c = no-digits _ _ (long-line _ c.if-line-gt-MOST_DIGITS.true)
 
-pub loop-n-init : goal.loop-n-init
-loop-n-init c = (omega arith, omega arith, c.requires, c.requires, decoded-none _ _)
+pub loop-left-init : goal.loop-left-init
+loop-left-init c = (omega arith, omega arith, c.requires, c.requires, decoded-none _ _)
 
-pub returns-then-n-line : goal.returns-then-n-line
-returns-then-n-line c = (omega arith, odd-digits _ _ c.loop-n.n c.loop-n.invariant.4 c.if-n-line.true)
+pub returns-in_err-high-clause-row : goal.returns-in_err-high-clause-row
+returns-in_err-high-clause-row c = rw c.from_residual.ensures (no-digits _ _ (bad-digits _ _ c.loop-left.invariant.4 c.in-len2-up.len_at_least (no-high _ _ c.in_err-high.ensures.value)))
 
-pub returns-then-high-gt15 : goal.returns-then-high-gt15
-returns-then-high-gt15 c = let l = c.loop-n in
-    (omega arith, bad-digits _ _ l.n l.invariant.4 (omega arith) (high-bad _ _ (rw (← c.hex_digit-high.ensures) c.if-high-gt15.true)))
+pub returns-in_err-low-clause-row : goal.returns-in_err-low-clause-row
+returns-in_err-low-clause-row c = rw c.from_residual-in_err-low.ensures (no-digits _ _ (bad-digits _ _ c.loop-left.invariant.4 c.in-len2-up.len_at_least (no-low _ _ c.in_err-low.ensures.value)))
 
-pub returns-then-low-gt15 : goal.returns-then-low-gt15
-returns-then-low-gt15 c = let l = c.loop-n in
-    (omega arith, bad-digits _ _ l.n l.invariant.4 (omega arith) (low-bad _ _ (rw (← c.hex_digit-low.ensures) c.if-low-gt15.true)))
-
-pub loop-n-preserved : goal.loop-n-preserved
-loop-n-preserved c = let l = c.loop-n in (
+pub loop-left-preserved : goal.loop-left-preserved
+loop-left-preserved c = let l = c.loop-left in (
   omega arith,
-  omega arith,
+  rw (part-size _ c.in-len2-up.len_at_least) (omega arith),
   simp length-set l.invariant.2,
   l.invariant.3,
-  decoded-more _ _ l.n l.invariant.4 (omega arith) _ (omega arith)
-      (octet-is _ _ _ _ c.hex_digit-high.ensures c.hex_digit-low.ensures c.if-high-gt15.false c.if-low-gt15.false),
+  decoded-more _ _ l.invariant.4 c.in-len2-up.len_at_least _ (omega arith)
+      (octet-is _ _ c.in_ok-high.ensures.value c.in_ok-low.ensures.value),
 )
 
-pub returns : goal.returns
-returns c = (omega arith, whole-frame _ _ c.loop-n.n c.loop-n.invariant.4 c.loop-n-test.false)
+pub returns-then-is_empty-clause-row : goal.returns-then-is_empty-clause-row
+returns-then-is_empty-clause-row c = whole-frame _ _ c.loop-left.invariant.4 (eqb-true _ 0 (sym c.is_empty.ensures ∙ c.if-is_empty.true))
+
+pub returns-else-is_empty-clause-row : goal.returns-else-is_empty-clause-row
+returns-else-is_empty-clause-row c = no-digits _ _ (odd-digits _ _ c.loop-left.invariant.4 (some-left _ (eqb-false _ 0 (sym c.is_empty.ensures ∙ c.if-is_empty.false))) c.in_default.len_below)

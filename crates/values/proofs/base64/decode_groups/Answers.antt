@@ -1,6 +1,7 @@
 -- `values::base64::decode_groups` meets its contract.
 use Prim.Native.Nat.{◌+◌, ◌*◌, ◌/◌}
 use mathlib.Core.Path.{◌≡◌, refl, ap, ◌∙◌}
+use mathlib.Core.Bool.{true}
 use native.Mathlib.Omega.{arith}
 use lib.ListN.{length, length-set, length-drop}
 use Rattle.octets.proofs.Positions.{from}
@@ -21,10 +22,10 @@ looked c = record {
 }
 
 pub loop-k-init : goal.loop-k-init
-loop-k-init c = (omega arith, refl, refl)
+loop-k-init c = (refl, refl)
 
 pub returns-then-a-b-gt252 : goal.returns-then-a-b-gt252
-returns-then-a-b-gt252 c = absent (c.loop-k.invariant.2 ∙ group-stop (looked c.before.before) _ c.if-a-b-gt252.true)
+returns-then-a-b-gt252 c = absent (c.loop-k.invariant.1 ∙ group-stop (looked c.before.before) _ c.if-a-b-gt252.true)
 
 pub overflow_cast-out : goal.overflow_cast-out
 overflow_cast-out c = omega (arith, group-small (looked c.before.before) c.if-a-b-gt252.false)
@@ -44,16 +45,15 @@ bounds-out-to-in-loop-k-2 c = simp length-set (omega arith)
 pub loop-k-preserved : goal.loop-k-preserved
 loop-k-preserved c = let e : 3 * (c.loop-k.k + 1) ≡ 3 * c.loop-k.k + 3 = omega arith in
     let f : 4 * (c.loop-k.k + 1) ≡ 4 * c.loop-k.k + 4 = omega arith in
-    (omega arith, simp length-set (omega arith), c.loop-k.invariant.2 ∙ group-on (looked c.before.before) c.if-a-b-gt252.false c.loop-k.out (3 * c.loop-k.k) (omega arith) ∙ rw (e, f))
+    (simp length-set (omega arith), c.loop-k.invariant.1 ∙ group-on (looked c.before.before) c.if-a-b-gt252.false c.loop-k.out (3 * c.loop-k.k) (omega arith) ∙ rw (e, f))
 
 pub decode_rest-requires : goal.decode_rest-requires
 decode_rest-requires c = let l = ap length (from c.args.raw.now (4 * (length c.args.raw.now / 4))) ∙ length-drop (4 * (length c.args.raw.now / 4)) c.args.raw.now in
     record {
-      table_value = c.requires.table_value;
       rest_len_bound = (omega arith, (λ x. omega arith));
       rest_in_bounds = omega arith;
     }
 
 pub returns : goal.returns
 returns c = let e : c.loop-k.k ≡ length c.args.raw.now / 4 = omega arith in
-    decoded-same _ c.decode_rest.new.out c.decode_rest.result (c.loop-k.invariant.2 ∙ rw (e, from c.args.raw.now (4 * (length c.args.raw.now / 4)))) c.decode_rest.ensures
+    decoded-same true c.decode_rest.new.out c.decode_rest.result (c.loop-k.invariant.1 ∙ rw (e, from c.args.raw.now (4 * (length c.args.raw.now / 4)))) c.decode_rest.ensures

@@ -1,5 +1,5 @@
 -- `values::base64::decode_groups` meets its contract.
-use Prim.Native.Nat.{◌-◌, ◌*◌, ◌≤◌}
+use Prim.Native.Nat.{◌*◌}
 use mathlib.Core.Path.{◌≡◌}
 use mathlib.Core.List.{[]}
 use lib.ListN.{length, take, drop}
@@ -7,7 +7,4 @@ use Rattle.values.specs.Decoding.{decoded_behind}
 use Rattle.values.proofs.base64.decode_groups.Given as goal
 
 abbrev pub invariant-loop-k : goal.invariant-loop-k
-invariant-loop-k l = (l.k ≤ l.groups) × (length l.out ≡ length l.initial.out) × (decoded_behind [] l.raw ≡ decoded_behind (take (3 * l.k) l.out) (drop (4 * l.k) l.raw))
-
-abbrev pub decreases-loop-k : goal.decreases-loop-k
-decreases-loop-k l = l.groups - l.k
+invariant-loop-k l = (length l.out ≡ length l.initial.out) × (decoded_behind [] l.raw ≡ decoded_behind (take (3 * l.k) l.out) (drop (4 * l.k) l.raw))

@@ -1,18 +1,21 @@
 -- `values::simple::all_base64` meets its contract.
-use mathlib.Core.Path.{refl, sym, ◌∙◌}
-use native.Mathlib.Omega.{arith}
-use borrow.Author.Tests.{not-true, not-false}
-use Rattle.octets.proofs.Classes.{all-on, all-stop, all_end}
+use Prim.Native.Nat.{ℕ}
+use mathlib.Core.Bool.{Bool}
+use mathlib.Core.List.{List, [], ◌∷◌}
+use mathlib.Core.Path.{◌≡◌, refl, ◌∙◌}
+use Rattle.std.proofs.Common.{rules}
+use Rattle.std.specs.List.{list_all}
+use Rattle.std.proofs.lemmas.Iterator.{YieldsList-from_slice}
+use Rattle.std.proofs.lemmas.Iterator.Search.{all_from_yields_List}
+use Rattle.octets.specs.Basics.{all}
+use Rattle.octets.proofs.Cases.{cases}
+use Rattle.values.specs.Simple.{base64_octet}
 use Rattle.values.proofs.simple.all_base64.Goals as goal
 
-pub loop-i-init : goal.loop-i-init
-loop-i-init c = (omega arith, refl)
-
-pub returns-then-not-is_base64 : goal.returns-then-not-is_base64
-returns-then-not-is_base64 c = sym (c.loop-i.invariant.1 ∙ all-stop _ _ _ c.loop-i-test.true (sym c.is_base64.ensures ∙ not-true _ c.if-not-is_base64.true-raw))
-
-pub loop-i-preserved : goal.loop-i-preserved
-loop-i-preserved c = (omega arith, c.loop-i.invariant.1 ∙ all-on _ _ _ c.loop-i-test.true (sym c.is_base64.ensures ∙ not-false _ c.if-not-is_base64.false-raw))
+of_each : (p : ℕ → Bool) (s : List ℕ) → list_all p s ≡ all p s
+unfolding all
+of_each p [] = refl
+of_each p (x ∷ s) = cases (p x) (λ h. rw h (of_each p s)) (λ h. rw h)
 
 pub returns : goal.returns
-returns c = sym (c.loop-i.invariant.1 ∙ all_end _ _ _ c.loop-i-test.false)
+returns c = all_from_yields_List base64_octet c.all.new.self _ _ c.all.ensures.ran (YieldsList-from_slice c.args.s.now cc) (λ x b q k. search rules) ∙ of_each base64_octet c.args.s.now

@@ -1,51 +1,20 @@
 -- `values::sorts::sort_of` meets its contract.
-use mathlib.Core.Path.{sym}
+use mathlib.Core.Path.{sym, ◌∙◌}
 use Rattle.values.specs.Coded.{sort_said}
-use Rattle.values.specs.Sorts.{sort_of}
-use Rattle.values.proofs.Naming.{plain-sort}
+use Rattle.values.proofs.Naming.{named, sort-by, plainly-named}
 use Rattle.values.proofs.sorts.sort_of.Goals as goal
 
-pub returns-in-1 : goal.returns-in-1
-returns-in-1 c = unfold sort_said sort_of in rw c.in-1.is
+pub returns-then-same_name : goal.returns-then-same_name
+returns-then-same_name c = sort-by _ _ _ _ _ c.of_code.ensures c.from.ensures (unfold named sort_said in rw (c.in-Float.is, sym c.same_name.ensures ∙ c.if-same_name.true))
 
-pub returns-in-2 : goal.returns-in-2
-returns-in-2 c = unfold sort_said sort_of in rw c.in-2.is
+pub returns-else-same_name : goal.returns-else-same_name
+returns-else-same_name c = sort-by _ _ _ _ _ c.of_code.ensures c.from.ensures (unfold named sort_said in rw (c.in-Float.is, sym c.same_name.ensures ∙ c.if-same_name.false))
 
-pub returns-in-3 : goal.returns-in-3
-returns-in-3 c = unfold sort_said sort_of in rw c.in-3.is
+pub returns-then-same_name-2 : goal.returns-then-same_name-2
+returns-then-same_name-2 c = sort-by _ _ _ _ _ c.of_code.ensures c.from.ensures (unfold named sort_said in rw (c.in-Text.is, sym c.same_name-in-Text.ensures ∙ c.if-same_name-2.true))
 
-pub returns-in-4 : goal.returns-in-4
-returns-in-4 c = unfold sort_said sort_of in rw c.in-4.is
-
-pub returns-in-5 : goal.returns-in-5
-returns-in-5 c = unfold sort_said sort_of in rw c.in-5.is
-
-pub returns-in-6 : goal.returns-in-6
-returns-in-6 c = unfold sort_said sort_of in rw c.in-6.is
-
-pub returns-in-7 : goal.returns-in-7
-returns-in-7 c = rw c.in-7.is c.float_sort.ensures
-
-pub returns-in-8 : goal.returns-in-8
-returns-in-8 c = unfold sort_said sort_of in rw c.in-8.is
-
-pub returns-in-9 : goal.returns-in-9
-returns-in-9 c = unfold sort_said sort_of in rw c.in-9.is
-
-pub returns-in-10 : goal.returns-in-10
-returns-in-10 c = unfold sort_said sort_of in rw c.in-10.is
-
-pub returns-in-11 : goal.returns-in-11
-returns-in-11 c = rw c.in-11.is c.text_sort.ensures
-
-pub returns-in-12 : goal.returns-in-12
-returns-in-12 c = unfold sort_said sort_of in rw c.in-12.is
-
-pub returns-in-13 : goal.returns-in-13
-returns-in-13 c = unfold sort_said sort_of in rw c.in-13.is
-
-pub returns-in-14 : goal.returns-in-14
-returns-in-14 c = unfold sort_said sort_of in rw c.in-14.is
+pub returns-else-same_name-2 : goal.returns-else-same_name-2
+returns-else-same_name-2 c = sort-by _ _ _ _ _ c.of_code.ensures c.from.ensures (unfold named sort_said in rw (c.in-Text.is, sym c.same_name-in-Text.ensures ∙ c.if-same_name-2.false))
 
 pub returns-in_default : goal.returns-in_default
-returns-in_default c = unfold sort_said in let r = c.in_default.in_default-own.rest in sym (plain-sort _ _ r.0.0.0.0.0.0.0.0.0.0.0.0.0.1 r.0.0.0.0.0.0.0.0.0.0.0.0.1 r.0.0.0.0.0.0.0.0.0.0.1 r.0.0.0.0.0.0.0.0.0.1 r.0.0.0.0.0.0.0.0.1 r.0.0.0.0.0.0.0.1 r.0.0.0.0.0.0.1 r.0.0.0.0.0.1 r.0.0.0.0.1 r.0.0.0.1 r.0.0.1 r.1)
+returns-in_default c = sort-by _ _ _ _ _ c.of_code.ensures c.from.ensures (sym (plainly-named _ _ c.in_default.not-Float c.in_default.not-Text))

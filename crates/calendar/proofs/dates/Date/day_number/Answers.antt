@@ -3,7 +3,6 @@ use native.Mathlib.Omega.{arith}
 use mathlib.Core.Path.{◌≡◌, sym, ap, ◌∙◌}
 use mathlib.Core.Bool.{true}
 use mathlib.Core.Option.{some}
-use borrow.Author.Tests.{not-true, not-false}
 use Rattle.octets.specs.Optional.{when}
 use Rattle.calendar.specs.Gregorian.{is_day, day_number}
 use Rattle.calendar.proofs.Days.{Bounds, bounds, march_year, from_march, by_formula, counted}
@@ -14,13 +13,13 @@ use Rattle.calendar.proofs.dates.Date.day_number.Goals as goal
 
 -- what is known of the date once it is a day
 is_one : (c : lts.Else1 tie.the-claims reads.Pre reads.Post) → let d = c.args.self in is_day d.year d.month d.day ≡ true
-is_one c = sym c.is_day.ensures ∙ not-false _ c.if-not-is_day.false-raw
+is_one c = sym c.is_day.ensures ∙ c.if-not-is_day.false
 
 within : (c : lts.Else1 tie.the-claims reads.Pre reads.Post) → let d = c.args.self in Bounds d.year d.month d.day
 within c = bounds _ _ _ (is_one c)
 
 pub returns-then-not-is_day : goal.returns-then-not-is_day
-returns-then-not-is_day c = unfold when in rw (sym c.is_day.ensures ∙ not-true _ c.if-not-is_day.true-raw)
+returns-then-not-is_day c = unfold when in rw (sym c.is_day.ensures ∙ c.if-not-is_day.true)
 
 pub overflow_add-s : goal.overflow_add-s
 overflow_add-s c = omega (arith, within c.before)
