@@ -5,11 +5,11 @@ use mathlib.Core.List.{List, [], ◌∷◌, ◌++◌, map, append-nil}
 use native.Mathlib.Omega.{arith}
 use lib.Dec.{eqb}
 use lib.ListN.{length, drop, get_or}
-use Rattle.std.specs.List.{slice_split, onto_first, enumerate_from}
+use Rattle.std.specs.List.{slice_split, enumerate_from}
 use Rattle.std.proofs.lemmas.List.{drop_more, drop_all, get_or-map, length-map}
 use Rattle.std.proofs.lemmas.List.FromFn.{length-enumerate_from, get_or-enumerate_from}
-use Rattle.octets.specs.Pieces.{split, joined, onto, cut}
-use Rattle.octets.proofs.Cases.{cases}
+use Rattle.octets.specs.Pieces.{split, joined}
+use Rattle.calendar.proofs.Pieces.{pieces-are}
 use Rattle.ical_recur.specs.Wording.{mark_before}
 
 -- the mark in front of a piece
@@ -23,20 +23,7 @@ unfolding mark_before
 next-mark sep zero e = absurd (e refl)
 next-mark sep (suc n) e = refl
 
-onto-same : (x : ℕ) (ls : List (List ℕ)) → onto_first x ls ≡ onto x ls
-unfolding onto
-onto-same x [] = refl
-onto-same x (l ∷ ls) = refl
-
 module _ (sep : ℕ) where
-  -- the pieces of a chain of iterators are those of the definitions
-  pub pieces-are : (s : List ℕ) → slice_split (λ x. eqb x sep) s ≡ split sep s
-  unfolding split cut
-  pieces-are [] = refl
-  pieces-are (x ∷ s) = cases (eqb x sep)
-      (λ e. rw e (ap (◌∷◌ []) (pieces-are s)))
-      (λ e. rw e (ap (onto_first x) (pieces-are s) ∙ onto-same x (split sep s)))
-
   -- what is left to write in front of the pieces ls, of which the first is the n-th
   abbrev pub left : ℕ → List (List ℕ) → List ℕ
   left n [] = []

@@ -138,13 +138,8 @@ fn place_properties(
     while let Some(line) = lines.next() {
         match line.kind {
             LineKind::Plain => {
-                to = place_item(
-                    &calendar.lines[line.at..line.end],
-                    calendar.rows,
-                    first,
-                    out,
-                    to,
-                )?;
+                let text = &calendar.lines[line.at..line.end];
+                to = place_item(text, calendar.rows, first, out, to)?;
                 first = false;
             }
             LineKind::Opens(name) => {

@@ -9,14 +9,14 @@ use Rattle.jcal.proofs.components.place_properties.Goals as goal
 pub loop-line-init : goal.loop-line-init
 loop-line-init c = (refl, refl, omega arith, held_start _ _ _ _ c.requires)
 
-pub slice_bounds-place_item-count : goal.slice_bounds-place_item-count
-slice_bounds-place_item-count c = let g = rw c.loop-line.invariant.0 at c.in-Some.ensures.steps in omega (arith, g.begins, g.is.ends)
+pub slice_bounds-text-count : goal.slice_bounds-text-count
+slice_bounds-text-count c = let g = rw c.loop-line.invariant.0 at c.in-Some.ensures.steps in omega (arith, g.begins, g.is.ends)
 
-pub slice_bounds-place_item-start : goal.slice_bounds-place_item-start
-slice_bounds-place_item-start c = let g = rw c.loop-line.invariant.0 at c.in-Some.ensures.steps in omega (arith, g.begins, g.is.ends)
+pub slice_bounds-text-start : goal.slice_bounds-text-start
+slice_bounds-text-start c = let g = rw c.loop-line.invariant.0 at c.in-Some.ensures.steps in omega (arith, g.begins, g.is.ends)
 
-pub slice_bounds-place_item-end : goal.slice_bounds-place_item-end
-slice_bounds-place_item-end c = let g = rw c.loop-line.invariant.0 at c.in-Some.ensures.steps in omega (arith, g.is.high)
+pub slice_bounds-text-end : goal.slice_bounds-text-end
+slice_bounds-text-end c = let g = rw c.loop-line.invariant.0 at c.in-Some.ensures.steps in omega (arith, g.is.high)
 
 pub loop-line-smaller-in-Plain : goal.loop-line-smaller-in-Plain
 loop-line-smaller-in-Plain c = let g = rw c.loop-line.invariant.0 at c.in-Some.ensures.steps in omega (arith, g.on, g.is.within, g.is.ends)
