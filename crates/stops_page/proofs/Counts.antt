@@ -3,10 +3,11 @@ use Prim.Native.Nat.{ℕ, zero, suc, ◌+◌, ◌-◌, ◌*◌, ◌/◌, ◌%◌
 use mathlib.Core.Path.{◌≡◌, refl, sym, ap, ◌∙◌}
 use mathlib.Core.Bool.{Bool, true}
 use mathlib.Core.Logic.{◌⊎◌, inl, inr}
-use mathlib.Core.List.{[]}
+use mathlib.Core.List.{[], map}
 use native.Mathlib.Omega.{arith}
 use borrow.Author.Tests.{eqb-true}
 use lib.ListN.{length, take, length-take, length-map}
+use Rattle.std.proofs.lemmas.List.{take_min}
 use Rattle.calendar.specs.declared.rules.Frequency.TheVariants.{Hourly, Daily, Weekly}
 use Rattle.calendar.specs.declared.rules.Rule.{Rule}
 use Rattle.recurrence_set.specs.declared.Series.{Series}
@@ -17,7 +18,7 @@ use Rattle.recurrence_set.proofs.Due.{passes-first}
 use Rattle.recurrence_set.proofs.Every.{every-count}
 use Rattle.recurrence_set.proofs.WeekSearch.{weekly-sure}
 use Rattle.stop_list.specs.declared.runs.Run.{Run}
-use Rattle.stop_list.specs.Runs.{stops_from, stops_of, Live}
+use Rattle.stop_list.specs.Runs.{stop_in, stops_from, stops_of, Live}
 
 -- not more than k of the places from a on
 abbrev pub count_from : Series → ℕ → ℕ → ℕ
@@ -53,8 +54,25 @@ walk-all r n a c h g = (let e = walk-full r.series (count_from r.series r.room r
 pub sure-count : (r : Run) (n : ℕ) → n ≤ length (due (meets_at r.series) r.series.places r.from) → r.room ≤ n → r.room ≡ length (stops_of r)
 sure-count r n h l = (let e = length-take r.room (due (meets_at r.series) r.series.places r.from) in let q : r.room ≡ count_from r.series r.room r.from = omega arith in q) ∙ counted r
 
+pub no-room : (r : Run) → r.room ≡ 0 → 0 ≡ length (stops_of r)
+unfolding stops_of stops_from
+no-room r z = rw z
+
 pub none_ahead : (r : Run) → due (meets_at r.series) r.series.places r.from ≡ [] → 0 ≡ length (stops_of r)
 none_ahead r z = (let e : 0 ≡ count_from r.series r.room r.from = (rw (z, take_none r.room)) in e) ∙ counted r
+
+-- the same stops: with no more room than they need, from the first on, and where there is none
+pub needed-room : (r : Run) (n : ℕ) → n ≡ length (stops_of r) → stops_of (record { series = r.series; room = n; from = r.from }) ≡ stops_of r
+unfolding stops_of stops_from
+needed-room r n e = ap (map (stop_in r.series)) (rw (e, length-map, length-take) (take_min r.room (due (meets_at r.series) r.series.places r.from)))
+
+pub from-first : (r : Run) (h : ℕ) → due (meets_at r.series) r.series.places r.from ≡ due (meets_at r.series) r.series.places h → stops_of (record { series = r.series; room = r.room; from = h }) ≡ stops_of r
+unfolding stops_of stops_from
+from-first r h e = rw e
+
+pub of-none : (r : Run) → due (meets_at r.series) r.series.places r.from ≡ [] → stops_of (record { series = r.series; room = 0; from = r.from }) ≡ stops_of r
+unfolding stops_of stops_from
+of-none r z = rw (z, take_none r.room)
 
 module _ (r : Run) (v : Live r) (h : ℕ) (f : First (meets_at r.series) r.series.places r.from h) (w : h < r.series.places) where
   abbrev s : Series

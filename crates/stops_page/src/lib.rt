@@ -122,6 +122,9 @@ fn count_of(run: Run) -> usize
     requires { Live run }
     ensures { result ≡ length (stops_of run) }
 {
+    if run.room == 0 {
+        return 0;
+    }
     let rule = run.series.rule;
     let Some(here) = first_from(run.series, run.from) else {
         return 0;
@@ -134,6 +137,20 @@ fn count_of(run: Run) -> usize
         Frequency::Secondly | Frequency::Minutely | Frequency::Monthly | Frequency::Yearly => {
             count_walked(run)
         }
+    }
+}
+
+// The run from its first stop on, so that this one is looked for once; with no room where there is none.
+fn at_first(run: Run) -> Run
+    requires { Live run }
+    ensures { Live result × (stops_of result ≡ stops_of run) }
+{
+    if run.room == 0 {
+        return run;
+    }
+    match first_from(run.series, run.from) {
+        Some(from) => Run { from, ..run },
+        None => Run { room: 0, ..run },
     }
 }
 
@@ -170,9 +187,12 @@ pub fn print_list(out: &mut [u8], start: &[u8], rule: &[u8], most: usize) -> usi
     ensures { Wrote (pen out.old 0) (answer_shown (list_of start.now rule.now most)) (pen out.new result) }
 {
     match make_plan(start, rule, most) {
-        Ok(run) => {
-            let at = put_head(out, b"stops ", count_of(run));
-            put_stops(out, at, run)
+        Ok(plan) => {
+            let run = at_first(plan);
+            let n = count_of(run);
+            let at = put_head(out, b"stops ", n);
+            // With room for no more than these, nothing is looked for behind the last.
+            put_stops(out, at, Run { room: n, ..run })
         }
         Err(why) => put_head(out, b"refused ", why.number() as usize),
     }

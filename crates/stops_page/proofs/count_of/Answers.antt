@@ -1,7 +1,10 @@
 -- `stops_page::count_of` meets its contract: by the frequency.
 use native.Mathlib.Omega.{arith}
-use Rattle.stops_page.proofs.Counts.{none_ahead, count-stepped, weeks-ahead}
+use Rattle.stops_page.proofs.Counts.{no-room, none_ahead, count-stepped, weeks-ahead}
 use Rattle.stops_page.proofs.count_of.Goals as goal
+
+pub returns-then-run-eq0 : goal.returns-then-run-eq0
+returns-then-run-eq0 c = no-room c.args.run c.if-run-eq0.true
 
 pub returns-in_default : goal.returns-in_default
 returns-in_default c = none_ahead _ (c.in_default.ensures c.requires.founded c.requires.from)
