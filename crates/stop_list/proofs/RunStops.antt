@@ -1,5 +1,5 @@
 -- The stops of a run, one at a time: a search from a place on finds the first of them, and behind its place are the others.
-use Prim.Native.Nat.{ℕ, zero, suc, ◌+◌, ◌≤◌, ◌<◌, min}
+use Prim.Native.Nat.{ℕ, zero, suc, ◌+◌, ◌-◌, ◌≤◌, ◌<◌, min}
 use mathlib.Core.Path.{◌≡◌, refl}
 use mathlib.Core.List.{[], ◌∷◌}
 use native.Mathlib.Omega.{arith}
@@ -13,7 +13,7 @@ use Rattle.recurrence_set.specs.Searches.{First, meets_at}
 use Rattle.recurrence_set.proofs.Due.{passes-first}
 use Rattle.recurrence_set.proofs.Places.{all-hours, all-days}
 use Rattle.stop_list.specs.declared.runs.Run.{Run}
-use Rattle.stop_list.specs.Runs.{stop_in, stops_from, stops_of, Live}
+use Rattle.stop_list.specs.Runs.{stop_in, stops_from, stops_of, Live, StopBefore}
 
 take_none : {A : Type 0} (n : ℕ) → take {A = A} n [] ≡ []
 take_none zero = refl
@@ -43,6 +43,14 @@ behind_it q h n v w e = let p = v.founded.places in let k = few_places q.series.
 
 pub on_live : (q r : Run) (h : ℕ) → Live q → First (meets_at q.series) q.series.places q.from h → r.series ≡ q.series → r.from ≡ h + 1 → Live r
 on_live q r h v f e b = record { founded = rw e v.founded; from = rw (e, b) (let a = v.from in let g = f.from in omega arith) }
+
+-- where the stop stands
+pub stands : (q : Run) (b h : ℕ) (m : Moment) → First (meets_at q.series) q.series.places q.from h → h < q.series.places → m ≡ moment_at q.series.rule.frequency q.series.start h
+    → b ≡ h + 1 → StopBefore q.series q.from b (record { moment = m })
+unfolding stop_in
+stands q b h m f w e n =
+    let z : b - 1 ≡ h = omega arith in
+    record { from = (let g = f.from in omega arith); within = omega arith; meets = rw z (f.passes w); stop = rw (z, e) }
 
 -- there are not more than there is room for
 pub few_stops : (r : Run) → length (stops_of r) ≤ r.room

@@ -1,5 +1,5 @@
 -- A stop that is moved on, and a run of stops as the code has it: the stops of a series that are ahead, as far as there is room for them.
-use Rattle.std.specs.Prelude.{ℕ, ◌+◌, ◌≡◌, ◌≤◌, List, [], ◌∷◌, ◌++◌, map, length, take, drop, Some, None, Ok, Err}
+use Rattle.std.specs.Prelude.{ℕ, ◌+◌, ◌-◌, ◌≡◌, ◌≤◌, ◌<◌, true, List, [], ◌∷◌, ◌++◌, map, length, take, drop, Some, None, Ok, Err}
 use Rattle.std.specs.declared.option.Option as code
 use Rattle.std.specs.declared.result.Result.{Result}
 use Rattle.calendar.specs.Answers.{moved_on}
@@ -39,10 +39,17 @@ pub record Live (r : Run) : Type 0 where
   pub founded : Founded r.series
   pub from : r.series.place ≤ r.from
 
+-- x is the stop at a place of a series that meets its rule and does not lie before the place a; the next place is b
+pub record StopBefore (s : Series) (a b : ℕ) (x : Stop) : Type 0 where
+  pub from : a < b
+  pub within : b ≤ s.places
+  pub meets : meets_at s (b - 1) ≡ true
+  pub stop : x ≡ stop_in s (b - 1)
+
 -- r is the run q behind its next stop, or behind its last
 abbrev pub Advances : Run → code.Option Stop → Run → Type 0
 Advances q None r = Live r × (stops_of q ≡ []) × (stops_of r ≡ [])
-Advances q (Some s) r = Live r × (stops_of q ≡ s ∷ stops_of r) × (q.series ≡ r.series) × (q.room ≡ r.room + 1)
+Advances q (Some s) r = Live r × (stops_of q ≡ s ∷ stops_of r) × (q.series ≡ r.series) × (q.room ≡ r.room + 1) × StopBefore q.series q.from r.from s
 
 -- so many stops are laid at the front of the list, and the records behind them are as before
 pub record StopsLaid (ss old new : List Stop) (n : ℕ) : Type 0 where
