@@ -11,9 +11,10 @@ ghost use Rattle.calendar.specs.Moments.{is_moment, second_number};
 ghost use Rattle.recurrence_set.specs.Meets.{is_hourly, place_of, places_of, moment_at, every_meets};
 ghost use Rattle.recurrence_set.specs.Searches.{First, NextOf, FirstOf, moment_on, unit_of, seconds_in, places_up_to, limit_of, series_of, meets_at, real_end, Founded};
 
+use calendar::by_days::ByDays;
 use calendar::dates::{DAY_COUNT, Date};
-use calendar::moments::Moment;
-use calendar::rules::{End, Frequency, Rule};
+use calendar::moments::{Kind, Moment};
+use calendar::rules::{ByParts, End, Frequency, Rule, Weekday};
 use calendar::texts::is_clock;
 use months::monthly_from;
 use weeks::weekly_from;
@@ -26,6 +27,45 @@ pub struct Series {
     pub start: Moment,
     pub place: u32,
     pub places: u32,
+}
+
+impl Series {
+    // No places.
+    pub const EMPTY: Series = Series {
+        rule: Rule {
+            frequency: Frequency::Daily,
+            interval: 1,
+            end: End::Open,
+            wkst: Weekday::Monday,
+            by: ByParts {
+                second: false,
+                minute: false,
+                hour: false,
+                day: false,
+                monthday: false,
+                yearday: false,
+                weekno: false,
+                month: false,
+                setpos: false,
+            },
+            days: ByDays {
+                weekdays: 0,
+                ordinals: 0,
+                lastordinals: 0,
+                monthdays: 0,
+                lastmonthdays: 0,
+            },
+        },
+        start: Moment {
+            date: Date::FIRST,
+            hour: 0,
+            minute: 0,
+            second: 0,
+            kind: Kind::Day,
+        },
+        place: 0,
+        places: 0,
+    };
 }
 
 // A rule whose interval is no 0.
