@@ -20,6 +20,7 @@ pub mod PlaceSpans
 pub mod Separators
 pub mod ParamPlaces
 pub mod Tables
+pub mod Standing
 pub mod ParamValues
 pub mod ParamAnswers
 pub mod Decoding

@@ -17,11 +17,12 @@ use Rattle.octets.proofs.Cases.{or-second, or-false-right}
 use Rattle.octets.proofs.Positions.{here, ended}
 use Rattle.content.specs.Line.{Param, quote_after, bare, pieces, param_of, name_of}
 use Rattle.content.specs.Scan.{until_bare}
-use Rattle.content.specs.Parts.{other_pieces, params_in, param_at, param_cut, CutParam}
+use Rattle.content.specs.Parts.{other_pieces, params_in, param_at, param_cut, CutParam, StandsIn}
 use Rattle.content.specs.Parameters.{name_twice}
 use Rattle.content.specs.declared.parts.ParamParts.{ParamParts}
 use Rattle.content.proofs.Scanning.{bare-rest, bare-stop}
 use Rattle.content.proofs.Separators.{one_of, twice-one, before-is, pieces-first}
+use Rattle.content.proofs.Standing.{stands-cut}
 
 -- a parameter, or the end, stands at e: behind a bare semicolon
 pub record Stands (s : List ℕ) (e : ℕ) : Type 0 where
@@ -66,6 +67,14 @@ module _ (s : List ℕ) (e : ℕ) (q : e ≡ 0 + length (until_bare (one_of (cod
     pub next-some : params_in s ≡ param_cut (take (p.name - (e + 1)) (drop (e + 1) s)) (take (p.end - p.values) (drop p.values s)) ∷ params_in (take (length s - p.end) (drop p.end s))
     unfolding param_cut param_at
     next-some = rw (from s p.end) (first-params s 0 e q ∙ param-here s e (first-stands s 0 e q) h p k)
+
+-- its values, and what is behind it, are parts of the text
+module _ (s : List ℕ) (i : ℕ) (p : ParamParts) (k : CutParam s i p) where
+  pub values-stand : StandsIn s (take (p.end - p.values) (drop p.values s))
+  values-stand = stands-cut s p.values p.end k.values-within k.end-within
+
+  pub rest-stands : StandsIn s (take (length s - p.end) (drop p.end s))
+  rest-stands = stands-cut s p.end (length s) k.end-within (omega arith)
 
 -- a name among those of the parameters
 abbrev pub has_name : List ℕ → List Param → Bool

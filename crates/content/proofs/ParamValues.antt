@@ -1,5 +1,5 @@
 -- One value of a parameter: without its quotes, by places; and names, which decoding leaves as they are.
-use Prim.Native.Nat.{ℕ, suc, ◌-◌, ◌≤◌}
+use Prim.Native.Nat.{ℕ, suc, ◌+◌, ◌-◌, ◌≤◌}
 use Prim.Native.Char.{code}
 use mathlib.Core.Path.{◌≡◌, refl, sym, ap, ◌∙◌}
 use mathlib.Core.Bool.{Bool, true, false}
@@ -14,7 +14,9 @@ use Rattle.octets.proofs.Cases.{cases, never, same?, apart, both, and-true, and-
 use Rattle.octets.proofs.Classes.{same-is}
 use Rattle.octets.proofs.Positions.{from}
 use Rattle.content.specs.Line.{front, unquote}
+use Rattle.content.specs.Parts.{StandsIn}
 use Rattle.content.specs.Carets.{decoded_octet, caret_after, decoded_from, decoded}
+use Rattle.content.proofs.Standing.{stands-whole}
 
 -- decoding leaves a name as it is, and makes no name of what is none
 out-by : (a b d : Bool) (c : ℕ) (s : List ℕ)
@@ -94,6 +96,22 @@ front-take (c ∷ d ∷ s) =
     let n : suc (suc (length s)) - 1 ≡ suc (length s) = omega arith in
     let m : suc (length s) - 1 ≡ length s = omega arith in
     rw n (ap (λ (l : List ℕ). c ∷ l) (rw m at (front-take (d ∷ s))))
+
+-- a value without its quotes is a part of it
+pub unquote-stands : (v : List ℕ) → StandsIn v (unquote v)
+unfolding unquote
+unquote-stands [] = stands-whole []
+unquote-stands (c ∷ s) = by (eqb c (code "\""))
+  where
+    by : (b : Bool) → StandsIn (c ∷ s) (pick b (front s) (c ∷ s))
+    by true = record {
+      from = 1;
+      end = 1 + (length s - 1);
+      ordered = omega arith;
+      within = omega arith;
+      text = let e : 1 + (length s - 1) - 1 ≡ length s - 1 = omega arith in rw e (front-take s);
+    }
+    by false = stands-whole (c ∷ s)
 
 -- a value without its quotes, by whether it begins with one
 pub unquote-plain : (v : List ℕ) → (1 ≤ length v → get_or v 0 0 ≡ code "\"" → ⊥) → unquote v ≡ v

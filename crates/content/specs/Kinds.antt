@@ -1,5 +1,5 @@
--- What the answer to "which type does VALUE name" says: a part of the parameters stands for the type's name. The name may stand there at several places: which of
--- them is answered is the code's choice.
+-- What the answer to "which type does VALUE name" says: the text that is answered is the type's name. That it is a part of the parameters is promised beside it, by
+-- `StandsIn` of Parts. The name may stand there at several places: which of them is answered is the code's choice.
 use Rattle.std.specs.Prelude.{ℕ, List, Some, None, Ok, Err}
 use Rattle.std.specs.declared.option.Option as coded
 use Rattle.std.specs.declared.result.Result as ended

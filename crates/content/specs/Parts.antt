@@ -28,6 +28,14 @@ pub record Cut (l : List ℕ) (p : Parts) : Type 0 where
   pub colon-at : p.colon ≡ length (before (code ":") false l)
   pub line : line_at l p ≡ line_of l
 
+-- t is a part of s: its octets are those of s between two places. It may stand in s at several.
+pub record StandsIn (s t : List ℕ) : Type 0 where
+  pub from : ℕ
+  pub end : ℕ
+  pub ordered : from ≤ end
+  pub within : end ≤ length s
+  pub text : t ≡ take (end - from) (drop from s)
+
 -- the parameter that the places cut out of s, where it begins at i
 unfoldable pub param_at : List ℕ → ℕ → ParamParts → Param
 param_at s i p = record {

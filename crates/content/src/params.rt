@@ -1,10 +1,10 @@
 // What the parameters of a content line say. They are given as they stand in the line, each behind a semicolon.
-ghost use Rattle.std.specs.Prelude.{◌≡◌, map, false};
+ghost use Rattle.std.specs.Prelude.{◌≡◌, map, false, IfOk, IfSome};
 ghost use Rattle.octets.specs.Basics.{single};
 ghost use Rattle.content.specs.Parameters.{token, value_type, is_base64, is_encoded};
 ghost use Rattle.content.specs.Kinds.{value_type_said};
 ghost use Rattle.content.specs.Line.{pieces, param_value};
-ghost use Rattle.content.specs.Parts.{params_in};
+ghost use Rattle.content.specs.Parts.{StandsIn, params_in};
 
 use crate::parts::{next_param, unquoted};
 use crate::scan::next_bare;
@@ -23,7 +23,8 @@ fn is_single(values: &[u8]) -> bool
 
 // The type that the values of VALUE name: one token, and not UNKNOWN.
 fn type_named(values: &[u8]) -> Result<Option<&[u8]>, NoType>
-    ensures { value_type_said (λ t. t.now) result ≡ token (map param_value (pieces 44 false values.now)) }
+    ensures said { value_type_said (λ t. t.now) result ≡ token (map param_value (pieces 44 false values.now)) }
+    ensures within { IfOk result (λ stated. IfSome stated (λ t. StandsIn values.now t.now)) }
 {
     if !is_single(values) {
         return Err(NoType);
@@ -40,7 +41,8 @@ fn type_named(values: &[u8]) -> Result<Option<&[u8]>, NoType>
 
 // The type that VALUE names, as it stands in the parameters, if there is a VALUE. Of several places that hold its name any may be answered.
 pub fn value_type(s: &[u8]) -> Result<Option<&[u8]>, NoType>
-    ensures { value_type_said (λ t. t.now) result ≡ value_type (params_in s.now) }
+    ensures said { value_type_said (λ t. t.now) result ≡ value_type (params_in s.now) }
+    ensures within { IfOk result (λ stated. IfSome stated (λ t. StandsIn s.now t.now)) }
 {
     let mut rest = s;
     while let Some(p) = next_param(rest) {

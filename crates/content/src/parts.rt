@@ -1,7 +1,7 @@
 // A content line and its parameters by the places of their parts.
 ghost use Rattle.std.specs.Prelude.{◌≡◌, ◌≤◌, ◌<◌, [], ◌∷◌, length, MatchOption};
 ghost use Rattle.content.specs.Line.{unquote};
-ghost use Rattle.content.specs.Parts.{Cut, CutParam, params_in, param_cut};
+ghost use Rattle.content.specs.Parts.{Cut, CutParam, StandsIn, params_in, param_cut};
 
 use crate::scan::next_bare;
 
@@ -72,7 +72,7 @@ pub(crate) fn param_at(s: &[u8], at: usize) -> ParamParts
 
 // The next parameter of some that stand each behind a semicolon; none where there is no more.
 pub(crate) fn next_param(s: &[u8]) -> Option<Param<'_>>
-    ensures { MatchOption result (params_in s.now ≡ []) (λ p. (length p.rest.now < length s.now) × (params_in s.now ≡ param_cut p.name.now p.values.now ∷ params_in p.rest.now)) }
+    ensures { MatchOption result (params_in s.now ≡ []) (λ p. (length p.rest.now < length s.now) × (params_in s.now ≡ param_cut p.name.now p.values.now ∷ params_in p.rest.now) × StandsIn s.now p.values.now × StandsIn s.now p.rest.now) }
 {
     let e = next_bare(s, 0, b';', b';');
     if s.len() <= e {

@@ -2,20 +2,24 @@
 use mathlib.Core.Path.{sym, ◌∙◌}
 use Rattle.content.specs.Kinds.{value_type_said}
 use Rattle.content.proofs.ParamAnswers.{token-several, token-no-name, token-unknown, token-named}
+use Rattle.content.proofs.ParamValues.{unquote-stands}
 use Rattle.content.proofs.params.type_named.Goals as goal
 
-pub returns-then-not-is_single : goal.returns-then-not-is_single
+pub returns-then-not-is_single-clause-said : goal.returns-then-not-is_single-clause-said
 unfolding value_type_said
-returns-then-not-is_single c = token-several c.args.values.now (sym c.is_single.ensures ∙ c.if-not-is_single.true)
+returns-then-not-is_single-clause-said c = token-several c.args.values.now (sym c.is_single.ensures ∙ c.if-not-is_single.true)
 
-pub returns-then-not-is_name : goal.returns-then-not-is_name
+pub returns-then-not-is_name-clause-said : goal.returns-then-not-is_name-clause-said
 unfolding value_type_said
-returns-then-not-is_name c = token-no-name c.args.values.now (sym c.is_single.ensures ∙ c.if-not-is_single.false) _ c.unquoted-value.ensures (sym c.is_name.ensures ∙ c.if-not-is_name.true)
+returns-then-not-is_name-clause-said c = token-no-name c.args.values.now (sym c.is_single.ensures ∙ c.if-not-is_single.false) _ c.unquoted-value.ensures (sym c.is_name.ensures ∙ c.if-not-is_name.true)
 
-pub returns-then-same_name : goal.returns-then-same_name
+pub returns-then-same_name-clause-said : goal.returns-then-same_name-clause-said
 unfolding value_type_said
-returns-then-same_name c = token-unknown c.args.values.now (sym c.is_single.ensures ∙ c.if-not-is_single.false) _ c.unquoted-value.ensures (sym c.is_name.ensures ∙ c.if-not-is_name.false) (sym c.same_name.ensures ∙ c.if-same_name.true)
+returns-then-same_name-clause-said c = token-unknown c.args.values.now (sym c.is_single.ensures ∙ c.if-not-is_single.false) _ c.unquoted-value.ensures (sym c.is_name.ensures ∙ c.if-not-is_name.false) (sym c.same_name.ensures ∙ c.if-same_name.true)
 
-pub returns : goal.returns
+pub returns-clause-said : goal.returns-clause-said
 unfolding value_type_said
-returns c = token-named c.args.values.now (sym c.is_single.ensures ∙ c.if-not-is_single.false) _ c.unquoted-value.ensures (sym c.is_name.ensures ∙ c.if-not-is_name.false) (sym c.same_name.ensures ∙ c.if-same_name.false)
+returns-clause-said c = token-named c.args.values.now (sym c.is_single.ensures ∙ c.if-not-is_single.false) _ c.unquoted-value.ensures (sym c.is_name.ensures ∙ c.if-not-is_name.false) (sym c.same_name.ensures ∙ c.if-same_name.false)
+
+pub returns-clause-within : goal.returns-clause-within
+returns-clause-within c = rw c.unquoted-value.ensures (unquote-stands c.args.values.now)
