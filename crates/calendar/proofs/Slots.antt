@@ -1,5 +1,5 @@
 -- Reading and writing by the places of a form: the places as octets, the state of the loop that reads, and of the one that writes the basic text.
-use Prim.Native.Nat.{ℕ, ◌+◌, ◌≤◌, ◌<◌}
+use Prim.Native.Nat.{ℕ, ◌+◌, ◌-◌, ◌≤◌, ◌<◌}
 use Prim.Native.Char.{code}
 use mathlib.Core.Path.{◌≡◌, refl, sym, ap, ◌∙◌}
 use mathlib.Core.Bool.{Bool, true, false}
@@ -9,8 +9,9 @@ use mathlib.Core.Option.{Option, none, some}
 use native.Mathlib.Omega.{arith}
 use native.Mathlib.Numerals.{add-one}
 use lib.Dec.{eqb}
-use lib.ListN.{length, get_or, take, drop, set, length-set}
+use lib.ListN.{length, get_or, take, drop, set, replicate, length-set}
 use lib.Seq.{take-suc-set}
+use Rattle.std.proofs.lemmas.List.{drop-drop, drop-set-lt, drop-replicate}
 use Rattle.octets.specs.Basics.{◌and◌}
 use Rattle.octets.specs.Optional.{map?, when}
 use Rattle.octets.specs.Classes.{upper_octet, upper}
@@ -68,16 +69,23 @@ slot-ended : (whole : Bool) (form : List ℕ) (k : ℕ) → length form ≤ k �
 unfolding slots
 slot-ended whole form k h = rw (ended form k h)
 
--- The loop that reads: k places are read, from i octets, into the front of `out`.
+-- an octet that is put before zeros takes the place of the first one
+zeros-left : (n : ℕ) (out : List ℕ) (x : ℕ) → drop n out ≡ replicate (20 - n) 0 → drop (n + 1) (set out n x) ≡ replicate (20 - (n + 1)) 0
+zeros-left n out x z =
+    let e : 20 - n - 1 ≡ 20 - (n + 1) = omega arith in
+    drop-set-lt (n + 1) out n x (omega arith) ∙ sym (drop-drop 1 n out) ∙ ap (drop 1) z ∙ drop-replicate 1 (20 - n) 0 ∙ ap (λ k. replicate k 0) e
+
+-- The loop that reads: k places are read, from i octets, into the front of `out`; the rest of `out` is zeros.
 pub record Reading (whole : Bool) (form s out : List ℕ) (i k : ℕ) : Type 0 where
   pub wide : length out ≡ 20
   pub within : i ≤ length s
   pub upto : k ≤ length form
+  pub zeros : drop k out ≡ replicate (20 - k) 0
   pub all : joins (take k out) (extended (slots whole (drop k form)) (upper (drop i s))) ≡ extended (slots whole form) (upper s)
 
 module _ (whole : Bool) (form s : List ℕ) where
-  pub begins : (out : List ℕ) → length out ≡ 20 → Reading whole form s out 0 0
-  begins out w = record { wide = w; within = omega arith; upto = omega arith; all = whole-text (extended (slots whole form) (upper s)) }
+  pub begins : (out : List ℕ) → length out ≡ 20 → out ≡ replicate 20 0 → Reading whole form s out 0 0
+  begins out w z = record { wide = w; within = omega arith; upto = omega arith; zeros = z; all = whole-text (extended (slots whole form) (upper s)) }
     where
       whole-text : (r : Option (List ℕ)) → joins [] r ≡ r
       whole-text none = unfold joins map? in refl
@@ -94,6 +102,7 @@ module _ (whole : Bool) (form s : List ℕ) where
           wide = length-set out k f ∙ r.wide;
           within = r.within;
           upto = omega arith;
+          zeros = zeros-left k out f r.zeros;
           all =
               rw (stored f l)
               (sym (joins-kept (take k out) f (extended (slots whole (drop (k + 1) form)) (upper (drop i s))))
@@ -107,6 +116,7 @@ module _ (whole : Bool) (form s : List ℕ) where
           wide = length-set out k x ∙ r.wide;
           within = omega arith;
           upto = omega arith;
+          zeros = zeros-left k out x r.zeros;
           all =
               rw (stored x l)
               (sym (joins-kept (take k out) x (extended (slots whole (drop (k + 1) form)) (upper (drop (i + 1) s))))
@@ -130,10 +140,11 @@ module _ (whole : Bool) (form s : List ℕ) where
     unfolding extended joins map?
     ends h g = ap some (sym (append-nil (take k out))) ∙ (rw (slot-ended whole form k h, upper-ended s i g) at r.all)
 
--- The loop that writes the basic text: the places fs and the octets ts are left, and n octets are kept in the front of `out`.
+-- The loop that writes the basic text: the places fs and the octets ts are left, and n octets are kept in the front of `out`; the rest of `out` is zeros.
 pub record Writing (form t out : List ℕ) (n : ℕ) (fs ts : List ℕ) : Type 0 where
   pub wide : length out ≡ 20
   pub room : n + length fs ≤ 20
+  pub zeros : drop n out ≡ replicate (20 - n) 0
   pub all : take n out ++ basic (slots false fs) (upper ts) ≡ basic (slots false form) (upper t)
 
 basic-place : (c : ℕ) (fs : List Slot) (x : ℕ) (xs : List ℕ) → basic (place_at c ∷ fs) (x ∷ xs) ≡ x ∷ basic fs xs
@@ -148,7 +159,7 @@ module _ (form t out : List ℕ) where
 
       pub skips : is_added false f ≡ true → Writing form t out n gs us
       unfolding slots slot_at upper basic keeps
-      skips e = record { wide = r.wide; room = omega (arith, has-room); all = rw (p, q, e) at r.all }
+      skips e = record { wide = r.wide; room = omega (arith, has-room); zeros = r.zeros; all = rw (p, q, e) at r.all }
 
       pub keeps-one : (x : ℕ) → is_added false f ≡ false → x ≡ upper_octet c → Writing form t (set out n x) (n + 1) gs us
       keeps-one x e d =
@@ -156,6 +167,7 @@ module _ (form t out : List ℕ) where
           record {
             wide = length-set out n x ∙ r.wide;
             room = has-room;
+            zeros = zeros-left n out x r.zeros;
             all = rw (s, append_assoc, d, ← (basic-place f (slots false gs) (upper_octet c) (upper us))) (unfold slots slot_at upper in rw (p, q, e) at r.all);
           }
 

@@ -21,19 +21,31 @@ pub enum Form {
     Offset,
 }
 
-// A short text; a clause sees its octets.
-#[derive(Drop)]
+// A short text; a clause sees its octets. Zeros stand behind them, so that they give the array back.
+#[derive(Clone, Copy)]
 pub struct ShortText {
     octets: [u8; 20],
     len: usize,
 }
 
 impl Model for ShortText {
+    ghost use Rattle.std.specs.Prelude.{◌≡◌, ◌-◌, ◌≤◌, ◌++◌, List, ℕ, length, take, drop, replicate};
+    ghost use Rattle.std.proofs.Common.{sym, ap, ◌∙◌, subst, length-take-le, take-append-drop};
+
     ghost Value = { List ℕ };
 
     ghost view = { λ t. take t.len t.octets };
 
-    ghost invariant = { λ t. t.len ≤ 20 };
+    ghost invariant = { λ t. (t.len ≤ 20) × (length t.octets ≡ 20) × (drop t.len t.octets ≡ replicate (20 - t.len) 0) };
+
+    ghost inverse = { λ s. record { octets = s ++ replicate (20 - length s) 0; len = length s } };
+
+    ghost inverse_ok = { λ t h i. record {
+      octets = (ap (λ n. take t.len t.octets ++ replicate (20 - n) 0) (length-take-le t.len t.octets (subst (λ n. t.len ≤ n) (sym h.1) h.0))
+          ∙ ap (λ zs. take t.len t.octets ++ zs) (sym h.2)
+          ∙ take-append-drop t.len t.octets) i;
+      len = length-take-le t.len t.octets (subst (λ n. t.len ≤ n) (sym h.1) h.0) i;
+    } };
 }
 
 impl ShortText {

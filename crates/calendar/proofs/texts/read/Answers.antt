@@ -6,7 +6,7 @@ use Rattle.calendar.proofs.Slots.{begins, adds, reads, short, wrong, long, ends}
 use Rattle.calendar.proofs.texts.read.Goals as goal
 
 pub loop-k-init : goal.loop-k-init
-loop-k-init c = begins _ _ _ _ refl
+loop-k-init c = begins _ _ _ _ refl refl
 
 pub loop-k-preserved-then-is_added : goal.loop-k-preserved-then-is_added
 loop-k-preserved-then-is_added c = adds _ _ _ _ _ _ c.loop-k.invariant c.loop-k-test.true (omega arith) (sym c.is_added.ensures ∙ c.if-is_added.true)
