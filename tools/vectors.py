@@ -180,14 +180,15 @@ def types_alone(item):
     found = re.match(r"(?s)((?:pub )?use (?:\w+::)+)(?:\{(.*)\}|(\w+));$", item)
     if not found:
         return item
-    named = [n for n in re.findall(r"\w+", found.group(2) or found.group(3)) if re.match(r"[A-Z]\w*[a-z]", n)]
+    named = [n for n in re.findall(r"\w+", found.group(2) or found.group(3)) if n == "self" or re.match(r"[A-Z]\w*[a-z]", n)]
     return "%s{%s};" % (found.group(1), ", ".join(named)) if named else None
 
 
 def strip(path):
-    """Leaves the types of a source file, which definitions cite, and takes its functions away."""
+    """Leaves the types of a source file, which definitions cite, with what their fields and names stand on, and takes its functions away."""
     text = open(path, encoding="utf-8").read()
-    kept = re.findall(r"(?ms)^(?:pub(?:\(crate\))? )?(?:struct|enum) \w+ \{.*?^\}$|^(?:pub )?mod \w+;$|^(?:pub )?use [^;]*;$", text)
+    types = r"^(?:pub(?:\(crate\))? )?(?:(?:struct|enum) \w+ \{.*?^\}|struct \w+;|type \w[^\n]*;)$"
+    kept = re.findall(r"(?ms)%s|^(?:pub )?mod \w+;$|^(?:pub |ghost )?use [^;]*;$" % types, text)
     kept = [k for k in map(types_alone, kept) if k]
     open(path, "w", encoding="utf-8").write("// Types.\n" + ("#![tactic(auto)]\n" if path.endswith("lib.rt") else "") + "\n".join(kept) + "\n")
 
