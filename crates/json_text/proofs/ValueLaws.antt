@@ -1,13 +1,13 @@
 -- Values, keys and whole texts, by what they begin with.
-use Prim.Native.Nat.{ℕ, zero, suc, ◌-◌}
+use Prim.Native.Nat.{ℕ, zero, suc, ◌-◌, ◌≤◌, ◌<◌}
 use mathlib.Core.Path.{◌≡◌, refl, sym, ap, ◌∙◌}
 use mathlib.Core.Bool.{true, false}
 use mathlib.Core.List.{List, [], ◌∷◌}
 use native.Mathlib.Numerals.{sub-one}
 use native.Mathlib.Omega.{arith}
-use lib.Dec.{eqb}
-use lib.ListN.{length, take, get_or}
-use borrow.Author.Tests.{ne_eqb}
+use lib.Dec.{eqb, ltb}
+use lib.ListN.{length, take, get_or, drop, length-drop}
+use borrow.Author.Tests.{ne_eqb, ltb-true, ltb-false}
 use Rattle.octets.specs.Basics.{octets, pick, ◌or◌}
 use Rattle.octets.specs.Classes.{is_digit, between}
 use Rattle.octets.specs.Limits.{most_open}
@@ -27,7 +27,8 @@ use Rattle.json_text.proofs.Outs.{gives-weaker}
 use Rattle.json_text.proofs.Tapes.{ser_list, ser_pair, array-tape, object-tape}
 use Rattle.json_text.proofs.Sizes.{value-sized, pair-sized}
 use Rattle.json_text.proofs.Elements.{Shortens}
-use Rattle.json_text.proofs.Agreements.{Answer, HasRead, agrees-by, agrees-map, agrees_after, agrees-fails}
+use Rattle.json_text.proofs.Agreements.{Answer, HasRead, agrees-by, agrees-map, agrees_after, agrees-fails, HasFound}
+use Rattle.octets.proofs.Positions.{past_end}
 
 -- a number's text, up to u
 pub number-reads : (s : List ℕ) {u : List ℕ} → scan start s ≡ ok tt u → number_read s ≡ ok (take (length s - length u) s) u
@@ -76,7 +77,7 @@ levels-left end F (suc d) s n = rw sub-one
 
 -- a value, by its first octet
 module _ (b : ℕ) (s : List ℕ) (d : ℕ) where
-  value-at : value_within d (b ∷ s) ≡ value_by (opening_of b) (levels 93 (λ p. p) d) (levels 125 pair d) b s
+  pub value-at : value_within d (b ∷ s) ≡ value_by (opening_of b) (levels 93 (λ p. p) d) (levels 125 pair d) b s
   value-at = split d
     where
       split : (d : ℕ) → value_within d (b ∷ s) ≡ value_by (opening_of b) (levels 93 (λ p. p) d) (levels 125 pair d) b s
@@ -196,3 +197,21 @@ module _ (text : List ℕ) {i : List ℕ} (blank : i ≡ skip_space text) where
         go : (n : List ℕ) → length n ≡ 0 → nothing_behind x.it n ≡ ok x.it n
         go [] h = unfold nothing_behind in refl
         go (b ∷ n) h = absurd (omega (arith, h))
+
+-- a bracket or a brace stands inside the text
+kind-inside : (text : List ℕ) (i : ℕ) → ((opening_of (get_or text i 0) ≡ other) → ⊥) → i < length text
+unfolding opening_of is_digit between
+kind-inside text i n = cases (ltb i (length text)) (λ h. ltb-true i (length text) h) (λ h. absurd (n (ap opening_of (past_end text i (ltb-false i (length text) h)))))
+
+pub bracket-inside : (text : List ℕ) (i : ℕ) → opening_of (get_or text i 0) ≡ bracket → i < length text
+bracket-inside text i e = kind-inside text i (λ o. let z : ◌≡◌ {A = ℕ} 0 1 = cc in omega arith)
+
+pub brace-inside : (text : List ℕ) (i : ℕ) → opening_of (get_or text i 0) ≡ brace → i < length text
+brace-inside text i e = kind-inside text i (λ o. let z : ◌≡◌ {A = ℕ} 0 1 = cc in omega arith)
+
+-- a number's text, from `at` to e
+pub number_read_lem : (text : List ℕ) (at e : ℕ) {low : ℕ} → HasFound text low (scan start (drop at text)) e → at ≤ e → number_read (drop at text) ≡ ok (take (e - at) (drop at text)) (drop e text)
+unfolding number_read
+number_read_lem text at e x h =
+    let n : length (drop at text) - length (drop e text) ≡ e - at = omega (arith, x.below, length-drop at text, length-drop e text) in
+    rw (x.is, n)
