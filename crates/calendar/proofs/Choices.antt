@@ -44,10 +44,10 @@ chosen_at (w ∷ ws) (x ∷ xs) d v h = rw (same-turned v w) (cases (same w v)
     (λ e. rw e)
     (λ e. rw e (chosen_at ws xs d v (omega arith))))
 
-abbrev frequency_choices : List Frequency
+abbrev pub frequency_choices : List Frequency
 frequency_choices = Secondly ∷ Minutely ∷ Hourly ∷ Daily ∷ Weekly ∷ Monthly ∷ []
 
-frequency-at : (v : List ℕ) (r : ℕ) → r ≡ word_place frequencies v → get_or frequency_choices r Yearly ≡ frequency_of v
+pub frequency-at : (v : List ℕ) (r : ℕ) → r ≡ word_place frequencies v → get_or frequency_choices r Yearly ≡ frequency_of v
 unfolding frequencies frequency_of
 frequency-at v r e = ap (λ (i : ℕ). get_or frequency_choices i Yearly) e ∙ sym (chosen_at frequencies frequency_choices Yearly v (omega arith))
 

@@ -21,7 +21,9 @@ use Rattle.calendar.specs.Rules.{weekday_of, weekday_place, with_day, with_month
 use Rattle.calendar.specs.declared.by_days.ByDays.{ByDays}
 use Rattle.calendar.specs.declared.rules.Weekday.{Weekday}
 use Rattle.calendar.specs.declared.rules.Weekday.TheVariants.{Sunday, Monday, Tuesday, Wednesday, Thursday, Friday, Saturday}
-use Rattle.calendar.proofs.Pieces.{pieces-are}
+use Rattle.calendar.proofs.Pieces.{pieces-are, before-take, split-more, split-last, scanned}
+use lib.Seq.{drop-drop}
+use Rattle.calendar.specs.Walk.{before_first}
 
 pub place-small : (w : Weekday) → weekday_place w ≤ 6
 unfolding weekday_place
@@ -116,3 +118,31 @@ module _ (b : ByDays) (s : List ℕ) (a at n : ℕ) (i : a ≡ length s - 2) (u 
         → record { weekdays = b.weekdays; ordinals = b.ordinals; lastordinals = k; monthdays = b.monthdays; lastmonthdays = b.lastmonthdays } ≡ with_day b s
     unfolding with_day minus
     day-last x y t e = rw (place, some, ← p, t, week, ← y, e)
+
+-- a turn, which takes the value at `at`, of e octets, and makes c of b
+module _ (f : ByDays → List ℕ → ByDays) (v : List ℕ) (at e : ℕ) (b c : ByDays) (is : e ≡ length (before_first 44 (take (length v - at) (drop at v))))
+    (told : c ≡ f b (take (e - 0) (drop 0 (take (length v - at) (drop at v))))) where
+  abbrev rest : List ℕ
+  rest = drop at v
+
+  here : e ≡ length (before_first 44 rest)
+  here = scanned 44 v at e is
+
+  value : f b (take e rest) ≡ c
+  value = sym (rw (from v at, upto rest e) at told)
+
+  piece : before_first 44 rest ≡ take e rest
+  piece = rw here (before-take 44 rest)
+
+  pub gathers-last : length (take (length v - at) rest) ≤ e → gathered f b (split 44 rest) ≡ c
+  unfolding gathered
+  gathers-last h = rw (split-last 44 rest (rw (← here) (rw (from v at) at h)), piece) value
+
+  pub gathers-more : e < length (take (length v - at) rest) → gathered f b (split 44 rest) ≡ gathered f c (split 44 (drop (at + e + 1) v))
+  gathers-more h =
+      let p : split 44 rest ≡ before_first 44 rest ∷ split 44 (drop (e + 1) rest) = rw (← here) at (split-more 44 rest (rw (← here) (rw (from v at) at h))) in
+      let d : drop (e + 1) rest ≡ drop (at + e + 1) v = drop-drop (e + 1) at v ∙ ap (λ (n : ℕ). drop n v) (sum at e) in
+      rw (p, piece) (gathered-first f b (take e rest) (split 44 (drop (e + 1) rest)) ∙ rw (value, d))
+    where
+      sum : (at e : ℕ) → at + (e + 1) ≡ at + e + 1
+      sum at e = omega arith

@@ -6,9 +6,9 @@ use mathlib.Core.Bool.{Bool, true, false, not}
 use mathlib.Core.List.{List, [], ◌∷◌, ◌++◌}
 use native.Mathlib.Omega.{arith}
 use borrow.Author.Tests.{le-leb, lt-leb, leb-true, leb-false, eqb-true}
-use lib.Dec.{eqb, leb}
+use lib.Dec.{eqb, leb, ltb}
 use lib.ListN.{length, get_or, take, drop}
-use Rattle.octets.specs.Basics.{octets, pick, ◌and◌, ◌or◌, all, any, filled, among}
+use Rattle.octets.specs.Basics.{octets, pick, ◌and◌, ◌or◌, all, any, filled, among, same}
 use Rattle.octets.specs.Optional.{is_some}
 use Rattle.octets.specs.Classes.{between, is_digit, is_upper, is_lower, upper_octet, upper}
 use Rattle.octets.specs.Decimal.{digits, value_of, is_sign, has_sign, unsigned}
@@ -18,11 +18,13 @@ use Rattle.octets.proofs.Decimal.{digits-all}
 use Rattle.octets.proofs.Limits.{most-integer}
 use Rattle.octets.proofs.Positions.{from, upto, part_length}
 use Rattle.octets.proofs.Optional.{some-when}
-use Rattle.calendar.specs.Recurrence.{weekdays, word_of, until_of, count_of, number_of, ordinal_of, day_of}
+use Rattle.calendar.specs.Recurrence.{weekdays, word_of, until_of, count_of, number_of, ordinal_of, day_of, frequencies}
 use Rattle.calendar.specs.Dates.{moment_of}
 use Rattle.calendar.specs.Moments.{moment_from, read_moment}
 use Rattle.calendar.proofs.Options.{some_then, some-map, some-both}
 use Rattle.calendar.proofs.Pieces.{uncased, upper-take, upper-drop}
+use Rattle.calendar.specs.Walk.{word_place}
+use Rattle.calendar.proofs.Words.{place-among}
 
 -- uppercase changes neither digits nor signs
 digit-bounds : (c : ℕ) → is_digit c ≡ true → (48 ≤ c) × (c ≤ 57)
@@ -177,3 +179,50 @@ module _ (s : List ℕ) (at : ℕ) (is : at ≡ length s - 2) where
       numbered : (t : List ℕ) → (length t ≡ 0 → ⊥) → is_some (ordinal_of (upper t)) ≡ is_some (number_of true 2 1 53 (upper t))
       numbered [] n = absurd (n refl)
       numbered (c ∷ t) n = unfold upper ordinal_of in refl
+
+-- words
+pub word_stands : (ws : List (List ℕ)) (n : List ℕ) → is_some (word_of ws n) ≡ ltb (word_place ws n) (length ws)
+unfolding word_of
+word_stands ws n = some-when (among n ws) n ∙ sym (place-among n ws)
+
+pub frequency-stands : (n : List ℕ) → is_some (word_of frequencies n) ≡ ltb (word_place frequencies n) 7
+frequency-stands n = word_stands frequencies n ∙ ap (ltb (word_place frequencies n)) (unfold frequencies in refl)
+
+module _ (s : List ℕ) where
+  pub no-weekday : (length s ≡ 2 → ⊥) → is_some (word_of weekdays (upper s)) ≡ false
+  unfolding word_of
+  no-weekday h = some-when _ _ ∙ weekday-length (upper s) (λ e. h (sym (upper-length s) ∙ e))
+
+  pub weekday-stands : (a b : ℕ) (r : Bool) → length s ≡ 2 → a ≡ upper_octet (get_or s 0 0) → b ≡ upper_octet (get_or s 1 0) → r ≡ among (a ∷ b ∷ []) weekdays
+      → r ≡ is_some (word_of weekdays (upper s))
+  unfolding word_of
+  weekday-stands a b r e f g h = rw (some-when (among (upper s) weekdays) (upper s), two-letters s e, ← f, ← g) h
+
+-- the second letters behind each first one
+module _ (b : ℕ) where
+  abbrev day-behind : ℕ → Bool
+  day-behind a = among (a ∷ b ∷ []) weekdays
+
+  pub behind-s : day-behind (code "S") ≡ (eqb b (code "U") or eqb b (code "A"))
+  unfolding among any same weekdays
+  behind-s = cases (eqb b (code "U")) (λ e. rw e) (λ e. rw e (cases (eqb b (code "A")) (λ f. rw f) (λ f. rw f)))
+
+  pub behind-t : day-behind (code "T") ≡ (eqb b (code "U") or eqb b (code "H"))
+  unfolding among any same weekdays
+  behind-t = cases (eqb b (code "U")) (λ e. rw e) (λ e. rw e (cases (eqb b (code "H")) (λ f. rw f) (λ f. rw f)))
+
+  pub behind-m : day-behind (code "M") ≡ eqb b (code "O")
+  unfolding among any same weekdays
+  behind-m = cases (eqb b (code "O")) (λ e. rw e) (λ e. rw e)
+
+  pub behind-w : day-behind (code "W") ≡ eqb b (code "E")
+  unfolding among any same weekdays
+  behind-w = cases (eqb b (code "E")) (λ e. rw e) (λ e. rw e)
+
+  pub behind-f : day-behind (code "F") ≡ eqb b (code "R")
+  unfolding among any same weekdays
+  behind-f = cases (eqb b (code "R")) (λ e. rw e) (λ e. rw e)
+
+  pub behind-other : (a : ℕ) → eqb a (code "S") ≡ false → eqb a (code "M") ≡ false → eqb a (code "T") ≡ false → eqb a (code "W") ≡ false → eqb a (code "F") ≡ false → day-behind a ≡ false
+  unfolding among any same weekdays
+  behind-other a s m t w f = rw (s, m, t, w, f)

@@ -1,5 +1,5 @@
 -- The table of keys.
-use Prim.Native.Nat.{ℕ, suc, ◌+◌, ◌-◌, ◌≤◌, ◌<◌}
+use Prim.Native.Nat.{ℕ, suc, ◌+◌, ◌-◌, ◌≤◌, ◌<◌, zero}
 use Prim.Native.Char.{code}
 use mathlib.Core.Path.{◌≡◌, refl, sym, ap, ◌∙◌}
 use mathlib.Core.Bool.{Bool, true, false}
@@ -8,7 +8,7 @@ use native.Mathlib.Nat.{zero-add}
 use native.Mathlib.Omega.{arith}
 use borrow.Author.Tests.{lt-ltb, le-ltb, eq-eqb, ne_eqb}
 use lib.Dec.{eqb}
-use lib.ListN.{length, take, drop, get_or}
+use lib.ListN.{length, take, drop, get_or, get_or-eq_default}
 use lib.Seq.{take-take}
 use Rattle.octets.specs.Basics.{pick, same}
 use Rattle.octets.specs.Classes.{upper}
@@ -17,8 +17,8 @@ use Rattle.std.specs.declared.option.Option as option
 use Rattle.octets.proofs.Cases.{cases, never}
 use Rattle.octets.proofs.Classes.{same_length, upper-length}
 use Rattle.octets.proofs.Positions.{upto}
-use Rattle.calendar.specs.Recurrence.{keys}
-use Rattle.calendar.specs.Walk.{before_first, word_place, word_place_from, key_names, key_place, key_number, key_said, part_at, keyed, part_in, first_part}
+use Rattle.calendar.specs.Recurrence.{keys, frequency, Key, key}
+use Rattle.calendar.specs.Walk.{before_first, word_place, word_place_from, key_names, key_place, key_number, key_said, part_at, keyed, part_in, first_part, key_at}
 use Rattle.calendar.specs.declared.parts.Key.{Key as KeyInCode}
 use Rattle.calendar.specs.declared.parts.Key.TheVariants.{Freq, Until, Count as CountKey, Interval, BySecond, ByMinute, ByHour, ByDay, ByMonthDay, ByYearDay, ByWeekNo, ByMonth, BySetPos, Wkst}
 use Rattle.calendar.proofs.Pieces.{before-take}
@@ -110,3 +110,18 @@ module _ (s : List ℕ) (to n k : ℕ) (ends : to ≡ length (before_first (code
   pub first-bare : to ≤ n → part_at (length keys) n n to ≡ first_part s
   unfolding first_part part_in keyed
   first-bare h = rw (name-length, ← ends, le-ltb n to h)
+
+-- k is none of the n numbers from m on, as a `match` tells in its last arm
+abbrev pub Away : ℕ → ℕ → ℕ → Type 0
+Away k m zero = Unit {0}
+Away k m (suc n) = Away k m n × (k ≡ m + n → ⊥)
+
+pub away : (k m n : ℕ) → Away k m n → m ≤ k → m + n ≤ k
+away k m zero a h = omega arith
+away k m (suc n) a h = let l = away k m n a.0 h in omega (arith, a.1)
+
+-- FREQ has words as values, and so has what is no key
+pub other-sort : (k : ℕ) → Away k 1 13 → (key_at k).sort ≡ frequency
+unfolding key_at
+other-sort zero a = unfold keys in refl
+other-sort (suc k) a = ap (λ (j : Key). j.sort) (get_or-eq_default keys (key [] frequency) (rw key-count (away (suc k) 1 13 a (omega arith))))

@@ -7,7 +7,7 @@ use mathlib.Core.List.{List, [], ◌∷◌, map}
 use native.Mathlib.Numerals.{add-one}
 use native.Mathlib.Omega.{arith}
 use lib.Dec.{eqb}
-use lib.ListN.{length, take, drop, length-drop}
+use lib.ListN.{length, take, drop, length-drop, get_or}
 use lib.Seq.{take_all}
 use Rattle.std.specs.List.{slice_split, onto_first}
 use Rattle.octets.specs.Basics.{pick}
@@ -15,10 +15,11 @@ use Rattle.octets.specs.Classes.{between, is_upper, is_lower, upper_octet, upper
 use Rattle.octets.specs.Pieces.{split, onto, cut}
 use Rattle.octets.proofs.Cases.{cases, apart}
 use Rattle.octets.proofs.Classes.{between-true, within-between}
-use Rattle.octets.proofs.Positions.{from}
+use Rattle.octets.proofs.Positions.{from, here, ended}
 use Rattle.octets.proofs.Search.{le-by, take_by}
 use Rattle.octets.specs.Search.{until}
 use Rattle.calendar.specs.Walk.{before_first}
+use borrow.Author.Tests.{eq-eqb, ne_eqb}
 
 -- the piece before the first separator
 more_by : (b : Bool) (c : ℕ) (l s : List ℕ) (f : List ℕ → List (List ℕ)) (ls : List (List ℕ)) → length (pick b [] (c ∷ l)) < suc (length s)
@@ -143,3 +144,18 @@ pieces-are sep [] = refl
 pieces-are sep (x ∷ s) = cases (eqb x sep)
     (λ e. rw e (ap (◌∷◌ []) (pieces-are sep s)))
     (λ e. rw e (ap (onto_first x) (pieces-are sep s) ∙ onto-same x (split sep s)))
+
+module _ (sep : ℕ) where
+  -- for a scan: the separator stands at i; it does not; or the end is reached
+  module _ (s : List ℕ) (i : ℕ) where
+    pub before_here : i < length s → get_or s i 0 ≡ sep → length (before_first sep (drop i s)) ≡ 0
+    unfolding before_first
+    before_here h e = rw (here s i h, eq-eqb (get_or s i 0) sep e)
+
+    pub before_on : i < length s → (get_or s i 0 ≡ sep → ⊥) → length (before_first sep (drop i s)) ≡ suc (length (before_first sep (drop (i + 1) s)))
+    unfolding before_first
+    before_on h n = rw (here s i h, ne_eqb (get_or s i 0) sep n)
+
+    pub before-end : length s ≤ i → length (before_first sep (drop i s)) ≡ 0
+    unfolding before_first
+    before-end h = rw (ended s i h)

@@ -69,6 +69,10 @@ rule-whole s = by (read_rule s)
 
 -- as the code tests whether a part may follow
 module _ (seen : List Bool) (k : ℕ) (v : List ℕ) where
+  pub follow-unknown : 14 ≤ k → false ≡ may_follow seen k v
+  unfolding may_follow
+  follow-unknown h = rw (key-count, le-ltb k 14 h)
+
   pub follow-barred : k < 14 → barred seen k ≡ true → false ≡ may_follow seen k v
   unfolding may_follow
   follow-barred h e = rw (key-count, lt-ltb k 14 h, e)

@@ -5,15 +5,15 @@ use mathlib.Core.Path.{◌≡◌, refl, sym, ap, ◌∙◌}
 use mathlib.Core.Bool.{Bool, true, false, not}
 use mathlib.Core.List.{List, [], ◌∷◌, ◌++◌, append-nil, append_assoc}
 use native.Mathlib.Omega.{arith}
-use borrow.Author.Tests.{eqb-true, ne_eqb}
-use lib.Dec.{eqb}
+use borrow.Author.Tests.{eqb-true, ne_eqb, ltb-true, ltb-false}
+use lib.Dec.{eqb, ltb}
 use lib.ListN.{length, get_or, take, drop}
 use lib.Seq.{drop-drop}
-use Rattle.octets.specs.Basics.{pick, ◌or◌, filled, All}
+use Rattle.octets.specs.Basics.{pick, ◌or◌, filled, All, ◌and◌}
 use Rattle.octets.specs.Pieces.{onto, cut}
 use Rattle.octets.proofs.Cases.{cases, and-false-right, or-false-right, or_true_right}
 use Rattle.octets.proofs.Pieces.{Free}
-use Rattle.octets.proofs.Positions.{here, ended, first_of}
+use Rattle.octets.proofs.Positions.{here, ended, first_of, part_length}
 use Rattle.content.specs.Lines.{newlines, is_blank, unfolded_from, is_lf, without_cr, cut_lines, lines_of}
 use Rattle.octets.specs.Search.{until}
 use Rattle.content.specs.Buffer.{laid_out}
@@ -154,3 +154,32 @@ short b (c ∷ s) = cases (eqb c (code "\n"))
 pub laid-short : (s : List ℕ) → length (laid_out (lines_of s)) ≤ length s + 1
 unfolding lines_of
 laid-short s = rw (← laid-fresh (cut_lines (unfolded_from 0 (newlines s)))) (omega (arith, short false (unfolded_from 0 (newlines s)), lines-short s))
+
+-- where the octets of a line end that run from i to the LF at e
+abbrev pub trim_to : List ℕ → ℕ → ℕ → ℕ
+trim_to s i e = pick (ltb i e and eqb (get_or s (e - 1) 0) (code "\r")) (e - 1) e
+
+module _ (s : List ℕ) (i e : ℕ) (h : i ≤ e) (l : e ≤ length s) where
+  trim-low : i ≤ trim_to s i e
+  trim-low = cases (ltb i e)
+      (λ g. rw g (cases (eqb (get_or s (e - 1) 0) (code "\r")) (λ c. rw c (omega (arith, ltb-true i e g))) (λ c. rw c h)))
+      (λ g. rw g h)
+
+  trim-high : trim_to s i e ≤ e
+  trim-high = cases (ltb i e)
+      (λ g. rw g (cases (eqb (get_or s (e - 1) 0) (code "\r")) (λ c. rw c (omega arith)) (λ c. rw c (omega arith))))
+      (λ g. rw g (omega arith))
+
+  pub trim-within : (k : ℕ) → k ≡ trim_to s i e → (i ≤ k) × (k ≤ e)
+  trim-within k t = (rw t trim-low, rw t trim-high)
+
+-- a part from i to k is filled where i is below k
+part_filled : (s : List ℕ) (i k : ℕ) → i ≤ k → k ≤ length s → filled (take (k - i) (drop i s)) ≡ ltb i k
+unfolding filled
+part_filled s i k h l = cases (ltb i k)
+    (λ g. rw g (some (take (k - i) (drop i s)) (rw (part_length s i k h l) (omega (arith, ltb-true i k g)))))
+    (λ g. let n : k - i ≡ 0 = omega (arith, ltb-false i k g) in rw (g, n))
+  where
+    some : (t : List ℕ) → 0 < length t → filled t ≡ true
+    some [] g = absurd (omega arith)
+    some (c ∷ t) g = refl

@@ -1,7 +1,7 @@
 -- The parameters of a line by their places: each stands behind a semicolon.
 use Prim.Native.Nat.{ℕ, ◌+◌, ◌-◌, ◌≤◌, ◌<◌}
 use Prim.Native.Char.{code}
-use mathlib.Core.Path.{◌≡◌, ◌∙◌}
+use mathlib.Core.Path.{◌≡◌, ◌∙◌, ap}
 use mathlib.Core.Bool.{Bool, true, false}
 use mathlib.Core.List.{List, [], ◌∷◌, map}
 use borrow.Author.Tests.{eqb-true}
@@ -108,3 +108,33 @@ module _ (s n v r : List ℕ) (k : params_in s ≡ param_cut n v ∷ params_in r
 
   pub twice-first : name_twice (params_in r) ≡ false → name_twice (params_in s) ≡ among (lower n) (map name_of (params_in r))
   twice-first t = twice-turn ∙ rw t (or-false-right (among (lower n) (map name_of (params_in r))))
+
+-- no name stands twice behind the end
+module _ (s : List ℕ) (e : ℕ) where
+  pub twice-none : length s ≤ e → name_twice (params_in (drop e s)) ≡ false
+  unfolding name_twice twice
+  twice-none h = rw (no-params s e h)
+
+-- a walk over the parameters from a on, at e: what f says of those from a on, it says of those from e on
+pub record Passing {A : Type 0} (f : List Param → A) (s : List ℕ) (a e : ℕ) : Type 0 where
+  pub stands : Stands s e
+  pub alike : f (params_in (drop a s)) ≡ f (params_in (drop e s))
+
+pub passing-start : {A : Type 0} {f : List Param → A} (s : List ℕ) (a e : ℕ) → e ≡ a + length (until_bare (one_of (code ";") (code ";")) false (drop a s)) → Passing f s a e
+passing-start {f = f} s a e q = record { stands = first-stands s a e q; alike = ap f (first-params s a e q) }
+
+module _ {A : Type 0} {f : List Param → A} {s : List ℕ} {a e : ℕ} (w : Passing f s a e) where
+  pub passing-end : length s ≤ e → f (params_in (drop a s)) ≡ f []
+  passing-end h = w.alike ∙ ap f (no-params s e h)
+
+  module _ (h : e < length s) {p : ParamParts} (k : CutParam s (e + 1) p) where
+    pub passing-at : f (params_in (drop a s)) ≡ f (param_at s (e + 1) p ∷ params_in (drop p.end s))
+    passing-at = w.alike ∙ ap f (param-here s e w.stands h p k)
+
+    pub passing-on : f (param_at s (e + 1) p ∷ params_in (drop p.end s)) ≡ f (params_in (drop p.end s)) → Passing f s a p.end
+    passing-on o = record { stands = param-next s (e + 1) p k; alike = passing-at ∙ o }
+
+module _ (n : List ℕ) {s : List ℕ} {a e : ℕ} (w : Passing (has_name n) s a e) where
+  pub among_none : length s ≤ e → has_name n (params_in (drop a s)) ≡ false
+  unfolding among any
+  among_none h = passing-end w h

@@ -18,22 +18,22 @@ use Rattle.conversion_theory.specs.Skeleton.{params_from, property_from}
 use Rattle.ical_properties.specs.PartPlaces.{InGroup, Into, IntoArray, IntoObject, OctetsAre, PartsAt}
 
 module _ (t : List ℕ) (i : ℕ) where
-  into-array : {a : ℕ} → After t i a → tag_at t i ≡ tag_array → IntoArray t i a
+  pub into-array : {a : ℕ} → After t i a → tag_at t i ≡ tag_array → IntoArray t i a
   into-array {a} x q = record {
     list = sym (elements-inside x q);
     within = record { is = λ _. ap pop x.is; low = λ _. omega (arith, x.more (on-tape t i (λ e. omega arith))); high = x.high };
   }
 
-  into-no-array : ((tag_at t i ≡ tag_array) → ⊥) → IntoArray t i (length t)
+  pub into-no-array : ((tag_at t i ≡ tag_array) → ⊥) → IntoArray t i (length t)
   into-no-array n = record {
     list = list-end t (length t) (past-tag t (length t) (omega arith)) ∙ sym (no-elements t i n);
     within = record { is = λ q. absurd (n q); low = λ q. absurd (n q); high = omega arith };
   }
 
-  into-object : {a : ℕ} → After t i a → tag_at t i ≡ tag_object → IntoObject t i a
+  pub into-object : {a : ℕ} → After t i a → tag_at t i ≡ tag_object → IntoObject t i a
   into-object x q = sym (members-inside x q)
 
-  into-no-object : ((tag_at t i ≡ tag_object) → ⊥) → IntoObject t i (length t)
+  pub into-no-object : ((tag_at t i ≡ tag_object) → ⊥) → IntoObject t i (length t)
   into-no-object n = members-end t (length t) (past-tag t (length t) (omega arith)) ∙ sym (no-members t i n)
 
 module _ {t : List ℕ} {i a : ℕ} where

@@ -7,7 +7,7 @@ use mathlib.Core.Option.{Option, none, some}
 use lib.Dec.{eqb}
 use Rattle.octets.specs.Basics.{octets, pick, ◌and◌, ◌or◌, same}
 use Rattle.octets.specs.Optional.{is_some}
-use Rattle.types.specs.Codes.{type_name, code_named}
+use Rattle.types.specs.Codes.{type_name, code_named, binary}
 use Rattle.types.specs.Table.{Row}
 use Rattle.types.specs.Laid.{row_found}
 use Rattle.std.specs.Prelude.{Some, None}
@@ -23,6 +23,8 @@ use Rattle.conversion_theory.specs.Return.{is_unknown, stated_type, states_plain
 use Rattle.conversion_theory.proofs.PropertyReading.{unprocessed-code}
 use Rattle.ical_properties.specs.Ruled.{Rules, fits_by}
 use Rattle.ical_properties.specs.declared.Ruling.{Ruling}
+use borrow.Author.Tests.{ne_eqb}
+use Rattle.octets.proofs.Cases.{and-true-right, or_true_right}
 
 abbrev row : ℕ → Bool → Row
 row c m = record { code = c; many = m }
@@ -83,3 +85,18 @@ fits-ruled {r} {n} {t} g b = rw (g.code, g.taken) (by (is_unknown t))
     by : (u : Bool) → fits_by (code_of r (pick u none (some t))) (u and is_some r) b ≡ encoding_fits r (pick u none (some t)) b
     by false = fits-typed r t b
     by true = fits-untyped r b
+
+-- number 8
+module _ (c : ℕ) (b : Bool) where
+  pub fits-binary : (t : Bool) → c ≡ binary → fits_by c t b ≡ b
+  unfolding fits_by binary_fits is_decoded
+  fits-binary t e = rw (e, or_true_right t, and-true-right b)
+
+  module _ (n : (c ≡ binary) → ⊥) where
+    pub fits-taken : {t : Bool} → t ≡ true → fits_by c t b ≡ true
+    unfolding fits_by binary_fits
+    fits-taken e = rw (ne_eqb c binary n, e)
+
+    pub fits-stated : {t : Bool} → t ≡ false → fits_by c t b ≡ not (is_decoded c b)
+    unfolding fits_by binary_fits
+    fits-stated e = rw (ne_eqb c binary n, e)

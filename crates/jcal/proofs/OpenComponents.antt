@@ -148,7 +148,7 @@ nest-closed (ends m) = refl
 nest-closed (carries a) = refl
 nest-closed stray = refl
 
-nest-fault : (k : ℕ) (e : Event Line) → nest (fault k) e ≡ fault k
+pub nest-fault : (k : ℕ) (e : Event Line) → nest (fault k) e ≡ fault k
 unfolding nest
 nest-fault k (begins m) = refl
 nest-fault k (ends m) = refl

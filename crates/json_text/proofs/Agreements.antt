@@ -72,3 +72,9 @@ going_start = record { goes = λ t r x. x }
 pub going_on : {A : Type 0} {f : A → List ℕ} {R : List ℕ → Out A} {p : Pen} {s₀ : List ℕ} {q q' : Pen} {s : List ℕ} {xs : List ℕ} (s' : List ℕ) (h : A → A)
     → Going f R p s₀ q s → Wrote q xs q' → ((a : A) → xs ++ f a ≡ f (h a)) → R s ≡ fmap h (R s') → Going f R p s₀ q' s'
 going_on {f = f} s' h g w e step = record { goes = λ t r x. g.goes t r (agrees-by step (agrees_after f h w e x)) }
+
+-- a reading that ends at the place e of the text, and not before low
+pub record HasFound (text : List ℕ) (low : ℕ) (o : Out (Unit {0})) (e : ℕ) : Type 0 where
+  pub is : o ≡ ok tt (drop e text)
+  pub above : low ≤ e
+  pub below : e ≤ length text

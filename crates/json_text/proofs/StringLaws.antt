@@ -21,6 +21,7 @@ use Rattle.octets.specs.Search.{ClassRun}
 use Rattle.std.specs.Prelude.{Some, None}
 use Rattle.json_text.specs.Promise.{unless_zero, hex_code}
 use Rattle.json_text.proofs.Outs.{Gives, gives-weaker, by, then-alike, map-map, map_same}
+use Rattle.octets.proofs.Runs.{inside}
 
 -- four hexadecimal digits, or none
 pub data Digit (s : List ℕ) : Out ℕ → Type 0 where
@@ -359,3 +360,13 @@ module _ (b : ℕ) (s : List ℕ) (n : (b ≡ 117) → ⊥) where
   pub escape-one : {x : ℕ} → x ≡ escape_of b → ((x ≡ 0) → ⊥) → escape (b ∷ s) ≡ ok (x ∷ []) s
   unfolding escape
   escape-one q z = rw (q, ne_eqb b 117 n, ne_eqb (escape_of b) 0 (λ w. z (q ∙ w)))
+
+pub small : (d : ℕ) → d ≤ 15 → ltb d 16 ≡ true
+small d h = lt-ltb d 16 (omega arith)
+
+-- what follows a backslash, at a place
+module _ (text : List ℕ) (i : ℕ) where
+  module _ (x : ℕ) (n : (get_or text i 0 ≡ 117) → ⊥) (e : x ≡ escape_of (get_or text i 0)) where
+    pub escape-inside : ((x ≡ 0) → ⊥) → i < length text
+    unfolding escape_of
+    escape-inside z = inside text i (λ b. not (eqb (escape_of b) 0)) refl (rw (← e, ne_eqb x 0 z))

@@ -1,13 +1,13 @@
 -- Values, keys and whole texts, by what they begin with.
-use Prim.Native.Nat.{ℕ, zero, suc, ◌-◌}
+use Prim.Native.Nat.{ℕ, zero, suc, ◌-◌, ◌≤◌, ◌<◌, ◌+◌}
 use mathlib.Core.Path.{◌≡◌, refl, sym, ap, ◌∙◌}
 use mathlib.Core.Bool.{true, false}
 use mathlib.Core.List.{List, [], ◌∷◌}
 use native.Mathlib.Numerals.{sub-one}
 use native.Mathlib.Omega.{arith}
-use lib.Dec.{eqb}
-use lib.ListN.{length, take, get_or}
-use borrow.Author.Tests.{ne_eqb}
+use lib.Dec.{eqb, ltb}
+use lib.ListN.{length, take, get_or, drop, length-drop}
+use borrow.Author.Tests.{ne_eqb, ltb-true, ltb-false}
 use Rattle.octets.specs.Basics.{octets, pick, ◌or◌}
 use Rattle.octets.specs.Classes.{is_digit, between}
 use Rattle.octets.specs.Limits.{most_open}
@@ -17,7 +17,7 @@ use Rattle.json_text.specs.Tree.{Json, null, falsity, truth, num, str, arr, obj,
 use Rattle.json_text.specs.Reads.{Out, ok, deep, bad, fmap, and_then, skip_space, literal}
 use Rattle.json_text.specs.Numbers.{start, first_digit, advance, number_ends, scan, number_read}
 use Rattle.json_text.specs.Strings.{string}
-use Rattle.json_text.specs.Reader.{Opening, bracket, brace, quote, numeral, null_word, false_word, true_word, other, opening_of, colon, member_key, pair, members_from, bracketed, value_by, value_with, value_within, nothing_behind, parse_text}
+use Rattle.json_text.specs.Reader.{Opening, bracket, brace, quote, numeral, null_word, false_word, true_word, other, opening_of, colon, member_key, pair, members_from, bracketed, value_by, value_with, value_within, nothing_behind, parse_text, Pair}
 use Rattle.json_text.specs.Tape.{tag_null, tag_false, tag_true, tag_number, tag_array, tag_object, ser_text, ser_string, ser}
 use Rattle.json_text.specs.Promise.{Agrees}
 use Rattle.std.specs.Prelude.{Err}
@@ -27,7 +27,8 @@ use Rattle.json_text.proofs.Outs.{gives-weaker}
 use Rattle.json_text.proofs.Tapes.{ser_list, ser_pair, array-tape, object-tape}
 use Rattle.json_text.proofs.Sizes.{value-sized, pair-sized}
 use Rattle.json_text.proofs.Elements.{Shortens}
-use Rattle.json_text.proofs.Agreements.{Answer, HasRead, agrees-by, agrees-map, agrees_after, agrees-fails}
+use Rattle.json_text.proofs.Agreements.{Answer, HasRead, agrees-by, agrees-map, agrees_after, agrees-fails, HasFound}
+use Rattle.octets.proofs.Positions.{past_end, here, ended}
 
 -- a number's text, up to u
 pub number-reads : (s : List ℕ) {u : List ℕ} → scan start s ≡ ok tt u → number_read s ≡ ok (take (length s - length u) s) u
@@ -76,8 +77,8 @@ levels-left end F (suc d) s n = rw sub-one
 
 -- a value, by its first octet
 module _ (b : ℕ) (s : List ℕ) (d : ℕ) where
-  value-at : value_within d (b ∷ s) ≡ value_by (opening_of b) (levels 93 (λ p. p) d) (levels 125 pair d) b s
-  value-at = split d
+  value-first : value_within d (b ∷ s) ≡ value_by (opening_of b) (levels 93 (λ p. p) d) (levels 125 pair d) b s
+  value-first = split d
     where
       split : (d : ℕ) → value_within d (b ∷ s) ≡ value_by (opening_of b) (levels 93 (λ p. p) d) (levels 125 pair d) b s
       split zero = unfold value_within value_with levels in refl
@@ -85,7 +86,7 @@ module _ (b : ℕ) (s : List ℕ) (d : ℕ) where
 
   module _ (k : Opening) (e : opening_of b ≡ k) where
     value-kind : value_within d (b ∷ s) ≡ value_by k (levels 93 (λ p. p) d) (levels 125 pair d) b s
-    value-kind = value-at ∙ rw e
+    value-kind = value-first ∙ rw e
 
 -- arrays and objects
 module _ (s : List ℕ) (d : ℕ) where
@@ -196,3 +197,35 @@ module _ (text : List ℕ) {i : List ℕ} (blank : i ≡ skip_space text) where
         go : (n : List ℕ) → length n ≡ 0 → nothing_behind x.it n ≡ ok x.it n
         go [] h = unfold nothing_behind in refl
         go (b ∷ n) h = absurd (omega (arith, h))
+
+-- a bracket or a brace stands inside the text
+kind-inside : (text : List ℕ) (i : ℕ) → ((opening_of (get_or text i 0) ≡ other) → ⊥) → i < length text
+unfolding opening_of is_digit between
+kind-inside text i n = cases (ltb i (length text)) (λ h. ltb-true i (length text) h) (λ h. absurd (n (ap opening_of (past_end text i (ltb-false i (length text) h)))))
+
+pub bracket-inside : (text : List ℕ) (i : ℕ) → opening_of (get_or text i 0) ≡ bracket → i < length text
+bracket-inside text i e = kind-inside text i (λ o. let z : ◌≡◌ {A = ℕ} 0 1 = cc in omega arith)
+
+pub brace-inside : (text : List ℕ) (i : ℕ) → opening_of (get_or text i 0) ≡ brace → i < length text
+brace-inside text i e = kind-inside text i (λ o. let z : ◌≡◌ {A = ℕ} 0 1 = cc in omega arith)
+
+-- a number's text, from `at` to e
+pub number_read_lem : (text : List ℕ) (at e : ℕ) {low : ℕ} → HasFound text low (scan start (drop at text)) e → at ≤ e → number_read (drop at text) ≡ ok (take (e - at) (drop at text)) (drop e text)
+unfolding number_read
+number_read_lem text at e x h =
+    let n : length (drop at text) - length (drop e text) ≡ e - at = omega (arith, x.below, length-drop at text, length-drop e text) in
+    rw (x.is, n)
+
+-- a value, by the octet at i
+module _ (text : List ℕ) (i d : ℕ) where
+  pub value-at : value_within d (drop i text) ≡ value_by (opening_of (get_or text i 0)) (levels 93 (λ p. p) d) (levels 125 pair d) (get_or text i 0) (drop (i + 1) text)
+  value-at = split d
+    where
+      with : (a : List ℕ → Out (List Json)) (o : List ℕ → Out (List Pair)) → value_with a o (drop i text) ≡ value_by (opening_of (get_or text i 0)) a o (get_or text i 0) (drop (i + 1) text)
+      with a o = unfold value_with in cases (ltb i (length text))
+          (λ h. rw (here text i (ltb-true i (length text) h)))
+          (λ h. unfold value_by opening_of is_digit between in rw (ended text i (ltb-false i (length text) h), past_end text i (ltb-false i (length text) h)))
+
+      split : (d : ℕ) → value_within d (drop i text) ≡ value_by (opening_of (get_or text i 0)) (levels 93 (λ p. p) d) (levels 125 pair d) (get_or text i 0) (drop (i + 1) text)
+      split zero = unfold value_within levels in with (λ _. deep) (λ _. deep)
+      split (suc d) = unfold value_within levels in with (bracketed 93 (value_within d)) (bracketed 125 (pair (value_within d)))

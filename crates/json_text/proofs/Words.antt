@@ -14,7 +14,7 @@ use Rattle.std.specs.declared.option.Option as code
 use Rattle.json_text.specs.Promise.{Behind, behind, nothing}
 use Rattle.octets.proofs.Cases.{cases}
 use lib.ListN.{length, take, drop, get_or}
-use Rattle.octets.proofs.Positions.{here}
+use Rattle.octets.proofs.Positions.{here, ended}
 use Rattle.octets.specs.Classes.{is_space}
 use Rattle.json_text.specs.Reads.{ok, bad, skip_space, literal}
 use Rattle.octets.specs.Search.{ClassRun}
@@ -68,3 +68,17 @@ octet-short b (c ∷ s) h = absurd (omega (arith, h))
 pub octet-same : (b : ℕ) {s u : List ℕ} → s ≡ b ∷ u → literal (b ∷ []) s ≡ ok tt u
 unfolding literal
 octet-same b e = rw (e, eq-eqb b b refl)
+
+-- one octet of a name
+module _ (text name : List ℕ) (i k : ℕ) (h : k < length name) where
+  pub word_more : i < length text → get_or text i 0 ≡ get_or name k 0 → literal (drop k name) (drop i text) ≡ literal (drop (k + 1) name) (drop (i + 1) text)
+  unfolding literal
+  word_more l e = rw (here text i l, here name k h, eq-eqb _ _ e)
+
+  pub word-short : length text ≤ i → literal (drop k name) (drop i text) ≡ bad
+  unfolding literal
+  word-short l = rw (ended text i l, here name k h)
+
+pub word-whole : (name s : List ℕ) (k : ℕ) → length name ≤ k → literal (drop k name) s ≡ ok tt s
+unfolding literal
+word-whole name s k h = rw (ended name k h)

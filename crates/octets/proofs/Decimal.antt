@@ -282,3 +282,9 @@ decimal-last n h k =
     ap trim l
     ∙ trim-more (figures 19 (n / 10)) (48 + n % 10) (figures-digits 19 (n / 10)) v
     ∙ ap (λ (s : List ℕ). s ++ (48 + n % 10) ∷ []) (sym (trim-wide 18 (n / 10) f))
+
+-- the sign in front
+pub unsigned-none : (s : List ℕ) → length s ≡ 0 → unsigned s ≡ s
+unfolding unsigned
+unsigned-none [] e = refl
+unsigned-none (c ∷ s) e = absurd (omega arith)

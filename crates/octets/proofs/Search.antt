@@ -76,6 +76,13 @@ module _ (stop : ℕ → Bool) where
 
   -- a loop at i
   module _ (s : List ℕ) (i : ℕ) where
+    pub until-past : (e : ℕ) → i ≤ e → e ≤ length s → all (λ c. not (stop c)) (take (e - i) (drop i s)) ≡ true
+        → e + length (until stop (drop e s)) ≡ i + length (until stop (drop i s))
+    until-past e l m h =
+        let q : i + (e - i) ≡ e = omega arith in
+        let k : drop (e - i) (drop i s) ≡ drop e s = drop-drop (e - i) i s ∙ ap (λ (n : ℕ). drop n s) q in
+        omega (arith, past (e - i) (drop i s) (omega (arith, length-drop i s)) h, ap (λ (r : List ℕ). length (until stop r)) k)
+
     pub until_none : length s ≤ i → length (until stop (drop i s)) ≡ 0
     unfolding until
     until_none h = rw (ended s i h)
@@ -164,3 +171,8 @@ module _ (b : ℕ) (s : List ℕ) (at k : ℕ) {e : ℕ} (q : e ≡ at + length 
   far-place h =
       let d = ap (λ (r : List ℕ). length (until (λ c. eqb c b) r)) (drop-drop k at s) in
       omega (arith, d, far (λ c. eqb c b) k (drop at s) (omega (arith, cut)))
+
+-- octets of a class are passed together
+pub run_past : (p : ℕ → Bool) (s : List ℕ) (i e : ℕ) → i ≤ e → e ≤ length s → all p (take (e - i) (drop i s)) ≡ true
+    → e + length (until (λ c. not (p c)) (drop e s)) ≡ i + length (until (λ c. not (p c)) (drop i s))
+run_past p s i e l m h = until-past (λ c. not (p c)) s i e l m (all_weaker p (λ c. not (not (p c))) (λ x k. rw k) (take (e - i) (drop i s)) h)

@@ -14,7 +14,7 @@ use Rattle.calendar.specs.Sets.{has}
 use Rattle.calendar.specs.declared.by_days.ByDays.{ByDays}
 use Rattle.calendar.specs.declared.rules.Rule.{Rule}
 use Rattle.recurrence_set.specs.Meets.{ordinal_serves, month_day_serves, day_serves}
-use Rattle.recurrence_set.specs.Searches.{Marks, MarksOnly, serves_in_month}
+use Rattle.recurrence_set.specs.Searches.{Marks, MarksOnly, serves_in_month, names_none}
 use Rattle.calendar.proofs.SetLaws.{has-or, has-power, has-none}
 use Rattle.recurrence_set.proofs.SetBits.{has-shr, has-mod}
 
@@ -104,3 +104,23 @@ module _ (rule : Rule) (v l w : ℕ) (r : ℕ) where
 -- and no days behind the month
 pub marks-only : (l : ℕ) (p : ℕ → Bool) (r : ℕ) → l ≤ 31 → Marks l p r → MarksOnly l p (r % ((1 * 2 ^ l) % 2 ^ 64))
 marks-only l p r q m = rw (one_shifted l (omega arith)) (record { days = λ k h. has-mod r l k h ∙ m.days k h; small = mod-lt r (pow_pos l) })
+
+-- BYDAY names no day
+module _ (r : Rule) where
+  pub no-by-day : r.by.day ≡ false → false ≡ names_none r
+  unfolding names_none
+  no-by-day e = rw e
+
+  module _ (d : r.by.day ≡ true) where
+    pub some-weekday : (r.days.weekdays % 128 ≡ 0 → ⊥) → false ≡ names_none r
+    unfolding names_none
+    some-weekday n = rw (d, ne_eqb _ _ n)
+
+    module _ (w : r.days.weekdays % 128 ≡ 0) where
+      pub some-ordinal : (r.days.ordinals % 34359738368 ≡ 0 → ⊥) → false ≡ names_none r
+      unfolding names_none
+      some-ordinal n = rw (d, eq-eqb _ _ w, ne_eqb _ _ n)
+
+      pub some-last : r.days.ordinals % 34359738368 ≡ 0 → eqb (r.days.lastordinals % 34359738368) 0 ≡ names_none r
+      unfolding names_none
+      some-last o = rw (d, eq-eqb _ _ w, eq-eqb _ _ o)

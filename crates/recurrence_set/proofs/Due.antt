@@ -87,3 +87,7 @@ module _ (p : ℕ → Bool) (l : ℕ) where
   pub next-after : (a b : ℕ) (o : code.Option ℕ) → a ≤ b → ((k : ℕ) → a ≤ k → k < b → k < l → p k ≡ false) → NextOf p l b o → NextOf p l a o
   next-after a b None h f s = skip a b h f ∙ s
   next-after a b (Some r) h f s = first-after a b r h f s
+
+module _ (p : ℕ → Bool) (l : ℕ) where
+  pub first_past : (a : ℕ) → l ≤ a → First p l a a
+  first_past a h = record { from = omega arith; same = refl; passes = λ g. absurd (omega arith) }

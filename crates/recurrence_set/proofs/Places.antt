@@ -5,7 +5,7 @@ use mathlib.Core.Logic.{◌⊎◌, inl, inr}
 use mathlib.Core.Bool.{Bool, true, false}
 use mathlib.Core.Option.{none, some}
 use native.Mathlib.Omega.{arith}
-use native.Mathlib.Nat.{div-lt_iff_lt-mul}
+use native.Mathlib.Nat.{div-lt_iff_lt-mul, min-eq_left, min-eq_right}
 use borrow.Author.Tests.{lt-ltb, leb-true}
 use lib.Dec.{ltb, leb}
 use Rattle.octets.specs.Optional.{when}
@@ -139,3 +139,24 @@ module _ (f : Frequency) (m : Moment) (end : End) (a : ℕ) (p : a ≡ places_of
       → (r : ℕ) → r ≡ min a n → real_end end → r ≡ limit_of f m end
   unfolding limit_of
   until-limit last n e q r d h = let w = q (rw e at h) in rw (e, ← w, ← p) d
+
+module _ (f : Frequency) (m : Moment) (end : End) (a : ℕ) (p : a ≡ places_of f) where
+  pub count-limit : (k : ℕ) → end ≡ Count k → a ≡ limit_of f m end
+  unfolding limit_of
+  count-limit k e = rw e p
+
+  pub open-limit : end ≡ Open → a ≡ limit_of f m end
+  unfolding limit_of
+  open-limit e = rw e p
+
+  module _ (last : Moment) (n : ℕ) (e : end ≡ Until last) (q : is_moment last ≡ true → n ≡ places_up_to (unit_of f) (seconds_in f m) (second_number last)) where
+    pub until-all : a < n → real_end end → a ≡ limit_of f m end
+    unfolding limit_of
+    until-all h r = let w = q (rw e at r) in rw (e, ← w, ← p) (sym (min-eq_left (less a n h)))
+      where
+        less : (a n : ℕ) → a < n → a ≤ n
+        less a n h = omega arith
+
+    pub until-some : n ≤ a → real_end end → n ≡ limit_of f m end
+    unfolding limit_of
+    until-some h r = let w = q (rw e at r) in rw (e, ← w, ← p) (sym (min-eq_right h))

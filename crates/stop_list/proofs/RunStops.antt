@@ -14,6 +14,7 @@ use Rattle.recurrence_set.proofs.Due.{passes-first}
 use Rattle.recurrence_set.proofs.Places.{all-hours, all-days}
 use Rattle.stop_list.specs.declared.runs.Run.{Run}
 use Rattle.stop_list.specs.Runs.{stop_in, stops_from, stops_of, Live, StopBefore}
+use Rattle.recurrence_set.specs.declared.Series.{Series}
 
 take_none : {A : Type 0} (n : ℕ) → take {A = A} n [] ≡ []
 take_none zero = refl
@@ -56,3 +57,8 @@ stands q b h m f w e n =
 pub few_stops : (r : Run) → length (stops_of r) ≤ r.room
 unfolding stops_of stops_from
 few_stops r = rw (length-map, length-take) (omega arith)
+
+module _ (s : Series) (a h : ℕ) (f : First (meets_at s) s.places a h) where
+  from_first : (n : ℕ) → stops_from s n h ≡ stops_from s n a
+  unfolding stops_from
+  from_first n = rw f.same

@@ -30,7 +30,7 @@ take_none (suc k) = refl
 
 -- a walk that has counted n of them, and t in the end: the search finds none, or the first of them
 module _ (s : Series) (t n most a : ℕ) (c : n + count_from s (most - n) a ≡ t) where
-  walk-full : most ≤ n → n ≡ t
+  pub walk-full : most ≤ n → n ≡ t
   walk-full l = let z : most - n ≡ 0 = omega arith in let d : n + count_from s 0 a ≡ t = (rw z at c) in omega arith
 
   pub walk_ends : due (meets_at s) s.places a ≡ [] → n ≡ t

@@ -4,8 +4,8 @@ use mathlib.Core.Path.{◌≡◌, refl, sym, ap, ◌∙◌}
 use mathlib.Core.Bool.{Bool, true, false, not}
 use mathlib.Core.List.{List, [], ◌∷◌}
 use native.Mathlib.Omega.{arith}
-use borrow.Author.Tests.{ne_eqb, not-true}
-use lib.Dec.{eqb}
+use borrow.Author.Tests.{ne_eqb, not-true, lt-leb}
+use lib.Dec.{eqb, leb}
 use lib.ListN.{length, take, drop, get_or, drop_of_length-le}
 use lib.Seq.{drop-drop}
 use Rattle.octets.specs.Basics.{pick, ◌and◌, ◌or◌, all, same}
@@ -20,7 +20,7 @@ use Rattle.tape.specs.Scan.{sound_here, sound_along, sound_from, sound_tape, Pas
 use Rattle.tape.specs.declared.Text.{Text}
 use Rattle.std.specs.Prelude.{Some, None}
 use Rattle.std.specs.declared.option.Option as code
-use Rattle.tape.proofs.Tags.{on-or-past, read-tag, here, text-within}
+use Rattle.tape.proofs.Tags.{on-or-past, read-tag, here, text-within, text-on}
 use Rattle.tape.proofs.Values.{members-end, members-next}
 
 -- where no octet is the one that a surrogate begins with, no string has a lone one
@@ -181,3 +181,28 @@ keys-along false (x ∷ s) h k =
 pub keys-sound : (t : List ℕ) → all (λ c. not (eqb c 237)) t ≡ true → keys_along t ≡ true → true ≡ sound_tape t
 unfolding sound_tape
 keys-sound t h k = sym (keys-along false t h k)
+
+-- up to e no lone surrogate stands in the string at i; p is the octet before e
+pub record Seeking (t : List ℕ) (i e p : ℕ) : Type 0 where
+  pub lone : has_lone p (text_at t e) ≡ has_lone 0 (text_at t i)
+  pub ends : e + length (text_at t e) ≡ i + length (text_at t i)
+
+pub seek-start : {t : List ℕ} {i : ℕ} → Seeking t i i 0
+seek-start = record { lone = refl; ends = refl }
+
+module _ {t : List ℕ} {i e p : ℕ} (s : Seeking t i e p) where
+  module _ (h : e < length t) where
+    module _ (n : (get_or t e 0 ≡ tag_end) → ⊥) where
+      one_more : text_at t e ≡ get_or t e 0 ∷ text_at t (e + 1)
+      one_more = rw (read-tag t e h) (text-on t e h (λ z. n (read-tag t e h ∙ z)))
+
+      seek-on : (eqb p 237 and leb 160 (get_or t e 0)) ≡ false → Seeking t i (e + 1) (get_or t e 0)
+      unfolding has_lone
+      seek-on f = record { lone = rw (one_more, f) at s.lone; ends = omega (arith, rw one_more at s.ends) }
+
+      -- an octet below 160, or one that does not follow 237
+      pub seek-low : get_or t e 0 < 160 → Seeking t i (e + 1) (get_or t e 0)
+      seek-low l = seek-on (rw (lt-leb 160 (get_or t e 0) l) (and-false-right (eqb p 237)))
+
+      pub seek-other : ((p ≡ 237) → ⊥) → Seeking t i (e + 1) (get_or t e 0)
+      seek-other q = seek-on (rw (ne_eqb p 237 q))

@@ -6,7 +6,7 @@ use mathlib.Core.List.{List, [], ◌∷◌, ◌++◌, append_assoc, append-nil}
 use mathlib.Core.Option.{Option, none, some}
 use native.Mathlib.Omega.{arith}
 use native.Mathlib.Numerals.{add-one}
-use borrow.Author.Tests.{eqb-true, le-leb, lt-leb, ltb-true, ltb-false}
+use borrow.Author.Tests.{eqb-true, le-leb, lt-leb, ltb-true, ltb-false, ne_eqb}
 use lib.Dec.{eqb, leb, ltb}
 use lib.ListN.{length, get_or, take, drop, set, length-drop}
 use lib.Seq.{take-suc-set}
@@ -140,11 +140,11 @@ module _ (h l : ℕ) where
       let q = when-is _ _ y (sym f) in
       rw (p.1, q.1) at (octet-good (omega (arith, ltb-true (hex_digit h) 16 p.0)) (omega (arith, ltb-true (hex_digit l) 16 q.0)))
 
-  high-bad : 15 < hex_digit h → octet_of h l ≡ none
+  pub high-bad : 15 < hex_digit h → octet_of h l ≡ none
   unfolding octet_of when
   high-bad a = rw (lt-leb (hex_digit h) 15 a)
 
-  low-bad : 15 < hex_digit l → octet_of h l ≡ none
+  pub low-bad : 15 < hex_digit l → octet_of h l ≡ none
   unfolding octet_of when
   low-bad b = rw (lt-leb (hex_digit l) 15 b, and-false-right (leb (hex_digit h) 15))
 
@@ -246,3 +246,12 @@ long-line line h = by (frame_of line) refl
     by : (o : Option (List ℕ)) → frame_of line ≡ o → then? o entry_of ≡ none
     by none e = unfold then? in refl
     by (some f) e = unfold then? in too_long f (let q = frame-length line f e in omega arith)
+
+-- of the fourteen codes all but four split, and none beyond them
+pub splits-each : (c : ℕ) → 1 ≤ c → c ≤ 14 → (c ≡ 1 → ⊥) → (c ≡ 3 → ⊥) → (c ≡ 10 → ⊥) → (c ≡ 13 → ⊥) → type_splits c ≡ true
+unfolding type_splits
+splits-each c h k a b d e = rw (within-between 1 14 c h k, ne_eqb c 1 a, ne_eqb c 3 b, ne_eqb c 10 d, ne_eqb c 13 e)
+
+pub splits-beyond : (c : ℕ) → 13 ≤ c → (c ≡ 13 → ⊥) → (c ≡ 14 → ⊥) → type_splits c ≡ false
+unfolding type_splits
+splits-beyond c h a b = rw (above-between 1 14 c (omega arith))

@@ -8,11 +8,11 @@ use native.Mathlib.Omega.{arith}
 use native.Mathlib.Numerals.{add-two}
 use borrow.Author.Tests.{le-leb, lt-leb}
 use lib.Dec.{eqb}
-use lib.ListN.{length, get_or, take, drop, length-append}
-use lib.Seq.{drop-append_seam, take-append_seam}
+use lib.ListN.{length, get_or, take, drop, length-append, length-drop}
+use lib.Seq.{drop-append_seam, take-append_seam, drop-drop, get_or-drop}
 use Rattle.octets.specs.Basics.{pick, same}
 use Rattle.octets.specs.Classes.{upper}
-use Rattle.octets.proofs.Positions.{from}
+use Rattle.octets.proofs.Positions.{from, here, ended}
 use Rattle.types.specs.Table.{Entry, entry, Table, find}
 use Rattle.types.specs.Laid.{laid_row, laid, rows_from, rows_in}
 
@@ -77,8 +77,8 @@ module _ (s name : List ℕ) where
         by (n ∷ c ∷ m ∷ r) h k = rw (no_row n (c ∷ m ∷ r) (omega arith))
 
     module _ (k : get_or s 0 0 ≤ length (behind-three s)) where
-      row_here : rows_in s ≡ entry (take (get_or s 0 0) (behind-three s)) (get_or s 1 0) (eqb (get_or s 2 0) 1) ∷ rows_in (take (length (behind-three s) - get_or s 0 0) (drop (get_or s 0 0) (behind-three s)))
-      row_here = rw (from (behind-three s) (get_or s 0 0), from s 3) (by s h (rw (from s 3) at k))
+      row-first : rows_in s ≡ entry (take (get_or s 0 0) (behind-three s)) (get_or s 1 0) (eqb (get_or s 2 0) 1) ∷ rows_in (take (length (behind-three s) - get_or s 0 0) (drop (get_or s 0 0) (behind-three s)))
+      row-first = rw (from (behind-three s) (get_or s 0 0), from s 3) (by s h (rw (from s 3) at k))
         where
           by : (s : List ℕ) → 3 ≤ length s → get_or s 0 0 ≤ length (drop 3 s)
               → rows_in s ≡ entry (take (get_or s 0 0) (drop 3 s)) (get_or s 1 0) (eqb (get_or s 2 0) 1) ∷ rows_in (drop (get_or s 0 0) (drop 3 s))
@@ -90,9 +90,29 @@ module _ (s name : List ℕ) where
       pub find-here : same (take (get_or s 0 0) (behind-three s)) (upper name) ≡ true
           → find (rows_in s) name ≡ some (record { code = get_or s 1 0; many = eqb (get_or s 2 0) 1 })
       unfolding find
-      find-here e = ap (λ (t : Table). find t name) row_here ∙ rw e
+      find-here e = ap (λ (t : Table). find t name) row-first ∙ rw e
 
       pub find-behind : same (take (get_or s 0 0) (behind-three s)) (upper name) ≡ false
           → find (rows_in s) name ≡ find (rows_in (take (length (behind-three s) - get_or s 0 0) (drop (get_or s 0 0) (behind-three s)))) name
       unfolding find
-      find-behind e = ap (λ (t : Table). find t name) row_here ∙ rw e
+      find-behind e = ap (λ (t : Table). find t name) row-first ∙ rw e
+
+-- the rows from the place `at` on: none at the end or where the row is cut short, else one and those behind it
+module _ (rows : List ℕ) (at : ℕ) where
+  pub rows_end : length rows ≤ at → rows_in (drop at rows) ≡ []
+  unfolding rows_in rows_from
+  rows_end h = rw (ended rows at h)
+
+  module _ (h : at < length rows) where
+    pub row_cut : length rows - at < get_or rows at 0 + 3 → rows_in (drop at rows) ≡ []
+    row_cut k = rw (here rows at h) (no_row (get_or rows at 0) (drop (at + 1) rows) (rw length-drop (omega arith)))
+
+    pub row_here : get_or rows at 0 + 3 ≤ length rows - at
+        → rows_in (drop at rows) ≡ entry (take (get_or rows at 0) (drop (at + 3) rows)) (get_or rows (at + 1) 0) (eqb (get_or rows (at + 2) 0) 1) ∷ rows_in (drop (at + 3 + get_or rows at 0) rows)
+    row_here k =
+        let n = get_or rows at 0 in
+        let e : at + 1 + 2 ≡ at + 3 = omega arith in
+        let f : at + 1 + (n + 2) ≡ at + 3 + n = omega arith in
+        let g : at + 1 + 0 ≡ at + 1 = omega arith in
+        let i : at + 1 + 1 ≡ at + 2 = omega arith in
+        rw (here rows at h, a-row n (drop (at + 1) rows) (rw length-drop (omega arith)), drop-drop 2 (at + 1) rows, drop-drop (n + 2) (at + 1) rows, get_or-drop (at + 1) rows 0 0, get_or-drop (at + 1) rows 1 0, e, f, g, i)

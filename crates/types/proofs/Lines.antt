@@ -6,11 +6,13 @@ use mathlib.Core.List.{List, [], ◌∷◌}
 use native.Mathlib.Omega.{arith}
 use native.Mathlib.Numerals.{add-one}
 use lib.Dec.{eqb}
-use lib.ListN.{length, take, drop, length-take}
+use lib.ListN.{length, take, drop, length-take, get_or}
 use lib.Seq.{length-take-le}
 use Rattle.octets.specs.Pieces.{onto, cut, split}
 use Rattle.octets.specs.Search.{until}
 use Rattle.octets.proofs.Cases.{cases}
+use borrow.Author.Tests.{eq-eqb, ne_eqb}
+use Rattle.octets.proofs.Positions.{here, ended}
 
 -- the first of some pieces
 unfoldable pub first_piece : List (List ℕ) → List ℕ
@@ -64,3 +66,21 @@ module _ (s : List ℕ) where
   pub line-within : length (first_line s) ≤ length s
   unfolding first_line first_piece
   line-within = split-cases s (λ q. rw q (omega arith)) (λ n h q. rw q (omega (arith, length-take n s)))
+
+-- the first line grows with each octet that is no line feed
+module _ (s : List ℕ) (i : ℕ) where
+  pub line_on : i < length s → (get_or s i 0 ≡ code "\n" → ⊥) → length (first_line (drop i s)) ≡ suc (length (first_line (drop (i + 1) s)))
+  unfolding first_line split cut
+  line_on h n = rw (here s i h, ne_eqb (get_or s i 0) (code "\n") n) (onto-first (get_or s i 0) (split (code "\n") (drop (i + 1) s)))
+    where
+      onto-first : (x : ℕ) (ls : List (List ℕ)) → length (first_piece (onto x ls)) ≡ suc (length (first_piece ls))
+      onto-first x [] = unfold onto first_piece in refl
+      onto-first x (l ∷ ls) = unfold onto first_piece in refl
+
+  pub line-stop : i < length s → get_or s i 0 ≡ code "\n" → length (first_line (drop i s)) ≡ 0
+  unfolding first_line split cut first_piece
+  line-stop h e = rw (here s i h, eq-eqb (get_or s i 0) (code "\n") e)
+
+  pub line-last : length s ≤ i → length (first_line (drop i s)) ≡ 0
+  unfolding first_line split first_piece
+  line-last h = rw (ended s i h)

@@ -82,7 +82,7 @@ module _ {A : Type 0} (f : A → Entry) (s : List A) where
     first-behind e = ap (λ (t : Table). find t n) map-front ∙ rw e
 
 -- the default types go before the added rows
-found-default : (s n : List ℕ) (r : Row) → find defaults n ≡ some r → find (table_in s) n ≡ some r
+pub found-default : (s n : List ℕ) (r : Row) → find defaults n ≡ some r → find (table_in s) n ≡ some r
 unfolding table_in or?
 found-default s n r e = find-append defaults (rows_in s) n ∙ rw e
 
@@ -95,3 +95,7 @@ found-some-default s n (Some l) k e = found-default s n (record { code = l.code;
 pub not-default : (s n : List ℕ) → find defaults n ≡ none → find (table_in s) n ≡ find (rows_in s) n
 unfolding table_in or?
 not-default s n e = find-append defaults (rows_in s) n ∙ rw e
+
+-- one row more behind some
+pub one_more : (s : Table) (e : Entry) (n : List ℕ) (a r : Option Row) → a ≡ find s n → r ≡ or? a (find (e ∷ []) n) → r ≡ find (s ++ e ∷ []) n
+one_more s e n a r p q = q ∙ rw p (sym (find-append s (e ∷ []) n))

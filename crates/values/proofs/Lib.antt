@@ -10,6 +10,7 @@ pub mod Naming
 pub mod Binaries
 pub mod Sextets
 pub mod Decoded
+pub mod DecodedTypes
 pub mod Booleans
 pub mod Halves
 pub mod Floats

@@ -116,3 +116,10 @@ plainly-named n Text f t = absurd (t refl)
 plainly-named n Status f t = refl
 plainly-named n Time f t = refl
 plainly-named n UtcOffset f t = refl
+
+-- any other code
+pub plain-sort : (n : List ℕ) (c : ℕ) → (c ≡ 1 → ⊥) → (c ≡ 2 → ⊥) → (c ≡ 4 → ⊥) → (c ≡ 5 → ⊥) → (c ≡ 6 → ⊥) → (c ≡ 7 → ⊥) → (c ≡ 8 → ⊥) → (c ≡ 9 → ⊥)
+    → (c ≡ 10 → ⊥) → (c ≡ 11 → ⊥) → (c ≡ 12 → ⊥) → (c ≡ 14 → ⊥) → sort_of n c ≡ plain
+unfolding sort_of
+plain-sort n c k1 k2 k4 k5 k6 k7 k8 k9 k10 k11 k12 k14 =
+    rw (ne_eqb c 1 k1, ne_eqb c 2 k2, ne_eqb c 4 k4, ne_eqb c 5 k5, ne_eqb c 6 k6, ne_eqb c 7 k7, ne_eqb c 8 k8, ne_eqb c 9 k9, ne_eqb c 10 k10, ne_eqb c 11 k11, ne_eqb c 12 k12, ne_eqb c 14 k14)
