@@ -11,7 +11,7 @@ mod writing;
 
 pub use encoding::is_utf8;
 pub use names::{
-    Case, Class, all_digits, all_plain, all_text, both, hex_digit, is_digit, is_lower,
+    Case, Class, all_digits, all_plain, all_text, both, each_is, hex_digit, is_digit, is_lower,
     is_lower_name, is_name, is_plain_octet, is_upper, lower_octet, peek, same, same_name,
     upper_octet,
 };

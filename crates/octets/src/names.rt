@@ -218,7 +218,7 @@ pub fn both(a: bool, b: bool) -> bool
 }
 
 // Each octet passes the test. The loop has no way out on the way, so that many octets are tested at once.
-pub(crate) fn each_is<F: Fn(u8) -> bool>(s: &[u8], test: F) -> bool
+pub fn each_is<F: Fn(u8) -> bool>(s: &[u8], test: F) -> bool
     requires { F.IsAlwaysCallable test }
     ensures { (p : ℕ → Bool) → ((c : ℕ) (r : Bool) → F.post test c r → r ≡ p c) → result ≡ all p s.now }
 {
@@ -285,11 +285,19 @@ pub fn peek(s: &[u8], i: usize) -> u8
     s.get(i).copied().unwrap_or(0)
 }
 
-// The same octets in one case.
+// The same octets in one case. By `zip` and `all` it took a third longer.
 pub(crate) fn same_in(a: &[u8], b: &[u8], case: Case) -> bool
     ensures { result ≡ same (map (cased case) a.now) (map (cased case) b.now) }
 {
-    a.len() == b.len() && a.iter().zip(b).all(|(&x, &y)| case.turn(x) == case.turn(y))
+    if a.len() != b.len() {
+        return false;
+    }
+    for (i, &x) in a.iter().enumerate() {
+        if case.turn(x) != case.turn(b[i]) {
+            return false;
+        }
+    }
+    true
 }
 
 // The same octets.

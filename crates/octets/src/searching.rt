@@ -1,6 +1,5 @@
 // The search for an octet, and for the end of a run of octets of a class.
-ghost use Rattle.std.specs.Prelude.{◌≡◌, Bool, not, ◌+◌, eqb, length, drop};
-ghost use Rattle.std.specs.List.{position_or_len};
+ghost use Rattle.std.specs.Prelude.{◌≡◌, not, ◌+◌, eqb, length, drop};
 ghost use Rattle.octets.specs.Basics.{all};
 ghost use Rattle.octets.specs.Groups.{belongs};
 ghost use Rattle.octets.specs.Search.{until};
@@ -10,18 +9,6 @@ use crate::names::{Class, all_in};
 // Octets that are looked at together.
 const BLOCK: usize = 16;
 
-// The place of the first element from `at` on that passes the test, or the end; `at` where that lies behind it.
-#[inline(always)]
-pub(crate) fn place_of<T: Copy, F: Fn(T) -> bool>(s: &[T], at: usize, test: F) -> usize
-    requires { F.IsAlwaysCallable test }
-    ensures { (p : T → Bool) → ((x : T) (r : Bool) → F.post test x r → r ≡ p x) → result ≡ at + position_or_len p (drop at s.now) }
-{
-    let Some(rest) = s.get(at..) else {
-        return at;
-    };
-    at + rest.iter().position(|&x| test(x)).unwrap_or(rest.len())
-}
-
 // Whether no octet is `b`.
 pub fn is_free(s: &[u8], b: u8) -> bool
     ensures { result ≡ all (λ c. not (eqb c b)) s.now }
@@ -29,7 +16,7 @@ pub fn is_free(s: &[u8], b: u8) -> bool
     all_in(s, Class::Other(b))
 }
 
-// The end of the octets of the class from `at` on. By `place_of` and a closure it took three times as long.
+// The end of the octets of the class from `at` on. By `position` and a closure it took three times as long.
 #[inline(always)]
 pub fn run_end(s: &[u8], at: usize, class: Class) -> usize
     ensures { result ≡ at + length (until (λ c. not (belongs class c)) (drop at s.now)) }

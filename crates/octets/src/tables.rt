@@ -6,7 +6,6 @@ ghost use Rattle.octets.specs.Optional.{said, when};
 ghost use Rattle.octets.specs.Slots.{slot_of, slot_for, slot_between, name_in, slot_in, Enters};
 
 use crate::names::{Case, same_in};
-use crate::searching::place_of;
 
 // Slots in a table: one for each answer of `slot_of`, and some more behind them.
 pub const SLOTS: usize = 16640;
@@ -54,15 +53,21 @@ fn is_held(s: &[u8], slot: usize, name: &[u8], case: Case) -> bool
     same_in(name, &s[from..end], case)
 }
 
-// The slot that holds a name, or the free one for it, or the end of the table.
+// The slot that holds a name, or the free one for it, or the end of the table. By `position` and a closure it took a third longer.
 fn slot_in(s: &[u8], table: &[usize], name: &[u8], case: Case) -> usize
     ensures { result ≡ slot_in (name_in case s.now) (map (cased case) name.now) table.now }
 {
-    place_of(
-        table,
-        slot_of(name, case),
-        |p| p == 0 || is_held(s, p, name, case),
-    )
+    let first = slot_of(name, case);
+    for q in first..table.len() {
+        let p = table[q];
+        if p == 0 {
+            return q;
+        }
+        if is_held(s, p, name, case) {
+            return q;
+        }
+    }
+    table.len().max(first)
 }
 
 // Enters the name that stands in s from a place up to another; names compare in one case.

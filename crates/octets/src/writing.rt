@@ -22,11 +22,7 @@ pub fn put(out: &mut [u8], at: usize, b: u8) -> usize
 pub fn put_all(out: &mut [u8], at: usize, src: &[u8]) -> usize
     ensures { Wrote (pen out.old at) src.now (pen out.new result) }
 {
-    if at <= out.len() && src.len() <= out.len() - at {
-        out[at..at + src.len()].copy_from_slice(src);
-        return at + src.len();
-    }
-    put_each(out, at, src, Case::Exact)
+    put_cased(out, at, src, Case::Exact)
 }
 
 // Writes a slice in one case octet by octet, as far as there is room.
@@ -40,7 +36,8 @@ fn put_each(out: &mut [u8], at: usize, src: &[u8], case: Case) -> usize
     to
 }
 
-// Writes a slice in one case over a part of the same length.
+// Writes a slice in one case over a part of the same length. In a loop and not by `copy_from_slice`, which calls `memmove`: a caller in C need not have it.
+#[inline(always)]
 fn turn_into(part: &mut [u8], src: &[u8], case: Case)
     requires { length part.old ≡ length src.now }
     ensures { part.new ≡ map (cased case) src.now }
@@ -51,6 +48,7 @@ fn turn_into(part: &mut [u8], src: &[u8], case: Case)
 }
 
 // Writes a slice in one case.
+#[inline(always)]
 fn put_cased(out: &mut [u8], at: usize, src: &[u8], case: Case) -> usize
     ensures { Wrote (pen out.old at) (map (cased case) src.now) (pen out.new result) }
 {

@@ -14,8 +14,8 @@ use calendar::durations::is_period_end;
 use calendar::parts::find;
 use calendar::texts::{Form, is_basic};
 use octets::{
-    MOST_INTEGER, all_digits, is_digit, is_lower, is_upper, leading_zeros, peek, put, put_all,
-    same_name, sign_length, value_of,
+    MOST_INTEGER, all_digits, each_is, is_digit, is_lower, is_upper, leading_zeros, peek, put,
+    put_all, same_name, sign_length, value_of,
 };
 
 // An octet of the alphabet of base64.
@@ -26,10 +26,11 @@ fn is_base64(c: u8) -> bool
     is_upper(c) || is_lower(c) || is_digit(c) || c == b'+' || c == b'/'
 }
 
+// Each octet is of the alphabet; by `each_is`, since a test that ends at the first that is not takes ten times as long.
 fn all_base64(s: &[u8]) -> bool
     ensures { result ≡ all base64_octet s.now }
 {
-    s.iter().all(|&c| is_base64(c))
+    each_is(s, |c| is_base64(c))
 }
 
 // The octets before a padding at the end, or all of them.

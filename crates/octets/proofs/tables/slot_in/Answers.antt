@@ -1,33 +1,35 @@
 -- `octets::slot_in` meets its contract.
-use Prim.Native.Nat.{ℕ, suc, ◌+◌}
-use mathlib.Core.Bool.{Bool, cond, true, false}
-use mathlib.Core.List.{List, map}
-use mathlib.Core.Path.{◌≡◌, refl}
+use mathlib.Core.Path.{◌≡◌, sym, ◌∙◌}
+use mathlib.Core.List.{map}
 use native.Mathlib.Omega.{arith}
-use lib.Dec.{eqb}
-use lib.ListN.{drop}
-use Rattle.std.proofs.Common.{rules}
-use Rattle.std.specs.List.{position_or_len}
-use Rattle.std.proofs.lemmas.List.Recursion.{is_position_or_len}
-use Rattle.octets.specs.Basics.{pick, ◌or◌, same}
+use borrow.Author.Tests.{leb-true, leb-false}
+use lib.Dec.{leb}
+use lib.ListN.{length}
 use Rattle.octets.specs.Groups.{cased}
-use Rattle.octets.specs.Slots.{passed, slot_of, slot_in, name_in}
+use Rattle.octets.specs.Slots.{name_in}
+use Rattle.octets.proofs.Cases.{cases}
+use Rattle.octets.proofs.Slots.{seeking-start, seeking-end, seeking-free, seeking-there, seeking-on}
 use Rattle.octets.proofs.tables.slot_in.Goals as goal
 
--- one who looks for the name n stops at this slot
-abbrev stops : (ℕ → List ℕ) → List ℕ → ℕ → Bool
-stops name n p = eqb p 0 or same n (name p)
+pub loop-q-init : goal.loop-q-init
+loop-q-init c = rw c.slot_of-first.ensures (seeking-start _ _ _)
 
-counted : (b : Bool) (n : ℕ) → pick b 0 (suc n) ≡ cond b 0 (1 + n)
-counted true n = refl
-counted false n = omega arith
+pub returns-then-p-eq0 : goal.returns-then-p-eq0
+returns-then-p-eq0 c = let l = c.loop-q in seeking-free _ _ _ l.q c.loop-q-test.true c.if-p-eq0.true ∙ sym l.invariant
 
-place : (name : ℕ → List ℕ) (n ps : List ℕ) → passed name n ps ≡ position_or_len (stops name n) ps
-unfolding passed
-place name n ps = is_position_or_len (passed name n) (stops name n) refl (λ x xs. counted (stops name n x) (passed name n xs)) ps
+pub returns-then-is_held : goal.returns-then-is_held
+returns-then-is_held c = let l = c.loop-q in
+    seeking-there _ _ _ l.q c.loop-q-test.true (sym c.is_held.ensures ∙ c.if-is_held.true) ∙ sym l.invariant
+
+pub loop-q-preserved : goal.loop-q-preserved
+loop-q-preserved c = let l = c.loop-q in
+    l.invariant ∙ seeking-on _ _ _ l.q c.loop-q-test.true c.if-p-eq0.false (sym c.is_held.ensures ∙ c.if-is_held.false)
 
 pub returns : goal.returns
-unfolding slot_in
-returns c = let a = c.args in
-    rw (place (name_in a.case a.s.now) (map (cased a.case) a.name.now) (drop (slot_of (map (cased a.case) a.name.now)) a.table.now), ← c.slot_of.ensures)
-    (c.place_of.ensures (stops (name_in a.case a.s.now) (map (cased a.case) a.name.now)) (λ x r h. search rules))
+returns c = let a = c.args in let l = c.loop-q in let t = c.args.table.now in let f = c.slot_of-first.result in
+    cases (leb f (length t))
+    (λ e. let h = leb-true f (length t) e in let q : c.max.result ≡ l.q = omega (arith, c.max.ensures) in q ∙ seeking-end _ _ _ l.q c.loop-q-test.false ∙ sym l.invariant)
+    (λ e.
+    let h = leb-false f (length t) e in
+    let q : c.max.result ≡ f = omega (arith, c.max.ensures) in
+    q ∙ seeking-end (name_in a.case a.s.now) (map (cased a.case) a.name.now) t f (omega arith) ∙ sym (rw (← c.slot_of-first.ensures) at (seeking-start (name_in a.case a.s.now) (map (cased a.case) a.name.now) t)))
