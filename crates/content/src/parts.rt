@@ -1,9 +1,12 @@
 // A content line and its parameters by the places of their parts.
-ghost use Rattle.std.specs.Prelude.{◌≡◌, ◌≤◌, ◌<◌, [], ◌∷◌, length, MatchOption};
+ghost use Rattle.std.specs.Prelude.{◌≡◌, ◌≤◌, ◌<◌, false, eqb, [], ◌∷◌, length, MatchOption};
+ghost use Rattle.octets.specs.Basics.{◌or◌};
 ghost use Rattle.content.specs.Line.{unquote};
+ghost use Rattle.content.specs.Scan.{until_bare};
 ghost use Rattle.content.specs.Parts.{Cut, CutParam, StandsIn, params_in, param_cut};
 
 use crate::scan::next_bare;
+use octets::peek;
 
 // The end of the name, the end of the parameters and the start of the value. They are places, and not parts of the line: `Cut` promises where the colon is.
 #[derive(Clone, Copy)]
@@ -71,12 +74,23 @@ pub(crate) fn param_at(s: &[u8], at: usize) -> ParamParts
     }
 }
 
+// The place of the semicolon before the next parameter, or the end. Mostly the text begins with it.
+#[inline(always)]
+fn next_semicolon(s: &[u8]) -> usize
+    ensures { result ≡ length (until_bare (λ c. eqb c 59 or eqb c 59) false s.now) }
+{
+    if peek(s, 0) == b';' {
+        return 0;
+    }
+    next_bare(s, 0, b';', b';')
+}
+
 // The next parameter of some that stand each behind a semicolon; none where there is no more. Called, and not inlined, it took half as much again.
 #[inline(always)]
 pub(crate) fn next_param(s: &[u8]) -> Option<Param<'_>>
     ensures { MatchOption result (params_in s.now ≡ []) (λ p. (length p.rest.now < length s.now) × (params_in s.now ≡ param_cut p.name.now p.values.now ∷ params_in p.rest.now) × StandsIn s.now p.values.now × StandsIn s.now p.rest.now) }
 {
-    let e = next_bare(s, 0, b';', b';');
+    let e = next_semicolon(s);
     if s.len() <= e {
         return None;
     }
